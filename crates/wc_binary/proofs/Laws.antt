@@ -1,0 +1,127 @@
+-- Reading answers what a phrase's relations say, for each way of building; so the laws hold of every phrase.
+use Rattle.std.proofs.Common.{◌≡◌, ◌≢◌, ℕ, zero, suc, ◌+◌, ◌-◌, ◌<◌, ◌≤◌, List, [], ◌∷◌, ◌++◌, length, Option, Some, None, Result, Ok, Err, ◌⊎◌, inl, inr, refl, sym, ap, subst, ◌∙◌, append_assoc, add_assoc, add-zero, arith}
+use Rattle.std.proofs.lemmas.List.{length-append, append-nil}
+use Rattle.wc_binary.specs.declared.fault.BinWhy.{BinWhy}
+use Rattle.wc_binary.specs.declared.fault.BinWhy.TheVariants.{End}
+use Rattle.wc_binary.specs.Phrase.{Halt, halt, Phrase, gives, byte, unsigned, ◌>>=◌, judged, measured, Spells, Stops}
+use Rattle.wc_binary.specs.Reading.{Got, got, fault, ◌and_then◌, byte_or, byte_at, judge_at, read}
+use Rattle.wc_binary.proofs.Told.{IsTold}
+use Rattle.wc_binary.proofs.Unsigned.{unsigned-told, unsigned-spelled, unsigned-stopped}
+
+byte_or-told : {A : Type 0} (table : ℕ → Result A BinWhy) (o b : ℕ) (x : List ℕ) (r : Result A BinWhy) → table b ≡ r → IsTold (byte table) o (b ∷ x) (byte_or o x r)
+byte_or-told table o b x (Ok v) e = (b ∷ [], refl, (b, refl, e), refl)
+byte_or-told table o b x (Err r) e = (r, e, refl)
+
+byte-told : {A : Type 0} (table : ℕ → Result A BinWhy) (o : ℕ) (x : List ℕ) → IsTold (byte table) o x (byte_at table o x)
+byte-told table o [] = refl
+byte-told table o (b ∷ x) = byte_or-told table o b x (table b) refl
+
+module _ {A B : Type 0} (p : Phrase A) (f : A → Phrase B) (o : ℕ) (x : List ℕ) where
+  second-told : (g : Got A) → IsTold p o x (Ok g) → (r : Result (Got B) Halt) → IsTold (f g.value) g.place g.left r → IsTold (p >>= f) o x r
+  second-told g h (Ok w) k =
+      (h.0 ++ k.0, rw (append_assoc, ← k.1) h.1, (h.0, k.0, g.value, refl, h.2, k.2), omega (arith, length-append h.0 k.0, h.3, k.3))
+  second-told g h (Err e) k =
+      inr (h.0, g.left, g.value, h.1, h.2, subst (λ (q : ℕ). Stops (f g.value) q g.left e) h.3 k)
+
+  then-told : (r : Result (Got A) Halt) → IsTold p o x r → ((g : Got A) → IsTold (f g.value) g.place g.left (read (f g.value) g.place g.left))
+      → IsTold (p >>= f) o x (r and_then λ u. read (f u.value) u.place u.left)
+  then-told (Ok g) h k = second-told g h (read (f g.value) g.place g.left) (k g)
+  then-told (Err e) h k = inl h
+
+module _ {A : Type 0} (p : Phrase A) (judge : A → Option (ℕ × BinWhy)) (o : ℕ) (x : List ℕ) where
+  judge-told : (g : Got A) → IsTold p o x (Ok g) → (j : Option (ℕ × BinWhy)) → judge g.value ≡ j → IsTold (judged p judge) o x (judge_at o j g)
+  judge-told g h None e = (h.0, h.1, (h.2, e), h.3)
+  judge-told g h (Some w) e = inr (h.0, g.left, g.value, w, h.1, h.2, e, ap (λ (t : ℕ). halt (o + w.0) w.1 t) h.3)
+
+  judged-told : (r : Result (Got A) Halt) → IsTold p o x r → IsTold (judged p judge) o x (r and_then λ u. judge_at o (judge u.value) u)
+  judged-told (Ok g) h = judge-told g h (judge g.value) refl
+  judged-told (Err e) h = inl h
+
+measured-told : {A : Type 0} (p : Phrase A) (o : ℕ) (x : List ℕ) (r : Result (Got A) Halt) → IsTold p o x r → IsTold (measured p) o x (r and_then λ u. got (u.place - o, u.value) u.place u.left)
+measured-told p o x (Ok g) h =
+    let n : g.place - o ≡ length h.0 = omega (arith, h.3) in
+    (h.0, h.1, (g.value, h.2, ap (λ (k : ℕ). (k, g.value)) n), h.3)
+measured-told p o x (Err e) h = h
+
+-- what is read is spelled so, and where reading stops the phrase stops
+pub read-told : {A : Type 0} (p : Phrase A) (o : ℕ) (x : List ℕ) → IsTold p o x (read p o x)
+read-told (gives v) o x = ([], refl, (refl, refl), omega arith)
+read-told (byte table) o x = byte-told table o x
+read-told (unsigned N) o x = unsigned-told N o x
+read-told (p >>= f) o x = then-told p f o x (read p o x) (read-told p o x) (λ g. read-told (f g.value) g.place g.left)
+read-told (judged p judge) o x = judged-told p judge o x (read p o x) (read-told p o x)
+read-told (measured p) o x = measured-told p o x (read p o x) (read-told p o x)
+
+-- what is spelled is read, whatever follows
+pub spells-read : {A : Type 0} (p : Phrase A) (o : ℕ) (a y : List ℕ) (v : A) → Spells p a v → read p o (a ++ y) ≡ got v (o + length a) y
+spells-read (gives w) o a y v h = rw (h.0, h.1, add-zero) refl
+spells-read (byte table) o a y v h = rw (h.1, h.2) refl
+spells-read (unsigned N) o a y v h = unsigned-spelled N o a y v h
+spells-read (◌>>=◌ {A} p f) o a y v h =
+    let first : read p o (h.0 ++ (h.1 ++ y)) ≡ got h.2 (o + length h.0) (h.1 ++ y) = spells-read p o h.0 (h.1 ++ y) h.2 h.4 in
+    let second : read (f h.2) (o + length h.0) (h.1 ++ y) ≡ got v (o + length h.0 + length h.1) y = spells-read (f h.2) (o + length h.0) h.1 y v h.5 in
+    rw (h.3, append_assoc, first, second, length-append, add_assoc) refl
+spells-read (judged p judge) o a y v h = rw (spells-read p o a y v h.0, h.1) refl
+spells-read (measured p) o a y v h =
+    let n : o + length a - o ≡ length a = omega arith in
+    rw (spells-read p o a y h.0 h.1, n, h.2) refl
+
+-- where the phrase stops, reading stops
+pub stops-read : {A : Type 0} (p : Phrase A) (o : ℕ) (x : List ℕ) (f : Halt) → Stops p o x f → read p o x ≡ Err f
+stops-read (gives w) o x f h = absurd h
+stops-read (byte table) o [] f h = rw h refl
+stops-read (byte table) o (b ∷ x) f h = rw (h.1, h.2) refl
+stops-read (unsigned N) o x f h = unsigned-stopped N o x f h
+stops-read (p >>= k) o x f h =
+    elim h [
+      | inl s ↦ rw (stops-read p o x f s) refl
+      | inr s ↦ rw (s.3, spells-read p o s.0 s.1 s.2 s.4, stops-read (k s.2) (o + length s.0) s.1 f s.5) refl
+    ]
+stops-read (judged p judge) o x f h =
+    elim h [
+      | inl s ↦ rw (stops-read p o x f s) refl
+      | inr s ↦ rw (s.4, spells-read p o s.0 s.1 s.2 s.5, s.6, s.7) refl
+    ]
+stops-read (measured p) o x f h = rw (stops-read p o x f h) refl
+
+-- ---- the laws
+
+got-same : {A : Type 0} (v w : A) (o p : ℕ) (x y : List ℕ) → got v o x ≡ got w p y → (v ≡ w) × (o ≡ p) × (x ≡ y)
+got-same {A} v w o p x y e =
+    let g : Got A = record { value = v; place = o; left = x } in
+    let k : Got A = record { value = w; place = p; left = y } in
+    let same : g ≡ k = cc in
+    (ap (λ (z : Got A). z.value) same, ap (λ (z : Got A). z.place) same, ap (λ (z : Got A). z.left) same)
+
+abbrev halted : {A : Type 0} → Halt → Result (Got A) Halt
+halted f = Err f
+
+same_front : (a b x : List ℕ) → a ++ x ≡ b ++ x → length a ≡ length b → a ≡ b
+same_front [] [] x e n = refl
+same_front [] (d ∷ b) x e n = absurd (omega arith)
+same_front (c ∷ a) [] x e n = absurd (omega arith)
+same_front (c ∷ a) (d ∷ b) x e n =
+    let tails : a ++ x ≡ b ++ x = cc in
+    let r = same_front a b x tails (omega arith) in
+    let heads : c ≡ d = cc in
+    cc
+
+-- one value, and no spelling begins another
+pub one-spelled : {A : Type 0} (p : Phrase A) (a b x y : List ℕ) (v w : A) → Spells p a v → Spells p b w → a ++ x ≡ b ++ y → (a ≡ b) × (v ≡ w)
+one-spelled p a b x y v w h k e =
+    let same : got v (0 + length a) x ≡ got w (0 + length b) y = sym (spells-read p 0 a x v h) ∙ ap (read p 0) e ∙ spells-read p 0 b y w k in
+    let s = got-same v w (0 + length a) (0 + length b) x y same in
+    let f : a ++ y ≡ b ++ y = rw s.2 at e in
+    (same_front a b y f (omega arith), s.0)
+
+-- what is spelled doesn't stop
+pub spelled-or-stopped : {A : Type 0} (p : Phrase A) (o : ℕ) (a x : List ℕ) (v : A) (f : Halt) → Spells p a v → Stops p o (a ++ x) f → ⊥
+spelled-or-stopped p o a x v f h k =
+    let e : got v (o + length a) x ≡ Err f = sym (spells-read p o a x v h) ∙ stops-read p o (a ++ x) f k in
+    cc
+
+-- one place and one reason
+pub one-stop : {A : Type 0} (p : Phrase A) (o : ℕ) (x : List ℕ) (f g : Halt) → Stops p o x f → Stops p o x g → f ≡ g
+one-stop {A} p o x f g h k =
+    let e : halted {A = A} f ≡ halted g = sym (stops-read p o x f h) ∙ stops-read p o x g k in
+    cc

@@ -1,0 +1,17 @@
+pub mod Going
+pub mod Told
+pub mod Unsigned
+pub mod Laws
+pub mod Times
+pub mod Forward
+pub mod Order
+pub mod SectionLaws
+pub mod OneModule
+pub mod Total
+pub mod Whole
+pub mod Entry
+pub mod Judging
+pub mod Spelling
+pub mod Modules
+pub mod Freed
+pub mod Encoding

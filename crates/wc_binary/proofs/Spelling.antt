@@ -1,0 +1,219 @@
+-- Ways of building, and the canonical bytes of what they build.
+use Rattle.std.proofs.Common.{◌≡◌, ◌≢◌, ℕ, zero, suc, ◌+◌, ◌-◌, ◌^◌, ◌<◌, ◌≤◌, Bool, true, false, cond, nat_eq, eqb, List, [], ◌∷◌, ◌++◌, length, Option, Some, None, Result, Ok, Err, ◌⊎◌, if◌then◌else◌, inl, inr, refl, sym, ap, subst, ◌∙◌, append_assoc, eq-eqb, arith}
+use Rattle.std.specs.List.{AllByRecursion, flat_map}
+use Rattle.std.proofs.lemmas.List.{length-append, append-nil}
+use Rattle.std.proofs.lemmas.Bool.{eqb-true}
+use Rattle.wc_binary.specs.declared.fault.BinWhy.{BinWhy}
+use Rattle.wc_binary.specs.declared.fault.BinWhy.TheVariants.{WrongType}
+use Rattle.wc_leb128.specs.Shortest.{unsigned_bytes}
+use Rattle.wc_leb128.proofs.UnsignedShortest.{unsigned_bytes-spelled, unsigned_bytes-least}
+use Rattle.wc_ast.specs.declared.val_type.ValType.{ValType}
+use Rattle.wc_ast.specs.declared.val_type.ValType.TheVariants.{I32, I64}
+use Rattle.wc_ast.specs.declared.func_type.FuncType.{FuncType}
+use Rattle.wc_binary.specs.Style.{Style, free, canonical, IsShortest}
+use Rattle.wc_binary.specs.Phrase.{Phrase, gives, byte, unsigned, ◌>>=◌, judged, measured, SpellsBy}
+use Rattle.wc_binary.specs.Values.{times, u32, vector, only, sized, size_fault}
+use Rattle.wc_binary.specs.Types.{value_type, value_type_of, func_type}
+use Rattle.wc_binary.specs.Written.{vector_bytes, value_type_bytes, func_type_bytes, sized_bytes, FitsVector, FitsSized, FitsTypes, FitsFuncType, Anything}
+use Rattle.wc_binary.proofs.Judging.{Judges, HasBytes}
+
+abbrev pub Fits32 : ℕ → Type 0
+Fits32 n = n < 2 ^ 32
+
+shortest-is : (n : ℕ) → n < 2 ^ 32 → IsShortest 32 (unsigned_bytes n) n
+shortest-is n lt = (unsigned_bytes-spelled 32 n lt, unsigned_bytes-least 32 n)
+
+abbrev pub of : {A : Type 0} → Phrase A → Style → List ℕ → A → Type 0
+of {A} p s b v = SpellsBy s {A = A} p b v
+
+-- the same in other words
+pub writes-as : {A : Type 0} (R : Style → List ℕ → A → Type 0) (fit fit2 : A → Type 0) (w w2 : A → List ℕ) → HasBytes R fit w
+    → ((v : A) → fit v → fit2 v) → ((v : A) → fit2 v → fit v) → ((v : A) → w v ≡ w2 v) → HasBytes R fit2 w2
+writes-as R fit fit2 w w2 h to back same = record {
+  written = λ v f. subst (λ (b : List ℕ). R canonical b v) (same v) (h.written v (back v f));
+  told = λ s V j b v r. let t = h.told s V j b v r in (to v t.0, subst (λ (c : List ℕ). V b c) (same v) t.1);
+}
+
+pub u32-writes : HasBytes (of u32) Fits32 unsigned_bytes
+unfolding u32
+u32-writes = record {
+  written = λ n lt. shortest-is n lt;
+  told = λ s V j b n h. j.integer b n h;
+}
+
+abbrev pub Exactly : {A : Type 0} → A → A → Type 0
+Exactly u v = v ≡ u
+
+abbrev pub no_bytes : {A : Type 0} → A → List ℕ
+no_bytes v = []
+
+pub gives-writes : {A : Type 0} (u : A) → HasBytes (of (gives u)) (Exactly u) no_bytes
+gives-writes u = record {
+  written = λ v e. (refl, e);
+  told = λ s V j b v h. (h.1, j.equal b [] h.0);
+}
+
+-- a part, and one that may depend on its value, which the whole's value tells
+module _ {A B : Type 0} (p : Phrase A) (f : A → Phrase B) (fit : A → Type 0) (w : A → List ℕ) (fits : A → B → Type 0) (ws : A → B → List ℕ) (back : B → A)
+    (first : HasBytes (of p) fit w) (second : (u : A) → HasBytes (of (f u)) (fits u) (ws u)) (back-is : (s : Style) (u : A) (b : List ℕ) (v : B) → SpellsBy s (f u) b v → u ≡ back v) where
+  pub then-writes : HasBytes (of (p >>= f)) (λ v. fit (back v) × fits (back v) v) (λ v. w (back v) ++ ws (back v) v)
+  then-writes = record {
+    written = λ v h. (w (back v), ws (back v) v, back v, refl, first.written (back v) h.0, (second (back v)).written v h.1);
+    told = λ s V j b v h.
+        let e = back-is s h.2 h.1 v h.5 in
+        let x = first.told s V j h.0 h.2 h.4 in
+        let y = (second h.2).told s V j h.1 v h.5 in
+        let whole = j.join h.0 h.1 (w h.2) (ws h.2 v) x.1 y.1 in
+        let split = h.3 in
+        rw (split, ← e) ((x.0, y.0), whole);
+  }
+
+module _ {A : Type 0} (p : Phrase A) (fit : A → Type 0) (w : A → List ℕ) (writes : HasBytes (of p) fit w) where
+  -- a part, and another way to see its value
+  pub seen-writes : {B : Type 0} (make : A → B) (back : B → A) → ((u : A) → back (make u) ≡ u) → HasBytes (of (p >>= λ u. gives (make u))) (λ v. fit (back v) × (v ≡ make (back v))) (λ v. w (back v))
+  seen-writes {B} make back same = record {
+    written = λ v h. (w (back v), [], back v, sym (append-nil (w (back v))), writes.written (back v) h.0, (refl, h.1));
+    told = λ s V j b v h.
+        let x = writes.told s V j h.0 h.2 h.4 in
+        let v-is : v ≡ make h.2 = h.5.1 in
+        let u-is : back v ≡ h.2 = ap back v-is ∙ same h.2 in
+        let bytes : b ≡ h.0 = rw (h.3, h.5.0, append-nil) refl in
+        rw (bytes, u-is) ((x.0, v-is), x.1);
+  }
+
+  times-written : (vs : List A) → AllByRecursion fit vs → SpellsBy canonical (times (length vs) p) (flat_map w vs) vs
+  times-written [] h = (refl, refl)
+  times-written (v ∷ vs) h = (w v, flat_map w vs, v, refl, writes.written v h.0, (flat_map w vs, [], vs, sym (append-nil (flat_map w vs)), times-written vs h.1, (refl, refl)))
+
+  times-told : (s : Style) (V : List ℕ → List ℕ → Type 0) → Judges s V → (n : ℕ) (b : List ℕ) (vs : List A) → SpellsBy s (times n p) b vs → (n ≡ length vs) × AllByRecursion fit vs × V b (flat_map w vs)
+  times-told s V j zero b vs h = let e = h.1 in rw (e, h.0) (refl, tt, j.same [])
+  times-told s V j (suc n) b vs h =
+      let first = writes.told s V j h.0 h.2 h.4 in
+      let k = h.5 in
+      let rest = times-told s V j n k.0 k.2 k.4 in
+      let e : vs ≡ h.2 ∷ k.2 = k.5.1 in
+      let bytes : b ≡ h.0 ++ k.0 = rw (h.3, k.3, k.5.0, append-nil) refl in
+      rw (e, bytes) (ap suc rest.0, (first.0, rest.1), j.join h.0 k.0 (w h.2) (flat_map w k.2) first.1 rest.2)
+
+  pub vector-writes : HasBytes (of (vector p)) (FitsVector fit) (vector_bytes w)
+  unfolding vector
+  vector-writes = record {
+    written = λ vs h. (unsigned_bytes (length vs), flat_map w vs, length vs, refl, u32-writes.written (length vs) h.0, times-written vs h.1);
+    told = λ s V j b vs h.
+        let n = u32-writes.told s V j h.0 h.2 h.4 in
+        let t = times-told s V j h.2 h.1 vs h.5 in
+        let long = t.0 in
+        let whole = j.join h.0 h.1 (unsigned_bytes h.2) (flat_map w vs) n.1 t.2 in
+        ((rw long at n.0, t.1), rw h.3 (rw long at whole));
+  }
+
+abbrev no_fault : Option (ℕ × BinWhy)
+no_fault = None
+
+equal-sizes : (m n : ℕ) (why : BinWhy) → (if nat_eq m n then None else Some (0, why)) ≡ no_fault → m ≡ n
+equal-sizes m n why h = go (nat_eq m n) refl
+  where
+    go : (b : Bool) → nat_eq m n ≡ b → m ≡ n
+    go true e = eqb-true m n e
+    go false e = let f = rw e at h in absurd cc
+
+-- a size, and content of that size
+module _ {A : Type 0} (p : Phrase A) (fit : A → Type 0) (w : A → List ℕ) (writes : HasBytes (of p) fit w) (why : BinWhy) where
+  pub sized-writes : HasBytes (of (sized why p)) (FitsSized w fit) (λ v. sized_bytes (w v))
+  unfolding sized u32
+  sized-writes = record {
+    written = λ v h.
+        let b = w v in
+        let size : (if nat_eq (length b) (length b) then None else Some (0, why)) ≡ no_fault = rw (eq-eqb (length b) (length b) refl) refl in (
+          unsigned_bytes (length b) ++ b,
+          [],
+          (length b, (length b, v)),
+          sym (append-nil (unsigned_bytes (length b) ++ b)),
+          ((unsigned_bytes (length b), b, length b, refl, shortest-is (length b) h.0, (b, [], (length b, v), sym (append-nil b), (v, writes.written v h.1, refl), (refl, refl))), size),
+          (refl, refl),
+        );
+    told = λ s V j b v h.
+        let inner = h.4.0 in
+        let k = inner.5 in
+        let m = k.4 in
+        let c = writes.told s V j k.0 m.0 m.1 in
+        let size = equal-sizes (h.2).1.0 (h.2).0 why h.4.1 in
+        let u-is : h.2 ≡ (inner.2, k.2) = k.5.1 in
+        let m-is : k.2 ≡ (length k.0, m.0) = m.2 in
+        let value : v ≡ m.0 = h.5.1 ∙ ap (λ (u : ℕ × (ℕ × A)). u.1.1) u-is ∙ ap (λ (u : ℕ × A). u.1) m-is in
+        let n-is : inner.2 ≡ length k.0 = sym (ap (λ (u : ℕ × (ℕ × A)). u.0) u-is) ∙ sym size ∙ ap (λ (u : ℕ × (ℕ × A)). u.1.0) u-is ∙ ap (λ (u : ℕ × A). u.0) m-is in
+        let z = j.size inner.0 k.0 (w m.0) (rw n-is at inner.4) c.1 in
+        let whole : b ≡ inner.0 ++ k.0 = rw (h.3, h.5.0, append-nil, inner.3, k.3, k.5.0, append-nil) refl in
+        rw (value, whole) ((z.0, c.0), z.1);
+  }
+
+abbrev ok_type : ValType → Result ValType BinWhy
+ok_type v = Ok v
+
+value_type-only : (x : ℕ) (v : ValType) → value_type_of x ≡ Ok v → x ∷ [] ≡ value_type_bytes v
+value_type-only x v h = go (nat_eq x 0x7F) (nat_eq x 0x7E) (nat_eq x 0x7D) (nat_eq x 0x7C) refl refl refl refl
+  where
+    go : (a b c d : Bool) → nat_eq x 0x7F ≡ a → nat_eq x 0x7E ≡ b → nat_eq x 0x7D ≡ c → nat_eq x 0x7C ≡ d → x ∷ [] ≡ value_type_bytes v
+    go true b c d p q r s = let e : ok_type I32 ≡ Ok v = rw p at h in let f : I32 ≡ v = cc in rw (← f) (ap (λ (y : ℕ). y ∷ []) (eqb-true x 0x7F p))
+    go false true c d p q r s = let e : ok_type I64 ≡ Ok v = rw (p, q) at h in let f : I64 ≡ v = cc in rw (← f) (ap (λ (y : ℕ). y ∷ []) (eqb-true x 0x7E q))
+    go false false true d p q r s = let e = rw (p, q, r) at h in absurd cc
+    go false false false true p q r s = let e = rw (p, q, r, s) at h in absurd cc
+    go false false false false p q r s = let e = rw (p, q, r, s) at h in absurd cc
+
+pub value_type-writes : HasBytes (of value_type) Anything value_type_bytes
+unfolding value_type
+value_type-writes = record {
+  written = elim [ I32 ↦ λ h. (0x7F, refl, refl) | I64 ↦ λ h. (0x7E, refl, refl) ];
+  told = λ s V j b v h. (tt, j.equal b (value_type_bytes v) (h.1 ∙ value_type-only h.0 v h.2));
+}
+
+pub only-is : (b : ℕ) (why : BinWhy) (x : ℕ) (u : Unit {0}) → only b why x ≡ Ok u → x ≡ b
+only-is b why x u h = go (nat_eq x b) refl
+  where
+    go : (c : Bool) → nat_eq x b ≡ c → x ≡ b
+    go true e = eqb-true x b e
+    go false e = let f = rw e at h in absurd cc
+
+pub only-writes : (x : ℕ) (why : BinWhy) → HasBytes (of (byte (only x why))) Anything (λ _. x ∷ [])
+only-writes x why = record {
+  written = λ u h. (x, refl, rw (eq-eqb x x refl) refl);
+  told = λ s V j b u h. (tt, j.equal b (x ∷ []) (h.1 ∙ ap (λ (y : ℕ). y ∷ []) (only-is x why h.0 u h.2)));
+}
+
+anything : (ts : List ValType) → AllByRecursion Anything ts
+anything [] = tt
+anything (t ∷ ts) = (tt, anything ts)
+
+pub types-writes : HasBytes (of (vector value_type)) FitsTypes (vector_bytes value_type_bytes)
+types-writes =
+    writes-as (of (vector value_type)) (FitsVector Anything) FitsTypes (vector_bytes value_type_bytes) (vector_bytes value_type_bytes)
+    (vector-writes value_type Anything value_type_bytes value_type-writes) (λ ts h. h.0) (λ ts h. (h, anything ts)) (λ ts. refl)
+
+-- ---- function types
+
+abbrev func_type_fits : FuncType → Type 0
+func_type_fits s = Unit {0} × (FitsTypes s.params × (FitsTypes s.results × (s ≡ record { params = s.params; results = s.results })))
+
+pub func_type-writes : HasBytes (of func_type) FitsFuncType func_type_bytes
+unfolding func_type
+func_type-writes =
+    writes-as (of func_type) func_type_fits FitsFuncType func_type_bytes func_type_bytes
+    (then-writes (byte (only 0x60 WrongType)) (λ _. vector value_type >>= λ ps. vector value_type >>= λ rs. gives (record { params = ps; results = rs }))
+    Anything (λ _. 0x60 ∷ [])
+    (λ _ s. FitsTypes s.params × (FitsTypes s.results × (s ≡ record { params = s.params; results = s.results })))
+    (λ _ s. vector_bytes value_type_bytes s.params ++ vector_bytes value_type_bytes s.results)
+    (λ s. tt)
+    (only-writes 0x60 WrongType)
+    (λ _. then-writes (vector value_type) (λ ps. vector value_type >>= λ rs. gives (record { params = ps; results = rs }))
+    FitsTypes (vector_bytes value_type_bytes)
+    (λ ps s. FitsTypes s.results × (s ≡ record { params = ps; results = s.results }))
+    (λ ps s. vector_bytes value_type_bytes s.results)
+    (λ s. s.params)
+    types-writes
+    (λ ps. seen-writes (vector value_type) FitsTypes (vector_bytes value_type_bytes) types-writes (λ rs. record { params = ps; results = rs }) (λ s. s.results) (λ rs. refl))
+    (λ s ps b v h. sym (ap (λ (x : FuncType). x.params) h.5.1)))
+    (λ s u b v h. refl))
+    (λ s h. (h.1.0, h.1.1.0)) (λ s h. (tt, (h.0, (h.1, refl)))) (λ s. refl)
+
+pub types_vector-writes : HasBytes (of (vector func_type)) (FitsVector FitsFuncType) (vector_bytes func_type_bytes)
+types_vector-writes = vector-writes func_type FitsFuncType func_type_bytes func_type-writes

@@ -1,0 +1,11 @@
+use Rattle.std.proofs.Common.{drop}
+use Rattle.wc_binary.specs.Reading.{read}
+use Rattle.wc_binary.specs.Values.{exactly}
+use Rattle.wc_binary.proofs.Times.{Leads}
+use Rattle.wc_binary.proofs.decoder.module.exactly.Given as goal
+
+abbrev pub invariant-loop-b : goal.invariant-loop-b
+invariant-loop-b g l =
+    let old = g.S.Source.input l.fn.source in
+    let now = g.S.Source.input l.source in
+    Leads old now (read (exactly (drop l.b-index l.bytes) l.why) now.place now.left) (read (exactly l.bytes l.why) old.place old.left)

@@ -1,0 +1,5 @@
+use Rattle.wc_binary.proofs.Modules.{bin-canon}
+use Rattle.wc_binary.proofs.law.always_canonical.Goals as goal
+
+pub returns : goal.returns
+returns c = bin-canon

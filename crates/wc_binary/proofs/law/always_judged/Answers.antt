@@ -1,0 +1,5 @@
+use Rattle.wc_binary.proofs.Total.{bin-judged}
+use Rattle.wc_binary.proofs.law.always_judged.Goals as goal
+
+pub returns : goal.returns
+returns c = bin-judged

@@ -1,0 +1,7 @@
+use Rattle.wc_binary.specs.Style.{free}
+use Rattle.wc_binary.proofs.Order.{bin-rises}
+use Rattle.wc_binary.proofs.OneModule.{rises-or-stop}
+use Rattle.wc_binary.proofs.law.module_or_fault.Goals as goal
+
+pub returns : goal.returns
+returns c = λ x m f h k. rises-or-stop x m f (bin-rises free x m h) k

@@ -1,0 +1,7 @@
+use Rattle.wc_binary.specs.Style.{free}
+use Rattle.wc_binary.proofs.Order.{bin-rises}
+use Rattle.wc_binary.proofs.OneModule.{rises-one}
+use Rattle.wc_binary.proofs.law.one_module.Goals as goal
+
+pub returns : goal.returns
+returns c = λ x m n h k. rises-one x m n (bin-rises free x m h) (bin-rises free x n k)

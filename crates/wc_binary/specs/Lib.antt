@@ -1,0 +1,12 @@
+pub mod Style
+pub mod Phrase
+pub mod Values
+pub mod Types
+pub mod Sections
+pub mod Module
+pub mod Reading
+pub mod Source
+pub mod Decoding
+pub mod Written
+pub mod Encoding
+pub mod Feed

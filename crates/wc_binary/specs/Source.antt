@@ -1,0 +1,58 @@
+-- What a source of bytes is to contracts, what it answers, and what a reader of a phrase answers over it.
+use Rattle.std.specs.Prelude.{◌≡◌, ℕ, ◌+◌, ◌≤◌, Bool, IsTrue, List, [], ◌∷◌, Option, Some, None, Result, Ok, Err}
+use Rattle.wc_binary.specs.declared.fault.BinFault.{BinFault}
+use Rattle.wc_binary.specs.declared.fault.BinFault.TheVariants.{Bad, Read, Memory}
+use Rattle.wc_binary.specs.Phrase.{Phrase, Halt, halt}
+use Rattle.wc_binary.specs.Reading.{Got, got, read}
+
+-- an input in the course of reading
+pub record Input : Type 0 where
+  -- how many bytes were taken
+  pub place : ℕ
+  -- the bytes to come, where they are known
+  pub known : Bool
+  pub left : List ℕ
+  -- whether a read failed, and how many bytes were read from the device
+  pub failed : Bool
+  pub count : ℕ
+  -- the loan of the device
+  pub lender : ℕ
+
+-- reading went forward, on the same device, and no read failed
+pub record GoesOn (old new : Input) : Type 0 where
+  pub forward : old.place ≤ new.place
+  pub failed : new.failed ≡ old.failed
+  pub lender : new.lender ≡ old.lender
+
+-- a read of the same device failed
+pub record ReadFailed (old new : Input) (at : ℕ) : Type 0 where
+  pub failed : IsTrue new.failed
+  pub count : at ≡ new.count
+  pub lender : new.lender ≡ old.lender
+
+-- no byte is to come
+abbrev pub IsEnded : Input → Type 0
+IsEnded i = IsTrue i.known → i.left ≡ []
+
+-- the next byte was taken, or there is none
+abbrev pub NextGives : Input → Input → Result (Option ℕ) BinFault → Type 0
+NextGives old new (Ok None) =
+    GoesOn old new × (new.place ≡ old.place) × (IsTrue old.known → IsTrue new.known × (old.left ≡ [])) × IsEnded new
+NextGives old new (Ok (Some b)) =
+    GoesOn old new × (new.place ≡ old.place + 1) × (IsTrue old.known → IsTrue new.known × (old.left ≡ b ∷ new.left))
+NextGives old new (Err (Read at)) = ReadFailed old new at
+NextGives old new (Err e) = ⊥
+
+-- what was told in place of what the reading `r` gives
+abbrev pub Fails : {A : Type 0} → Input → Input → BinFault → Result (Got A) Halt → Type 0
+Fails old new (Bad at why) r = GoesOn old new × (IsTrue old.known → r ≡ Err (halt at why new.place))
+Fails old new (Read at) r = ReadFailed old new at
+Fails old new Memory r = GoesOn old new
+
+abbrev pub Gave : {A : Type 0} → Input → Input → Result A BinFault → Result (Got A) Halt → Type 0
+Gave old new (Ok v) r = GoesOn old new × (IsTrue old.known → IsTrue new.known × (r ≡ got v new.place new.left))
+Gave old new (Err e) r = Fails old new e r
+
+-- the answer is what reading the phrase gives
+abbrev pub Gives : {A : Type 0} → Phrase A → Input → Input → Result A BinFault → Type 0
+Gives p old new result = Gave old new result (read p old.place old.left)

@@ -1,0 +1,57 @@
+//! Modules from bytes.
+
+mod integer;
+mod module;
+mod name;
+mod part;
+mod section;
+mod types;
+
+ghost use Rattle.std.specs.Prelude.{◌≡◌, ◌≤◌, ◌++◌, length, IfSome, IfErr, OnOk, false, ℕ};
+ghost use Rattle.std.specs.Io.KnownBytes.{IsAtEnd};
+ghost use Rattle.wc_device.specs.Device.{device_inner, has_failed, read_count};
+ghost use Rattle.wc_binary.specs.Decoding.{Decodes, DecodesNear, is_read_fault};
+
+use crate::fault::BinFault;
+use crate::source::{Bytes, Feed};
+use module::whole_module;
+use std::alloc::Global;
+use std::io::Read;
+use wc_ast::Module;
+use wc_device::Device;
+
+/// The module that the bytes spell (Core 1.0, 5.5.15), or else their first fault. A byte slice never fails to be read.
+pub fn decode(alloc: Global, bytes: &[u8]) -> Result<Module, BinFault>
+    ensures decodes { Decodes bytes.now result }
+    ensures read { is_read_fault result ≡ false }
+{
+    let mut source = Bytes { bytes, at: 0 };
+    whole_module(alloc, &mut source)
+}
+
+/// The same over `front` and then what the reader gives, in whatever pieces, to the reader's end. A refusal is told after
+/// at most 4,096 bytes were read past those behind which the fault shows.
+pub fn decode_from<R: Read>(
+    alloc: Global,
+    front: &[u8],
+    device: &mut Device<R>,
+) -> Result<Module, BinFault>
+    requires well { has_failed device.old ≡ false }
+    requires short { length front.now ≤ 4096 }
+    requires counted { length front.now ≡ read_count device.old }
+    ensures decodes { IfSome (R.remaining (device_inner device.old)) (λ rest. Decodes (front.now ++ rest) result) }
+    ensures near { IfSome (R.remaining (device_inner device.old)) (λ rest. DecodesNear (read_count device.new) (front.now ++ rest) result) }
+    ensures end { OnOk result (IsAtEnd (R.remaining (device_inner device.new))) }
+    ensures read { is_read_fault result ≡ has_failed device.new }
+    ensures read_at { IfErr result (λ e. (at : ℕ) → e ≡ BinFault.Read at → at ≡ read_count device.new) }
+{
+    let mut buffer = [0u8; 4096];
+    buffer[..front.len()].copy_from_slice(front);
+    let mut feed = Feed {
+        device,
+        buffer,
+        at: 0,
+        end: front.len(),
+    };
+    whole_module(alloc, &mut feed)
+}

@@ -1,0 +1,80 @@
+//! Parts that stand in vectors and behind sizes (Core 1.0, 5.1.3).
+
+ghost use Rattle.std.specs.Prelude.{ℕ, List as Seq};
+ghost use Rattle.wc_binary.specs.Phrase.{Phrase};
+ghost use Rattle.wc_binary.specs.Values.{any_byte, times as times_phrase, vector as vector_phrase, sized as sized_phrase};
+ghost use Rattle.wc_binary.specs.Source.{Gives};
+
+use crate::decoder::integer::u32;
+use crate::fault::{BinFault, BinWhy};
+use crate::source::Source;
+use std::alloc::Global;
+use wc_ast::List;
+
+/// A part of a module that is read by a phrase of its own.
+pub trait Part: Sized {
+    ghost phrase: { Phrase Self };
+
+    fn read<S: Source>(alloc: Global, source: &mut S) -> Result<Self, BinFault>
+        ensures { Gives phrase (S.input source.old) (S.input source.new) result };
+}
+
+impl Part for u8 {
+    ghost phrase = { any_byte };
+
+    #[tactic(auto, unfolding(crate::specs::Values::any_byte))]
+    fn read<S: Source>(_alloc: Global, source: &mut S) -> Result<u8, BinFault> {
+        let at = source.place();
+        match source.next()? {
+            None => Err(BinFault::Bad {
+                at,
+                why: BinWhy::End,
+            }),
+            Some(byte) => Ok(byte),
+        }
+    }
+}
+
+/// So many parts. The list grows with the parts that were read, and not by the count.
+pub fn times<P: Part + Drop, S: Source>(
+    alloc: Global,
+    count: u32,
+    source: &mut S,
+) -> Result<List<P>, BinFault>
+    ensures { Gives (times_phrase count P.phrase) (S.input source.old) (S.input source.new) result }
+{
+    let mut parts = List::new(alloc);
+    for _ in 0..count {
+        parts.push(P::read(alloc, source)?)?;
+    }
+    Ok(parts)
+}
+
+impl<P: Part + Drop> Part for List<P> {
+    ghost phrase = { vector_phrase P.phrase };
+
+    #[tactic(auto, unfolding(crate::specs::Values::vector))]
+    fn read<S: Source>(alloc: Global, source: &mut S) -> Result<List<P>, BinFault> {
+        let count = u32(source)?;
+        times(alloc, count, source)
+    }
+}
+
+/// A part behind its size. The size is judged once the part was read.
+#[tactic(auto, unfolding(crate::specs::Values::sized))]
+pub fn sized<P: Part + Drop, S: Source>(
+    alloc: Global,
+    why: BinWhy,
+    source: &mut S,
+) -> Result<P, BinFault>
+    ensures { Gives (sized_phrase why P.phrase) (S.input source.old) (S.input source.new) result }
+{
+    let at = source.place();
+    let size = u32(source)?;
+    let start = source.place();
+    let part = P::read(alloc, source)?;
+    if source.place() - start != size as u64 {
+        return Err(BinFault::Bad { at, why });
+    }
+    Ok(part)
+}

@@ -1,0 +1,22 @@
+//! Canonical bytes of modules.
+
+mod types;
+mod value;
+
+ghost use Rattle.wc_binary.specs.Encoding.{EncodesModule};
+
+use crate::fault::EncFault;
+use std::alloc::Global;
+use types::write_type_section;
+use wc_ast::Module;
+
+/// The canonical bytes of a module: no other list of bytes that spells it is as short. `Oversize` where no list of bytes
+/// spells it, because a count or a size would reach `2^32`.
+pub fn encode(alloc: Global, m: &Module) -> Result<Vec<u8>, EncFault>
+    ensures { EncodesModule m.now result }
+{
+    let mut out = Vec::new(alloc);
+    out.extend_from_slice(&[0x00, 0x61, 0x73, 0x6d, 0x01, 0x00, 0x00, 0x00])?;
+    write_type_section(alloc, &mut out, m.types.as_slice())?;
+    Ok(out)
+}

@@ -1,0 +1,31 @@
+//! Integers and lengths by their shortest spellings (Core 1.0, 5.2.2).
+
+ghost use Rattle.std.specs.Prelude.{◌≡◌, ◌++◌, ◌<◌, ◌^◌, OnOk};
+ghost use Rattle.wc_leb128.specs.Shortest.{unsigned_bytes};
+ghost use Rattle.wc_binary.specs.Encoding.{Writes};
+
+use crate::fault::EncFault;
+use std::alloc::AllocError;
+use wc_leb128::shortest_u;
+
+/// Writes a number.
+pub fn write_u32(out: &mut Vec<u8>, n: u32) -> Result<(), AllocError>
+    ensures { OnOk result (out.new.items ≡ out.old.items ++ unsigned_bytes n) }
+{
+    if n < 128 {
+        out.push(n as u8)?;
+        return Ok(());
+    }
+    out.extend_from_slice(shortest_u(u64::from(n)).as_slice())
+}
+
+/// Writes a count of items or a size in bytes.
+pub fn write_length(out: &mut Vec<u8>, length: usize) -> Result<(), EncFault>
+    ensures { Writes (length < 2 ^ 32) out.old.items out.new.items (unsigned_bytes length) result }
+{
+    if length > u32::MAX as usize {
+        return Err(EncFault::Oversize);
+    }
+    write_u32(out, length as u32)?;
+    Ok(())
+}

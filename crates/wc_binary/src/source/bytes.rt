@@ -1,0 +1,35 @@
+//! The bytes of a slice, which never fail.
+
+ghost use Rattle.std.specs.Prelude.{◌≤◌, length};
+
+use crate::fault::BinFault;
+use crate::source::Source;
+
+/// A slice, and how much of it was taken.
+#[derive(Drop)]
+pub struct Bytes<'a> {
+    pub bytes: &'a [u8],
+    pub at: usize,
+    pub ghost within: { at ≤ length bytes.now },
+}
+
+impl Source for Bytes<'_> {
+    ghost use Rattle.std.specs.Prelude.{drop, true, false};
+
+    ghost input = { λ s. record { place = s.at; known = true; left = drop s.at s.bytes.now; failed = false; count = 0; lender = 0 } };
+
+    fn place(&self) -> u64 {
+        self.at as u64
+    }
+
+    fn next(&mut self) -> Result<Option<u8>, BinFault> {
+        match self.bytes.get(self.at) {
+            None => Ok(None),
+            Some(b) => {
+                let b = *b;
+                self.at += 1;
+                Ok(Some(b))
+            }
+        }
+    }
+}

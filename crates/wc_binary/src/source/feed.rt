@@ -1,0 +1,51 @@
+//! The bytes of a reader, by a buffer.
+
+ghost use Rattle.std.specs.Prelude.{◌≤◌, ◌-◌};
+ghost use Rattle.wc_device.specs.Device.{read_count};
+
+use crate::fault::BinFault;
+use crate::source::Source;
+use std::io::Read;
+use wc_device::Device;
+
+/// A reader and its bytes that were read and not yet taken, which lie in the buffer from `at` up to `end`. The buffer is
+/// filled by one read, and only once all its bytes were taken: so a fault in bytes that were read comes before the
+/// failure of a later read.
+#[derive(Drop)]
+pub struct Feed<'a, R> {
+    pub device: &'a mut Device<R>,
+    pub buffer: [u8; 4096],
+    pub at: usize,
+    pub end: usize,
+    pub ghost within: { end ≤ 4096 },
+    pub ghost ordered: { at ≤ end },
+    pub ghost counted: { end - at ≤ read_count device.now },
+}
+
+impl<R: Read> Source for Feed<'_, R> {
+    ghost use Rattle.wc_binary.specs.Feed.{feed_input};
+
+    ghost input = { feed_input R.remaining };
+
+    fn place(&self) -> u64 {
+        self.device.count() - (self.end - self.at) as u64
+    }
+
+    fn next(&mut self) -> Result<Option<u8>, BinFault> {
+        if self.at == self.end {
+            match self.device.read(&mut self.buffer) {
+                Ok(0) => return Ok(None),
+                Ok(n) => {
+                    self.at = 0;
+                    self.end = n;
+                }
+                Err(_) => return Err(BinFault::Read {
+                    at: self.device.count(),
+                }),
+            }
+        }
+        let b = self.buffer[self.at];
+        self.at += 1;
+        Ok(Some(b))
+    }
+}

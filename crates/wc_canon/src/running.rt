@@ -1,0 +1,126 @@
+//! From a reader to a writer.
+
+ghost use Rattle.std.specs.Prelude.{ℕ, ◌≡◌, ◌≤◌, length, take, IfOk, IfErr, IfSome, IsErrOf, OnOk, false};
+ghost use Rattle.std.specs.Io.KnownBytes.{Appends};
+ghost use Rattle.wc_device.specs.Device.{device_inner, has_failed, read_count};
+ghost use Rattle.wc_binary.specs.Decoding.{Decodes, DecodesNear, is_read_fault as is_unread};
+ghost use Rattle.wc_canon.specs.declared.fault.Refusal.TheVariants as refusals;
+ghost use Rattle.wc_canon.specs.Run.{Judges, Answers, RefusesNear, IsQuiet, is_read_fault, is_write_fault};
+
+use crate::fault::RunFault;
+use std::alloc::Global;
+use std::io::{Read, Write};
+use wc_ast::Module;
+use wc_binary::{BinFault, decode, decode_from, encode};
+use wc_device::Device;
+
+/// How many bytes the first read is offered.
+const FRONT: usize = 4096;
+
+/// What a run writes for an input that is accepted.
+#[derive(Clone, Copy, Debug, PartialEq, Eq)]
+pub enum Job {
+    /// The canonical bytes.
+    Binary,
+}
+
+/// The module that the reader's bytes spell, to the reader's end, or else their first fault.
+fn read_module<R: Read>(alloc: Global, r: &mut Device<R>) -> Result<Module, BinFault>
+    requires well { has_failed r.old ≡ false }
+    requires unread { read_count r.old ≡ 0 }
+    ensures decodes { IfSome (R.remaining (device_inner r.old)) (λ x. Decodes x result) }
+    ensures near { IfSome (R.remaining (device_inner r.old)) (λ x. DecodesNear (read_count r.new) x result) }
+    ensures read { is_unread result ≡ has_failed r.new }
+    ensures read_at { IfErr result (λ e. (at : ℕ) → e ≡ BinFault.Read at → at ≡ read_count r.new) }
+{
+    let mut buffer = [0u8; FRONT];
+    let given = match r.read(&mut buffer) {
+        Ok(n) => n,
+        Err(_) => return Err(BinFault::Read { at: r.count() }),
+    };
+    let front = &buffer[..given];
+    if front.is_empty() {
+        decode(alloc, front)
+    } else {
+        decode_from(alloc, front, r)
+    }
+}
+
+/// The answer to the reader's bytes.
+fn answer<R: Read>(alloc: Global, r: &mut Device<R>) -> Result<Vec<u8>, RunFault>
+    requires well { has_failed r.old ≡ false }
+    requires unread { read_count r.old ≡ 0 }
+    ensures judges { IfSome (R.remaining (device_inner r.old)) (Judges (λ v. v.items) result) }
+    ensures near { IfErr result (λ e. IfSome (R.remaining (device_inner r.old)) (RefusesNear (read_count r.new) e)) }
+    ensures read { is_read_fault result ≡ has_failed r.new }
+    ensures read_at { IfErr result (λ e. (at : ℕ) → e ≡ RunFault.Read at → at ≡ read_count r.new) }
+    ensures unwritten { is_write_fault result ≡ false }
+    ensures memory { ¬ (IsErrOf result (RunFault.Refused refusals.Memory)) }
+{
+    let module = read_module(alloc, r)?;
+    Ok(encode(alloc, &module)?)
+}
+
+/// Writes all the bytes, and flushes once.
+fn write_all<W: Write>(w: &mut Device<W>, bytes: &[u8]) -> Result<u64, RunFault>
+    requires { has_failed w.old ≡ false }
+    ensures ok { IfOk result (λ n. n ≡ length bytes.now) }
+    ensures appends { OnOk result (Appends (W.contents (device_inner w.old)) (W.contents (device_inner w.new)) bytes.now) }
+    ensures wrote { IfErr result (λ e. (n : ℕ) × (e ≡ RunFault.Write n) × (n ≤ length bytes.now)
+        × Appends (W.contents (device_inner w.old)) (W.contents (device_inner w.new)) (take n bytes.now)) }
+    ensures write { is_write_fault result ≡ has_failed w.new }
+{
+    let mut sent = 0;
+    while sent < bytes.len() {
+        match w.write(&bytes[sent..]) {
+            Ok(0) => return Err(RunFault::Write {
+                written: sent as u64,
+            }),
+            Ok(n) => sent += n,
+            Err(_) => return Err(RunFault::Write {
+                written: sent as u64,
+            }),
+        }
+    }
+    if w.flush().is_err() {
+        return Err(RunFault::Write {
+            written: sent as u64,
+        });
+    }
+    Ok(sent as u64)
+}
+
+/// Reads an input, writes the answer to it and nothing else, flushes once, and answers how many bytes it wrote.
+///
+/// Nothing is written before the whole answer stands. Where an input is refused before its end, the rest isn't read: at
+/// most 4,096 bytes are read past the byte where the fault shows.
+///
+/// # Errors
+/// `RunFault::Refused` where the input isn't accepted. `RunFault::Read` exactly where the reader failed, and
+/// `RunFault::Write` exactly where the writer did; neither is tried again. `RunFault::Memory` where a growth of memory
+/// was refused.
+pub fn run<R: Read, W: Write>(
+    alloc: Global,
+    job: Job,
+    r: &mut Device<R>,
+    w: &mut Device<W>,
+) -> Result<u64, RunFault>
+    requires reader { has_failed r.old ≡ false }
+    requires writer { has_failed w.old ≡ false }
+    requires unread { read_count r.old ≡ 0 }
+
+    ensures read { is_read_fault result ≡ has_failed r.new }
+    ensures write { is_write_fault result ≡ has_failed w.new }
+    ensures read_at { IfErr result (λ e. (at : ℕ) → e ≡ RunFault.Read at → at ≡ read_count r.new) }
+    ensures memory { ¬ (IsErrOf result (RunFault.Refused refusals.Memory)) }
+
+    ensures quiet { IsQuiet (W.contents (device_inner w.old)) (W.contents (device_inner w.new)) result }
+    ensures answers { IfSome (R.remaining (device_inner r.old))
+        (Answers (W.contents (device_inner w.old)) (W.contents (device_inner w.new)) result) }
+    ensures near { IfErr result (λ e. IfSome (R.remaining (device_inner r.old)) (RefusesNear (read_count r.new) e)) }
+{
+    let bytes = match job {
+        Job::Binary => answer(alloc, r)?,
+    };
+    write_all(w, &bytes)
+}

@@ -1,0 +1,214 @@
+//! What no clause says: each call is handed on, and a device reports no failure of its own.
+use super::Device;
+use std::io;
+use std::io::{Error, ErrorKind, Read, Write};
+use std::test::Fail;
+
+/// A reader and writer that moves up to so many bytes a call, and fails at one call and in flush.
+#[derive(Drop)]
+struct Pieces {
+    piece: usize,
+    fails_at: u32,
+    calls: u32,
+    flushes: u32,
+}
+
+impl Pieces {
+    fn turn(&mut self, room: usize) -> Option<usize> {
+        self.calls = self.calls.saturating_add(1);
+        if self.calls == self.fails_at {
+            None
+        } else {
+            Some(self.piece.min(room))
+        }
+    }
+}
+
+impl Read for Pieces {
+    fn read(&mut self, buf: &mut [u8]) -> io::Result<usize> {
+        match self.turn(buf.len()) {
+            Some(n) => Ok(n.min(buf.len())),
+            None => Err(Error::from(ErrorKind::Interrupted)),
+        }
+    }
+}
+
+impl Write for Pieces {
+    fn write(&mut self, buf: &[u8]) -> io::Result<usize> {
+        match self.turn(buf.len()) {
+            Some(n) => Ok(n.min(buf.len())),
+            None => Err(Error::from(ErrorKind::Interrupted)),
+        }
+    }
+
+    fn flush(&mut self) -> io::Result<()> {
+        self.flushes = self.flushes.saturating_add(1);
+        if self.flushes == self.fails_at {
+            return Err(Error::from(ErrorKind::Interrupted));
+        }
+        Ok(())
+    }
+}
+
+fn in_pieces(piece: usize, fails_at: u32) -> Device<Pieces> {
+    Device::new(Pieces {
+        piece,
+        fails_at,
+        calls: 0,
+        flushes: 0,
+    })
+}
+
+/// An answer, whether the device has failed then, and the bytes counted then.
+type Told = (Result<usize, ErrorKind>, bool, u64);
+
+const BROKEN: Result<usize, ErrorKind> = Err(ErrorKind::Interrupted);
+
+#[test]
+fn reads_are_counted(rt: HostRuntime) -> Result<(), Fail> {
+    // bytes a call, the call that fails, and what three reads into four bytes tell
+    let rows: [(usize, u32, [Told; 3]); 4] = [
+        (
+            3,
+            0,
+            [(Ok(3), false, 3), (Ok(3), false, 6), (Ok(3), false, 9)],
+        ),
+        (
+            9,
+            0,
+            [(Ok(4), false, 4), (Ok(4), false, 8), (Ok(4), false, 12)],
+        ),
+        (
+            2,
+            2,
+            [(Ok(2), false, 2), (BROKEN, true, 2), (Ok(2), true, 4)],
+        ),
+        (
+            0,
+            3,
+            [(Ok(0), false, 0), (Ok(0), false, 0), (BROKEN, true, 0)],
+        ),
+    ];
+    for (piece, fails_at, reads) in rows {
+        let mut device = in_pieces(piece, fails_at);
+        for (answer, failed, count) in reads {
+            let mut buf = [0u8; 4];
+            assert_eq!(rt; device.read(&mut buf).map_err(|e| e.kind()), answer);
+            assert_eq!(rt; (device.failed(), device.count()), (failed, count));
+        }
+        assert_eq!(rt; device.inner().calls, 3);
+    }
+    Ok(())
+}
+
+#[test]
+fn the_count_ends(rt: HostRuntime) -> Result<(), Fail> {
+    let mut device = in_pieces(9, 0);
+    device.count = u64::MAX - 6;
+    let reads: [(usize, Told); 4] = [
+        (4, (Ok(4), false, u64::MAX - 2)),
+        (4, (Ok(2), false, u64::MAX)),
+        (0, (Ok(0), false, u64::MAX)),
+        (4, (Err(ErrorKind::Other), true, u64::MAX)),
+    ];
+    for (length, (answer, failed, count)) in reads {
+        let mut buf = [0u8; 4];
+        assert_eq!(rt;
+            device.read(&mut buf[..length.min(4)]).map_err(|e| e.kind()),
+            answer
+        );
+        assert_eq!(rt; (device.failed(), device.count()), (failed, count));
+    }
+    assert_eq!(rt; device.inner().calls, 3);
+    Ok(())
+}
+
+#[test]
+fn failed_writes_are_kept(rt: HostRuntime) -> Result<(), Fail> {
+    // bytes a call, the call that fails, and the lengths of three writes with what they tell
+    let rows: [(usize, u32, [(usize, Told); 3]); 4] = [
+        (
+            3,
+            0,
+            [
+                (4, (Ok(3), false, 0)),
+                (2, (Ok(2), false, 0)),
+                (0, (Ok(0), false, 0)),
+            ],
+        ),
+        (
+            3,
+            1,
+            [
+                (4, (BROKEN, true, 0)),
+                (4, (Ok(3), true, 0)),
+                (0, (Ok(0), true, 0)),
+            ],
+        ),
+        (
+            0,
+            0,
+            [
+                (0, (Ok(0), false, 0)),
+                (1, (Ok(0), true, 0)),
+                (0, (Ok(0), true, 0)),
+            ],
+        ),
+        (
+            3,
+            3,
+            [
+                (0, (Ok(0), false, 0)),
+                (4, (Ok(3), false, 0)),
+                (0, (BROKEN, true, 0)),
+            ],
+        ),
+    ];
+    for (piece, fails_at, writes) in rows {
+        let mut device = in_pieces(piece, fails_at);
+        for (length, (answer, failed, count)) in writes {
+            assert_eq!(rt;
+                device
+                    .write(&b"abcd"[..length.min(4)])
+                    .map_err(|e| e.kind()),
+                answer
+            );
+            assert_eq!(rt; (device.failed(), device.count()), (failed, count));
+        }
+        assert_eq!(rt; device.inner().calls, 3);
+    }
+    Ok(())
+}
+
+#[test]
+fn flushes_are_handed_on(rt: HostRuntime) -> Result<(), Fail> {
+    for (fails_at, failed) in [(0, [false, false]), (1, [true, true]), (2, [false, true])] {
+        let mut device = in_pieces(1, fails_at);
+        assert_eq!(rt; device.flush().is_err(), fails_at == 1);
+        assert_eq!(rt; device.failed(), failed[0]);
+        assert_eq!(rt; device.flush().is_err(), fails_at == 2);
+        assert_eq!(rt; device.failed(), failed[1]);
+        assert_eq!(rt; device.inner().flushes, 2);
+        assert_eq!(rt; device.inner().calls, 0);
+    }
+    Ok(())
+}
+
+#[test]
+fn bytes_go_through(rt: HostRuntime) -> Result<(), Fail> {
+    let mut from = Device::new(b"abcdefg".as_slice());
+    let mut to = Device::new(Vec::new(rt.alloc()));
+    let mut buf = [0u8; 4];
+    for want in [4, 3, 0] {
+        let n = from.read(&mut buf)?;
+        assert_eq!(rt; n, want);
+        assert_eq!(rt; to.write(&buf[..n])?, want);
+    }
+    to.flush()?;
+    assert_eq!(rt; to.inner().as_slice(), b"abcdefg".as_slice());
+    assert_eq!(rt;
+        (from.count(), from.failed(), to.failed()),
+        (7, false, false)
+    );
+    Ok(())
+}

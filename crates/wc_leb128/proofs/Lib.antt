@@ -1,0 +1,14 @@
+pub mod Spellings
+pub mod Exact
+pub mod Groups
+pub mod UnsignedLaws
+pub mod UnsignedShortest
+pub mod SignedShortest
+pub mod Lengths
+pub mod SignedLengths
+pub mod Written
+pub mod SignedEnd
+pub mod SignedLaws
+pub mod SignedPush
+pub mod Digits
+pub mod Push

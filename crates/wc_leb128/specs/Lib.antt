@@ -1,0 +1,4 @@
+pub mod Integers
+pub mod State
+pub mod Shortest
+pub mod Laws

@@ -1,0 +1,20 @@
+//! Integers of the binary format (Core 1.0, 5.2.2): read byte by byte within N bits, and written as short as can be.
+#![tactic(auto)]
+
+mod bits;
+mod law;
+mod leb;
+mod shortest;
+mod signed;
+mod step;
+mod unsigned;
+
+pub use law::{signed_answers, signed_spellings, unsigned_answers, unsigned_spellings};
+pub use leb::Leb;
+pub use shortest::{shortest_s, shortest_u};
+pub use signed::Signed;
+pub use step::Step;
+pub use unsigned::Unsigned;
+
+#[cfg(test)]
+mod tests;
