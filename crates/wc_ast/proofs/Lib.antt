@@ -1,0 +1,11 @@
+mod NameLemmas
+mod MeaningLemmas
+pub mod GroupLemmas
+mod EntryLemmas
+pub mod BuildingLemmas
+mod BuilderLemmas
+pub mod Spelling
+pub mod Reaching
+pub mod Walks
+pub mod Emitting
+pub mod PartLemmas

@@ -1,0 +1,15 @@
+pub mod Opcodes
+pub mod ByteMeaning
+pub mod NameMeaning
+pub mod LocalGroups
+pub mod Nested
+pub mod Draft
+pub mod NestedLaws
+pub mod NestedCodes
+pub mod Entries
+pub mod Building
+pub mod OpenParts
+pub mod Grammar
+pub mod Placed
+pub mod Pieces
+pub mod Parts

@@ -1,12 +1,13 @@
-//! A list that contracts see as its items, and not as where they lie in memory.
+//! Lists that contracts see as their items.
 
-ghost use Rattle.std.specs.Prelude.{◌≡◌, ◌↔◌, [], ◌∷◌, ◌++◌, length, IsTrue, IfOk, OnOk, OnErr, IfErr};
+ghost use Rattle.std.specs.Prelude.{◌≡◌, ◌↔◌, [], ◌∷◌, ◌++◌, length, IsTrue, IfOk, IfErr, OnOk, OnErr};
 ghost use Rattle.std.specs.Prelude.{List as Seq};
 
+use crate::try_clone::TryClone;
 use std::alloc::{AllocError, AllocFailed, Global};
 use std::marker::Model;
 
-/// Items in order. It grows with the items that are pushed, and never by a count alone.
+/// A vector of the standard (Core 1.0, 2.1): items in order. A contract sees the items alone.
 #[derive(Debug, Drop)]
 pub struct List<T> {
     items: Vec<T>,
@@ -19,7 +20,7 @@ impl<T> Model for List<T> {
 }
 
 impl<T> List<T> {
-    /// No items. It takes no memory.
+    /// The empty list. It takes no memory.
     pub fn new(alloc: Global) -> List<T>
         ensures { result ≡ [] }
     {
@@ -28,14 +29,14 @@ impl<T> List<T> {
         }
     }
 
-    /// The items of a vector, which keeps its memory.
+    /// The list of these items. It takes no memory.
     pub fn from_vec(items: Vec<T>) -> List<T>
         ensures { result ≡ items.items }
     {
         List { items }
     }
 
-    /// The items as a vector, with the memory that they have.
+    /// The items, with the memory that they stand in.
     pub fn into_vec(self) -> Vec<T>
         ensures { result.items ≡ self }
     {
@@ -43,7 +44,7 @@ impl<T> List<T> {
         items
     }
 
-    /// One more item at the end. Where memory is refused, the item comes back and the list is as it was.
+    /// Adds an item at the end. The error is want of memory: it hands the item back, and the list stays as it was.
     pub fn push(&mut self, item: T) -> Result<(), AllocFailed<T>>
         ensures ok { OnOk result (self.new ≡ self.old ++ item ∷ []) }
         ensures err { OnErr result (self.new ≡ self.old) }
@@ -71,7 +72,7 @@ impl<T> List<T> {
         self.items.is_empty()
     }
 
-    /// The items.
+    /// The items, in order.
     pub fn as_slice(&self) -> &[T]
         ensures { result.now ≡ self.now }
     {
@@ -79,14 +80,21 @@ impl<T> List<T> {
     }
 }
 
-impl<T: Copy + Drop> List<T> {
-    /// An equal list. Its only error is want of memory.
+impl<T: Copy> List<T> {
+    /// An equal list, its items copied at once. The error is want of memory.
     pub fn try_copy(&self) -> Result<List<T>, AllocError>
         ensures { IfOk result (λ copy. copy ≡ self.now) }
     {
-        let mut items = Vec::new(*self.items.allocator());
-        for item in self.as_slice() {
-            items.push(*item)?;
+        let items = Vec::from_slice(*self.items.allocator(), self.items.as_slice())?;
+        Ok(List { items })
+    }
+}
+
+impl<T: TryClone + Drop> TryClone for List<T> {
+    fn try_clone(&self) -> Result<List<T>, AllocError> {
+        let mut items = Vec::with_capacity(*self.items.allocator(), self.items.len())?;
+        for item in &self.items {
+            items.push(item.try_clone()?)?;
         }
         Ok(List { items })
     }

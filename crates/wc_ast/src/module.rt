@@ -1,36 +1,79 @@
-//! Modules (Core 1.0, 2.5).
+//! Modules.
 
 ghost use Rattle.std.specs.Prelude.{◌≡◌, [], IfOk};
 
+use crate::export::Export;
+use crate::func::{Func, Global};
 use crate::func_type::FuncType;
+use crate::import::Import;
+use crate::limits::Limits;
 use crate::list::List;
-use std::alloc::{AllocError, Global};
+use crate::segment::{Data, Elem};
+use crate::try_clone::TryClone;
+use std::alloc::{self, AllocError};
 
-/// A module. Two modules are the same where these values are equal.
+/// A module (Core 1.0, 2.5). Indices count imports first, where a kind can be imported.
 #[derive(Debug, Drop)]
 pub struct Module {
-    /// The function types, by type index (Core 1.0, 2.5.2).
     pub types: List<FuncType>,
+    pub imports: List<Import>,
+    /// The functions that the module defines.
+    pub funcs: List<Func>,
+    /// Tables, by their limits: a table holds references to functions.
+    pub tables: List<Limits>,
+    /// Memories, by their limits.
+    pub mems: List<Limits>,
+    pub globals: List<Global>,
+    pub exports: List<Export>,
+    /// The index of the start function, where there is one.
+    pub start: Option<u32>,
+    pub elems: List<Elem>,
+    pub datas: List<Data>,
 }
 
 impl Module {
-    /// A module of nothing. It takes no memory.
-    pub fn new(alloc: Global) -> Module
-        ensures { result.types ≡ [] }
+    /// The module of nothing. It takes no memory.
+    pub fn new(alloc: alloc::Global) -> Module
+        ensures types { result.types ≡ [] }
+        ensures imports { result.imports ≡ [] }
+        ensures funcs { result.funcs ≡ [] }
+        ensures tables { result.tables ≡ [] }
+        ensures mems { result.mems ≡ [] }
+        ensures globals { result.globals ≡ [] }
+        ensures exports { result.exports ≡ [] }
+        ensures start { result.start ≡ None }
+        ensures elems { result.elems ≡ [] }
+        ensures datas { result.datas ≡ [] }
     {
         Module {
             types: List::new(alloc),
+            imports: List::new(alloc),
+            funcs: List::new(alloc),
+            tables: List::new(alloc),
+            mems: List::new(alloc),
+            globals: List::new(alloc),
+            exports: List::new(alloc),
+            start: None,
+            elems: List::new(alloc),
+            datas: List::new(alloc),
         }
     }
 
-    /// An equal module. Its only error is want of memory.
+    /// An equal module, in memory of its own. The error is want of memory.
     pub fn try_clone(&self) -> Result<Module, AllocError>
         ensures { IfOk result (λ copy. copy ≡ self.now) }
     {
-        let mut types = List::new(self.types.allocator());
-        for func_type in self.types.as_slice() {
-            types.push(func_type.try_clone()?)?;
-        }
-        Ok(Module { types })
+        Ok(Module {
+            types: self.types.try_clone()?,
+            imports: self.imports.try_clone()?,
+            funcs: self.funcs.try_clone()?,
+            tables: self.tables.try_copy()?,
+            mems: self.mems.try_copy()?,
+            globals: self.globals.try_clone()?,
+            exports: self.exports.try_clone()?,
+            start: self.start,
+            elems: self.elems.try_clone()?,
+            datas: self.datas.try_clone()?,
+        })
     }
 }

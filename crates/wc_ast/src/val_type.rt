@@ -1,10 +1,8 @@
-//! Value types (Core 1.0, 2.3.1), those of integers.
+//! Value types.
 
-/// The type of a value. Float types are outside this project's profile.
+/// A value type (Core 1.0, 2.3.1), of the integers alone.
 #[derive(Clone, Copy, Debug, PartialEq, Eq)]
 pub enum ValType {
-    /// A 32-bit integer.
     I32,
-    /// A 64-bit integer.
     I64,
 }

@@ -5,6 +5,7 @@ use Rattle.wc_ast.specs.declared.func_type.FuncType.{FuncType}
 use Rattle.wc_ast.specs.declared.module.Module.{Module}
 use Rattle.wc_binary.specs.declared.fault.EncFault.{EncFault}
 use Rattle.wc_binary.specs.declared.fault.EncFault.TheVariants.{Oversize, Memory}
+use Rattle.wc_binary.specs.Sections.{of_types}
 use Rattle.wc_binary.specs.Module.{Canon, IsShortestOf}
 use Rattle.wc_binary.specs.Written.{module_bytes, preamble_bytes, types_section, FitsFuncType, FitsFuncTypes, FitsTypesSection}
 use Rattle.wc_binary.specs.Encoding.{Writes, EncodesModule}
@@ -23,11 +24,15 @@ item-fails types i t is lt old mid new bytes whole Memory h = tt
 
 pub module-fails : (m : Module) (types : List FuncType) → types ≡ m.types → (old new : List ℕ) (e : EncFault)
     → Writes (FitsTypesSection types) old new (types_section types) (Err e) → EncodesModule m (Err e)
-module-fails m types is old new Oversize h = λ b k. h (rw is (bin-longer b m k).0)
+module-fails m types is old new Oversize h = λ b k. h (rw is (bin-longer b m k).0.0)
 module-fails m types is old new Memory h = tt
 
-pub module-written : (m : Module) (types : List FuncType) → types ≡ m.types → (b : List ℕ) → FitsTypesSection types → b ≡ preamble_bytes ++ types_section types
+-- a module of more than types is spelled by no bytes
+pub more-fails : (m : Module) → (m ≡ of_types m.types → ⊥) → EncodesModule m (Err Oversize)
+more-fails m more = λ b k. more (bin-longer b m k).0.1
+
+pub module-written : (m : Module) (types : List FuncType) → types ≡ m.types → m ≡ of_types m.types → (b : List ℕ) → FitsTypesSection types → b ≡ preamble_bytes ++ types_section types
     → Canon b m × IsShortestOf b m
-module-written m types same b fits is =
-    let c : Canon b m = rw (is, same) (canon-written m (rw same at fits)) in
+module-written m types same alone b fits is =
+    let c : Canon b m = rw (is, same) (canon-written m (rw same at fits, alone)) in
     (c, shortest-and-only b m c)

@@ -31,4 +31,4 @@ freed-then : {A : Type 0} (id : ℕ) (p : Phrase A) (vs : List A) (R S : List �
 freed-then id p vs R S rest b h = (h.0, h.1, h.2, h.3, freed-customs h.0 h.4, freed-section id p vs h.1 h.5, rest h.2 h.6)
 
 pub canon-bin : (b : List ℕ) (m : Module) → Canon b m → Bin b m
-canon-bin b m h = (h.0, h.1, h.2, freed preamble h.0 tt h.3, freed-then 1 func_type m.types (Customs canonical) (Customs free) freed-customs h.1 h.4)
+canon-bin b m h = (h.0, h.1, h.2, freed preamble h.0 tt h.3, freed-then 1 func_type m.types (Customs canonical) (Customs free) freed-customs h.1 h.4, h.5)

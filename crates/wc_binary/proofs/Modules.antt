@@ -69,7 +69,7 @@ module _ (s : Style) (V : List ℕ → List ℕ → Type 0) (j : Judges s V) whe
       let all : V (preamble_bytes ++ h.1) (preamble_bytes ++ (types_section m.types ++ [])) =
       j.join preamble_bytes h.1 preamble_bytes (types_section m.types ++ []) (j.same preamble_bytes) t.2 in
       let last = append-nil (types_section m.types) in
-      (t.0, rw (split, front) (rw last at all))
+      ((t.0, h.5), rw (split, front) (rw last at all))
 
 -- ---- the canonical bytes are canonical
 
@@ -93,9 +93,9 @@ module _ {A : Type 0} (id : ℕ) (p : Phrase A) (Fits : A → Type 0) (w : A →
 
 pub canon-written : (m : Module) → FitsModule m → Canon (module_bytes m) m
 canon-written m fits =
-    let sections = then-written 1 func_type FitsFuncType func_type_bytes func_type-writes (Customs canonical) [] (0, refl) m.types fits in
+    let sections = then-written 1 func_type FitsFuncType func_type_bytes func_type-writes (Customs canonical) [] (0, refl) m.types fits.0 in
     let last = append-nil (types_section m.types) in
-    (preamble_bytes, types_section m.types, refl, preamble-spelled, rw last at sections)
+    (preamble_bytes, types_section m.types, refl, preamble-spelled, rw last at sections, fits.1)
 
 -- ---- the laws
 

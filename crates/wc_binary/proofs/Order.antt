@@ -11,7 +11,7 @@ use Rattle.wc_binary.specs.Style.{Style}
 use Rattle.wc_binary.specs.Phrase.{SpellsBy}
 use Rattle.wc_binary.specs.Values.{vector, sized}
 use Rattle.wc_binary.specs.Types.{func_type}
-use Rattle.wc_binary.specs.Sections.{custom, id_of, content, after, Stands, nothing, put}
+use Rattle.wc_binary.specs.Sections.{custom, id_of, content, after, Stands, of_types, nothing, put}
 use Rattle.wc_binary.specs.Module.{AreCustoms, Customs, IsSection, Then, BinBy, AreSections, put_all, RisesBy}
 
 module _ (s : Style) where
@@ -53,15 +53,14 @@ module _ (s : Style) where
   -- a section, or none of it
   section-rises : (types : List FuncType) (b c : List ℕ) (vs : List Section) → IsSection s 1 func_type types b → AreSections s 1 vs c → AreSections s 0 vs c
       → ((m : Module) → put_all m vs ≡ m)
-      → (ws : List Section) × AreSections s 0 ws (b ++ c) × (put_all nothing ws ≡ record { types = types })
+      → (ws : List Section) × AreSections s 0 ws (b ++ c) × (put_all nothing ws ≡ of_types types)
   section-rises types b c vs (inl h) k lower puts =
-      let of : List FuncType → Module = λ ts. record { types = ts } in
       let none : b ≡ [] = h.0 in
-      (vs, rw none lower, puts nothing ∙ ap of (sym h.1))
+      (vs, rw none lower, puts nothing ∙ ap of_types (sym h.1))
   section-rises types b c vs (inr h) k lower puts = (
     Types types ∷ vs,
     (1, 1, h.0, c, ap (λ (x : List ℕ). x ++ c) h.1, refl, types-content h.0 types h.2, h.3, k),
-    puts (record { types = types }),
+    puts (of_types types),
   )
 
   pub bin-rises : (x : List ℕ) (m : Module) → BinBy s x m → RisesBy s x m
@@ -74,7 +73,7 @@ module _ (s : Style) where
       (λ n. put-customs t.6.0 n []) in
       let all = behind-customs t.4.0 0 t.0 (t.1 ++ t.2) sec.0 t.4.1 sec.1 in
       let split = t.3 in
-      (h.0, h.1, customs_of t.4.0 sec.0, h.2, h.3, rw split all, sym (put-customs t.4.0 nothing sec.0 ∙ sec.2))
+      (h.0, h.1, customs_of t.4.0 sec.0, h.2, h.3, rw split all, h.5 ∙ sym (put-customs t.4.0 nothing sec.0 ∙ sec.2))
 
   -- an id that may stand is the byte itself
   id-byte : (last x id : ℕ) → id_of last x ≡ Ok id → (x ≡ id) × ((id ≡ 0) ⊎ ((id ≡ 1) × (last < 1)))
@@ -121,7 +120,7 @@ module _ (s : Style) where
       (one.0, λ m. ap (λ (y : Section). put_all (put m y) vs) is ∙ rest.1 m)
 
   first-section : (vs : List Section) (b : List ℕ) → AreSections s 0 vs b
-      → (types : List FuncType) × Then s 1 func_type types (Customs s) b × (put_all nothing vs ≡ record { types = types })
+      → (types : List FuncType) × Then s 1 func_type types (Customs s) b × (put_all nothing vs ≡ of_types types)
   first-section [] b h = ([], ([], [], [], h, (0, refl), inl (refl, refl), (0, refl)), refl)
   first-section (v ∷ vs) b h =
       let i = id-byte 0 h.0 h.1 h.5 in
@@ -142,11 +141,11 @@ module _ (s : Style) where
             let neat = rw is at h.7 in
             let one-byte : h.0 ≡ 1 = i.0 ∙ k.0 in
             let split : b ≡ (1 ∷ h.2) ++ h.3 = h.4 ∙ ap (λ (y : ℕ). y ∷ (h.2 ++ h.3)) one-byte in
-            (t.0, ([], 1 ∷ h.2, h.3, split, (0, refl), inr (h.2, refl, t.2, neat), rest.0), ap (λ (y : Section). put_all (put nothing y) vs) is ∙ rest.1 (record { types = t.0 }))
+            (t.0, ([], 1 ∷ h.2, h.3, split, (0, refl), inr (h.2, refl, t.2, neat), rest.0), ap (λ (y : Section). put_all (put nothing y) vs) is ∙ rest.1 (of_types t.0))
       ]
 
   pub rises-bin : (x : List ℕ) (m : Module) → RisesBy s x m → BinBy s x m
   rises-bin x m h =
       let k = first-section h.2 h.1 h.5 in
       let types-is : m.types ≡ k.0 = ap (λ (n : Module). n.types) (h.6 ∙ k.2) in
-      (h.0, h.1, h.3, h.4, rw types-is k.1)
+      (h.0, h.1, h.3, h.4, rw types-is k.1, h.6 ∙ k.2 ∙ ap of_types (sym types-is))

@@ -8,7 +8,7 @@ use Rattle.wc_binary.specs.Style.{Style, free, canonical}
 use Rattle.wc_binary.specs.Phrase.{Phrase, ◌>>=◌, SpellsBy, Spells, Halt, halt, Stops}
 use Rattle.wc_binary.specs.Values.{exactly, vector, sized}
 use Rattle.wc_binary.specs.Types.{func_type}
-use Rattle.wc_binary.specs.Sections.{custom, id_of, content, after, Stands, nothing, put}
+use Rattle.wc_binary.specs.Sections.{custom, id_of, content, after, Stands, of_types, nothing, put}
 
 -- the magic bytes and the version
 unfoldable pub preamble : Phrase (Unit {0})
@@ -34,7 +34,8 @@ abbrev pub Then : {A : Type 0} → Style → ℕ → Phrase A → List A → (Li
 Then s id p vs Rest b = (a c d : List ℕ) × (b ≡ a ++ (c ++ d)) × Customs s a × IsSection s id p vs c × Rest d
 
 abbrev pub BinBy : Style → List ℕ → Module → Type 0
-BinBy s x m = (a b : List ℕ) × (x ≡ a ++ b) × SpellsBy s preamble a tt × Then s 1 func_type m.types (Customs s) b
+BinBy s x m =
+    (a b : List ℕ) × (x ≡ a ++ b) × SpellsBy s preamble a tt × Then s 1 func_type m.types (Customs s) b × (m ≡ of_types m.types)
 
 -- the bytes spell the module
 abbrev pub Bin : List ℕ → Module → Type 0

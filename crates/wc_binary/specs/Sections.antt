@@ -1,5 +1,6 @@
 -- Sections (Core 1.0, 5.5.2 to 5.5.4), those that are read so far.
 use Rattle.std.specs.Prelude.{◌≡◌, ◌≢◌, ℕ, zero, suc, ◌-◌, nat_lt, ◌==◌, List, [], Option, Some, None, Result, Ok, Err, if◌then◌else◌}
+use Rattle.wc_ast.specs.declared.func_type.FuncType.{FuncType}
 use Rattle.wc_ast.specs.declared.module.Module.{Module}
 use Rattle.wc_binary.specs.declared.section.Section.{Section}
 use Rattle.wc_binary.specs.declared.section.Section.TheVariants.{Custom, Types}
@@ -46,9 +47,24 @@ abbrev pub Stands : Section → Type 0
 Stands Custom = ⊥
 Stands (Types types) = types ≢ []
 
+-- the module of these types, and of nothing else
+abbrev pub of_types : List FuncType → Module
+of_types types = record {
+  types = types;
+  imports = [];
+  funcs = [];
+  tables = [];
+  mems = [];
+  globals = [];
+  exports = [];
+  start = None;
+  elems = [];
+  datas = [];
+}
+
 -- the module of no section
 abbrev pub nothing : Module
-nothing = record { types = [] }
+nothing = of_types []
 
 -- a module with a section's vector in its place
 abbrev pub put : Module → Section → Module

@@ -6,6 +6,7 @@ use Rattle.wc_ast.specs.declared.val_type.ValType.{ValType}
 use Rattle.wc_ast.specs.declared.val_type.ValType.TheVariants.{I32, I64}
 use Rattle.wc_ast.specs.declared.func_type.FuncType.{FuncType}
 use Rattle.wc_ast.specs.declared.module.Module.{Module}
+use Rattle.wc_binary.specs.Sections.{of_types}
 
 -- a count, and the items
 abbrev pub vector_bytes : {A : Type 0} → (A → List ℕ) → List A → List ℕ
@@ -36,7 +37,7 @@ types_section types = section_bytes 1 func_type_bytes types
 abbrev pub module_bytes : Module → List ℕ
 module_bytes m = preamble_bytes ++ types_section m.types
 
--- ---- each count and each size is below 2 ^ 32
+-- ---- each count and each size is below 2 ^ 32, and there are types alone
 
 abbrev pub Anything : {A : Type 0} → A → Type 0
 Anything v = Unit {0}
@@ -64,4 +65,4 @@ abbrev pub FitsTypesSection : List FuncType → Type 0
 FitsTypesSection types = FitsSection func_type_bytes FitsFuncType types
 
 abbrev pub FitsModule : Module → Type 0
-FitsModule m = FitsTypesSection m.types
+FitsModule m = FitsTypesSection m.types × (m ≡ of_types m.types)

@@ -1,6 +1,6 @@
 use Rattle.std.proofs.Common.{refl}
 use Rattle.std.proofs.lemmas.Result.{err_from_is_err_and}
-use Rattle.wc_binary.proofs.Encoding.{module-fails, module-written}
+use Rattle.wc_binary.proofs.Encoding.{module-fails, more-fails, module-written}
 use Rattle.wc_binary.proofs.encoder.encode.Goals as goal
 
 pub returns-in_err-write_type_section : goal.returns-in_err-write_type_section
@@ -13,4 +13,4 @@ returns c =
     let s = c.in_ok-write_type_section.ensures in
     let front = c.in_ok-extend_from_slice.ensures.items in
     let start = c.new-out.ensures.items in
-    module-written c.args.m.now _ c.as_slice.ensures _ s.0 (rw (s.1, front, start) refl)
+    module-written c.args.m.now _ c.as_slice.ensures (c.has_types_alone.ensures.0 c.if-not-has_types_alone.false) _ s.0 (rw (s.1, front, start) refl)

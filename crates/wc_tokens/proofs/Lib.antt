@@ -1,0 +1,14 @@
+pub mod Scans
+pub mod DigitLaws
+pub mod NumberLaws
+pub mod Literals
+pub mod ElementLaws
+pub mod StringLaws
+pub mod CommentLaws
+pub mod StepLaws
+pub mod Exists
+pub mod Unique
+pub mod Utf8Laws
+pub mod LexLaws
+pub mod SpanLaws
+pub mod RunLaws

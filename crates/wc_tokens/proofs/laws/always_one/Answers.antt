@@ -1,0 +1,5 @@
+use Rattle.wc_tokens.proofs.LexLaws.{always-judged}
+use Rattle.wc_tokens.proofs.laws.always_one.Goals as goal
+
+pub returns : goal.returns
+returns c = always-judged

@@ -1,0 +1,5 @@
+use Rattle.wc_tokens.proofs.LexLaws.{Lexes-same}
+use Rattle.wc_tokens.proofs.laws.one_list.Goals as goal
+
+pub returns : goal.returns
+returns c = Lexes-same

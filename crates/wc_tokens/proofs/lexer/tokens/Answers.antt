@@ -1,0 +1,47 @@
+use Rattle.std.proofs.Common.{ℕ, ◌-◌, List, length, subst, sym}
+use Rattle.wc_tokens.specs.Steps.{StepsTo, MayStep}
+use Rattle.wc_tokens.specs.Lexemes.{Lexed}
+use Rattle.wc_tokens.specs.Faults.{Stops}
+use Rattle.wc_tokens.specs.Tokens.{lexemes_of}
+use Rattle.wc_tokens.proofs.LexLaws.{Gap-shorter}
+use Rattle.wc_tokens.proofs.RunLaws.{IsReadTo-start, IsReadTo-gap, IsReadTo-token, StandsIn-token, token-shorter, Lexed-end, InOrder-end, Stops-stuck}
+use Rattle.wc_tokens.proofs.lexer.tokens.Goals as goal
+
+pub loop-step-init : goal.loop-step-init
+loop-step-init c = IsReadTo-start c.args.text.now c.as_bytes-bytes.result.now c.new-items.result.items c.as_bytes-bytes.ensures.value c.new-items.ensures.items
+
+pub loop-step-smaller-in-Gap : goal.loop-step-smaller-in-Gap
+loop-step-smaller-in-Gap c = Gap-shorter (subst (StepsTo c.loop-step.rest.now) c.in-Gap.is (c.in-Some.ensures {u = tt}))
+
+pub loop-step-preserved-in-Gap : goal.loop-step-preserved-in-Gap
+loop-step-preserved-in-Gap c = IsReadTo-gap c.args.text.now c.loop-step.rest.now c.in-Gap.after.now (lexemes_of c.loop-step.items.items) c.loop-step.invariant (subst (StepsTo c.loop-step.rest.now) c.in-Gap.is (c.in-Some.ensures {u = tt}))
+
+pub spanned-requires : goal.spanned-requires
+spanned-requires c = StandsIn-token c.args.text.now c.loop-step.rest.now c.in-Token.after.now (lexemes_of c.loop-step.items.items) c.in-Token.kind c.loop-step.invariant (subst (StepsTo c.loop-step.rest.now) c.in-Token.is (c.in-Some.ensures {u = tt}))
+
+pub loop-step-smaller : goal.loop-step-smaller
+loop-step-smaller c = token-shorter c.in-Token.kind c.loop-step.rest.now c.in-Token.after.now (subst (StepsTo c.loop-step.rest.now) c.in-Token.is (c.in-Some.ensures {u = tt}))
+
+pub loop-step-preserved : goal.loop-step-preserved
+loop-step-preserved c =
+    let text = c.args.text.now in
+    let rest = c.loop-step.rest.now in
+    let after = c.in-Token.after.now in
+    let kind = c.in-Token.kind in
+    let b = subst (StepsTo rest) c.in-Token.is (c.in-Some.ensures {u = tt}) in
+    let stands = StandsIn-token text rest after (lexemes_of c.loop-step.items.items) kind c.loop-step.invariant b in
+    IsReadTo-token text rest after c.loop-step.items.items c.push.new.self.items c.spanned.result kind c.loop-step.invariant b (c.in_ok-push-in-Token.ensures {u = tt}).items c.spanned.ensures.kind (c.spanned.ensures.text stands) c.spanned.ensures.start c.spanned.ensures.stop
+
+pub returns-in-Stuck-clause-fault : goal.returns-in-Stuck-clause-fault
+returns-in-Stuck-clause-fault c =
+    let text = c.args.text.now in
+    let s = Stops-stuck text c.loop-step.rest.now c.in-Stuck.at.now c.in-Stuck.why (lexemes_of c.loop-step.items.items) c.loop-step.invariant (subst (StepsTo c.loop-step.rest.now) c.in-Stuck.is (c.in-Some.ensures {u = tt})) in
+    subst (λ (x : List ℕ). Stops (length text) text (length x - length c.in-Stuck.at.now) c.in-Stuck.why) (sym c.as_bytes-bytes.ensures.value) s
+
+pub new-requires : goal.new-requires
+new-requires c = InOrder-end c.args.text.now c.loop-step.rest.now (lexemes_of c.loop-step.items.items) c.requires c.loop-step.invariant (subst (MayStep c.loop-step.rest.now) c.in_default.is c.next_step.ensures)
+
+pub returns-clause-tokens : goal.returns-clause-tokens
+returns-clause-tokens c =
+    let text = c.args.text.now in
+    subst (Lexed (length text) text) (sym c.new.ensures) (Lexed-end text c.loop-step.rest.now (lexemes_of c.loop-step.items.items) c.loop-step.invariant (subst (MayStep c.loop-step.rest.now) c.in_default.is c.next_step.ensures))

@@ -1,0 +1,11 @@
+pub mod Digits
+pub mod Numbers
+pub mod Strings
+pub mod Elements
+pub mod Gaps
+pub mod Lexemes
+pub mod Faults
+pub mod Comments
+pub mod Steps
+pub mod Tokens
+pub mod Lexing

@@ -1,0 +1,109 @@
+//! The elements of strings (Core 1.0, 6.3.3).
+
+ghost use Rattle.std.specs.Prelude.{◌≡◌, option_map};
+ghost use Rattle.wc_tokens.specs.Strings.{escaped, read_byte, read_unicode, read_escape, read_element, EndsElements};
+ghost use Rattle.wc_tokens.specs.Elements.{taken};
+
+use crate::bytes::behind;
+use crate::digits::{digit_of, digits};
+
+/// What an element of a string stands for.
+#[derive(Clone, Copy)]
+pub enum Meaning {
+    /// One byte.
+    Byte(u8),
+    /// The bytes of a character.
+    Character(char),
+}
+
+/// One element of a string.
+#[derive(Clone, Copy)]
+pub struct Element<'a> {
+    /// What it stands for.
+    pub meaning: Meaning,
+    /// What follows it.
+    pub rest: &'a [u8],
+}
+
+/// What the letter behind a backslash stands for.
+fn escaped(letter: u8) -> Option<u8>
+    ensures { result ≡ escaped letter }
+{
+    match letter {
+        b't' => Some(b'\t'),
+        b'n' => Some(b'\n'),
+        b'r' => Some(b'\r'),
+        b'"' | b'\'' | b'\\' => Some(letter),
+        _ => None,
+    }
+}
+
+/// A byte by its two hexadecimal digits.
+#[tactic(auto, unfolding(crate::specs::Strings::read_byte))]
+fn read_byte(high: u8, text: &[u8]) -> Option<Element<'_>>
+    ensures { option_map taken result ≡ read_byte high text.now }
+{
+    let (low, rest) = text.split_first()?;
+    let (high, low) = (digit_of(high), digit_of(*low));
+    if high < 16 && low < 16 {
+        let meaning = Meaning::Byte((16 * high + low) as u8);
+        return Some(Element { meaning, rest });
+    }
+    None
+}
+
+/// A character by its number in braces.
+#[tactic(auto, unfolding(crate::specs::Strings::read_unicode))]
+fn read_unicode(text: &[u8]) -> Option<Element<'_>>
+    ensures { option_map taken result ≡ read_unicode text.now }
+{
+    let number = behind(text, b'{')?;
+    let run = digits(number, 16)?;
+    let rest = behind(&number[run.len..], b'}')?;
+    let code = u32::try_from(run.value?).ok()?;
+    let meaning = Meaning::Character(char::from_u32(code)?);
+    Some(Element { meaning, rest })
+}
+
+/// What a backslash begins.
+#[tactic(auto, unfolding(crate::specs::Strings::read_escape))]
+fn read_escape(text: &[u8]) -> Option<Element<'_>>
+    ensures { option_map taken result ≡ read_escape text.now }
+{
+    let (letter, rest) = text.split_first()?;
+    match escaped(*letter) {
+        Some(value) => Some(Element {
+            meaning: Meaning::Byte(value),
+            rest,
+        }),
+        None if *letter == b'u' => read_unicode(rest),
+        None => read_byte(*letter, rest),
+    }
+}
+
+/// The element at the front of a text.
+#[tactic(auto, unfolding(crate::specs::Strings::read_element))]
+pub fn read_element(text: &[u8]) -> Option<Element<'_>>
+    ensures { option_map taken result ≡ read_element text.now }
+{
+    let (first, rest) = text.split_first()?;
+    match *first {
+        b'\\' => read_escape(rest),
+        b'"' | 0..=31 | 127 => None,
+        plain => Some(Element {
+            meaning: Meaning::Byte(plain),
+            rest,
+        }),
+    }
+}
+
+/// What follows the elements at the front of a text.
+pub fn after_elements(text: &[u8]) -> &[u8]
+    ensures { EndsElements text.now result.now }
+{
+    let mut rest = text;
+    while let Some(element) = read_element(rest) {
+        rest = element.rest;
+    }
+    rest
+}

@@ -1,0 +1,98 @@
+//! From a text to its tokens.
+
+ghost use Rattle.std.specs.Prelude.{◌≡◌, ◌≤◌, ◌⊎◌, ℕ, List, IfOk, IfErr, IsErrAnd, MatchResult, length};
+ghost use Rattle.wc_tokens.specs.Lexemes.{Lexeme, Lexes, Lexed, place};
+ghost use Rattle.wc_tokens.specs.Faults.{FirstFault};
+ghost use Rattle.wc_tokens.specs.declared.fault.LexWhy.{LexWhy as Reason};
+ghost use Rattle.wc_tokens.specs.Lexing.{IsFault, IsStop, StandsIn};
+
+use crate::fault::{LexFault, LexWhy};
+use crate::steps::{Step, next_step};
+use crate::token::{Token, TokenKind};
+use crate::tokens::Tokens;
+use std::alloc::Global;
+
+/// The most bytes that a text may have.
+const LONGEST: usize = 4_294_967_295;
+
+/// The token that stands in a text before the rest.
+fn spanned<'a>(text: &'a str, kind: TokenKind, here: &[u8], rest: &[u8]) -> Token<'a>
+    requires { StandsIn text.now kind here.now rest.now }
+    ensures kind { result.kind ≡ kind }
+    ensures text { (stands : StandsIn text.now kind here.now rest.now) → result.text.now ≡ stands.part }
+    ensures start { result.start ≡ place (length text.now) here.now }
+    ensures stop { result.stop ≡ place (length text.now) rest.now }
+{
+    let start = text.len() - here.len();
+    let stop = text.len() - rest.len();
+    Token {
+        kind,
+        text: &text[start..stop],
+        start,
+        stop,
+    }
+}
+
+/// The tokens of a text that is short enough.
+fn tokens<'a>(alloc: Global, text: &'a str) -> Result<Tokens<'a>, LexFault>
+    requires { length text.now ≤ 4294967295 }
+    ensures tokens { IfOk result (λ ts. Lexed (length text.now) text.now ts) }
+    ensures fault { IfErr result (λ f. IsStop text.now f) }
+{
+    let bytes = text.as_bytes();
+    let mut items = Vec::new(alloc);
+    let mut rest = bytes;
+    while let Some(step) = next_step(rest) {
+        match step {
+            Step::Gap(after) => rest = after,
+            Step::Token(kind, after) => {
+                items.push(spanned(text, kind, rest, after))?;
+                rest = after;
+            }
+            Step::Stuck(at, why) => {
+                let at = (bytes.len() - at.len()) as u64;
+                return Err(LexFault::Bad { at, why });
+            }
+        }
+    }
+    Ok(Tokens::new(items))
+}
+
+/// The tokens of a text, or its first fault.
+fn tokens_or_fault<'a>(alloc: Global, text: &'a [u8]) -> Result<Tokens<'a>, LexFault>
+    ensures tokens { IfOk result (λ ts. Lexes text.now ts) }
+    ensures fault { IfErr result (λ f. IsFault text.now f) }
+{
+    if text.len() > LONGEST {
+        return Err(LexFault::Bad {
+            at: LONGEST as u64,
+            why: LexWhy::TooLong,
+        });
+    }
+    match simdutf8::compat::from_utf8(text) {
+        Ok(text) => tokens(alloc, text),
+        Err(error) => Err(LexFault::Bad {
+            at: error.valid_up_to() as u64,
+            why: LexWhy::NotUtf8,
+        }),
+    }
+}
+
+/// The tokens of a text, with their spans in bytes (Core 1.0, 6.2 and 6.3).
+///
+/// The text is UTF-8 of at most 4,294,967,295 bytes, and is gaps and tokens in turn. A gap is white space, line
+/// comments and block comments, which nest; a token is as long as possible. Otherwise the answer is the first
+/// fault, in this order: the length, the encoding, and then the first byte at which no whole gap or token
+/// begins, as [`LexWhy`] says. `Memory` comes only where memory was refused.
+pub fn lex<'a>(alloc: Global, text: &'a [u8]) -> Result<Tokens<'a>, LexFault>
+    ensures tokens { IfOk result (λ ts. Lexes text.now ts) }
+    ensures fault { IfErr result (λ f. IsFault text.now f) }
+
+    // So the answer is these tokens exactly where the text has them, and this fault exactly where it is the first.
+    ensures only { (ts : List Lexeme) → Lexes text.now ts
+        → MatchResult result (λ v. v ≡ ts) (λ f. f ≡ LexFault.Memory) }
+    ensures only_fault { (at : ℕ) (why : Reason) → FirstFault text.now at why
+        → IsErrAnd result (λ f. (f ≡ LexFault.Bad at why) ⊎ (f ≡ LexFault.Memory)) }
+{
+    tokens_or_fault(alloc, text)
+}

@@ -1,0 +1,160 @@
+//! What stands at the front of a text: a gap, a token, or a fault.
+
+ghost use Rattle.std.specs.Prelude.{◌≡◌, ℕ, List, ◌∷◌, MatchOption, true};
+ghost use Rattle.wc_tokens.specs.Gaps.{is_blank, Inside};
+ghost use Rattle.wc_tokens.specs.Lexemes.{is_idchar};
+ghost use Rattle.wc_tokens.specs.Steps.{LineEnds, RunEnds, StepsTo, MayStep};
+
+use crate::bytes::behind;
+use crate::elements::after_elements;
+use crate::fault::LexWhy;
+use crate::token::TokenKind;
+
+/// What stands at the front of a text.
+#[derive(Clone, Copy)]
+pub enum Step<'a> {
+    /// A blank or a comment, and what follows it.
+    Gap(&'a [u8]),
+    /// A token, and what follows it.
+    Token(TokenKind, &'a [u8]),
+    /// Nothing whole: the text from the fault on, and its reason.
+    Stuck(&'a [u8], LexWhy),
+}
+
+/// White space (Core 1.0, 6.2.3).
+fn is_blank(byte: u8) -> bool
+    ensures { result ≡ is_blank byte }
+{
+    matches!(byte, b' ' | b'\t' | b'\n' | b'\r')
+}
+
+/// A character of words and identifiers (Core 1.0, 6.3.5).
+#[tactic(auto, unfolding(crate::specs::Lexemes::is_idchar))]
+fn is_idchar(byte: u8) -> bool
+    ensures { result ≡ is_idchar byte }
+{
+    matches!(
+        byte,
+        b'0'..=b'9' | b'A'..=b'Z' | b'a'..=b'z' | b'!' | b'#'..=b'\'' | b'*' | b'+' | b'-'..=b'/' | b':'
+            | b'<'..=b'@' | b'\\' | b'^'..=b'`' | b'|' | b'~'
+    )
+}
+
+/// What follows a line.
+fn after_line(text: &[u8]) -> &[u8]
+    ensures { LineEnds text.now result.now }
+{
+    let mut at = 0;
+    while at < text.len() && text[at] != b'\n' {
+        at += 1;
+    }
+    &text[at..]
+}
+
+/// What follows a block comment whose `(;` stands before the text, if it is closed.
+fn after_comment(text: &[u8]) -> Option<&[u8]>
+    ensures { MatchOption result ((rest : List ℕ) → ¬ (Inside text.now (59 ∷ 41 ∷ rest)))
+        (λ rest. Inside text.now (59 ∷ 41 ∷ rest.now)) }
+{
+    let mut depth = 0usize;
+    let mut at = 0;
+    while at + 1 < text.len() {
+        if text[at] == b'(' && text[at + 1] == b';' {
+            depth += 1;
+            at += 2;
+        } else if text[at] == b';' && text[at + 1] == b')' {
+            if depth == 0 {
+                return Some(&text[at + 2..]);
+            }
+            depth -= 1;
+            at += 2;
+        } else {
+            at += 1;
+        }
+    }
+    None
+}
+
+/// What follows a run of idchars.
+fn after_run(text: &[u8]) -> &[u8]
+    ensures { RunEnds text.now result.now }
+{
+    let mut at = 0;
+    while at < text.len() && is_idchar(text[at]) {
+        at += 1;
+    }
+    &text[at..]
+}
+
+/// A parenthesis or a block comment.
+fn parenthesis<'a>(text: &'a [u8], rest: &'a [u8]) -> Step<'a>
+    requires { text.now ≡ 40 ∷ rest.now }
+    ensures { StepsTo text.now result }
+{
+    let Some(inside) = behind(rest, b';') else {
+        return Step::Token(TokenKind::Open, rest);
+    };
+    match after_comment(inside) {
+        Some(after) => Step::Gap(after),
+        None => Step::Stuck(text, LexWhy::CommentOpen),
+    }
+}
+
+/// A line comment or a lone semicolon.
+fn semicolon<'a>(text: &'a [u8], rest: &'a [u8]) -> Step<'a>
+    requires { text.now ≡ 59 ∷ rest.now }
+    ensures { StepsTo text.now result }
+{
+    match behind(rest, b';') {
+        Some(line) => Step::Gap(after_line(line)),
+        None => Step::Stuck(text, LexWhy::Character),
+    }
+}
+
+/// A string.
+fn string<'a>(text: &'a [u8], rest: &'a [u8]) -> Step<'a>
+    requires { text.now ≡ 34 ∷ rest.now }
+    ensures { StepsTo text.now result }
+{
+    let end = after_elements(rest);
+    if end.is_empty() {
+        return Step::Stuck(text, LexWhy::StringOpen);
+    }
+    match behind(end, b'"') {
+        Some(after) => Step::Token(TokenKind::Str, after),
+        None => Step::Stuck(end, LexWhy::Escape),
+    }
+}
+
+/// A word or an identifier.
+fn run<'a>(text: &'a [u8], first: u8, rest: &'a [u8]) -> Step<'a>
+    requires front { text.now ≡ first ∷ rest.now }
+    requires idchar { is_idchar first ≡ true }
+    ensures { StepsTo text.now result }
+{
+    let after = after_run(rest);
+    if first == b'$' && after.len() < rest.len() {
+        return Step::Token(TokenKind::Id, after);
+    }
+    Step::Token(TokenKind::Word, after)
+}
+
+/// What stands at the front of a text, or `None` at its end.
+pub fn next_step(text: &[u8]) -> Option<Step<'_>>
+    ensures { MayStep text.now result }
+{
+    let (first, rest) = text.split_first()?;
+    if is_idchar(*first) {
+        return Some(run(text, *first, rest));
+    }
+    if is_blank(*first) {
+        return Some(Step::Gap(rest));
+    }
+    match *first {
+        b'(' => Some(parenthesis(text, rest)),
+        b')' => Some(Step::Token(TokenKind::Close, rest)),
+        b';' => Some(semicolon(text, rest)),
+        b'"' => Some(string(text, rest)),
+        _ => Some(Step::Stuck(text, LexWhy::Character)),
+    }
+}
