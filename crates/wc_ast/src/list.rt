@@ -53,11 +53,6 @@ impl<T> List<T> {
         self.items.push(item)
     }
 
-    /// The allocator that the list was made with.
-    pub fn allocator(&self) -> Global {
-        *self.items.allocator()
-    }
-
     /// How many items there are.
     pub fn len(&self) -> usize
         ensures { result ≡ length self.now }

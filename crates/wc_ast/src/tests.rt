@@ -1,5 +1,5 @@
 //! Tests of what no contract says: the tables, sizes, and that calls succeed under ample memory.
 
 mod bodies;
-mod modules;
+mod lists;
 mod opcodes;

@@ -1,3 +1,4 @@
+pub mod ClassLaws
 pub mod Scans
 pub mod DigitLaws
 pub mod NumberLaws

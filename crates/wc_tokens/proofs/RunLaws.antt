@@ -1,16 +1,18 @@
 -- How a whole text is read step by step.
-use Rattle.std.proofs.Common.{◌≡◌, ℕ, ◌-◌, ◌<◌, ◌≤◌, List, [], ◌∷◌, ◌++◌, length, IsUtf8, Result, Ok, Err, IfOk, IfErr, IsErrAnd, MatchResult, refl, sym, ap, subst, ◌∙◌, append_assoc, append-nil, length-append, ◌⊎◌, inl, inr, arith}
+use Rattle.std.proofs.Common.{◌≡◌, ℕ, true, ◌-◌, ◌<◌, ◌≤◌, List, [], ◌∷◌, ◌++◌, length, IsUtf8, Result, Ok, Err, IfOk, IfErr, IsErrAnd, MatchResult, refl, sym, ap, subst, ◌∙◌, append_assoc, append-nil, length-append, ◌⊎◌, inl, inr, arith}
 use Rattle.std.proofs.lemmas.List.{map_push}
+use Rattle.std.specs.List.{AllByRecursion}
 use Rattle.wc_tokens.specs.declared.token.Token.{Token}
 use Rattle.wc_tokens.specs.declared.token.TokenKind.{TokenKind}
 use Rattle.wc_tokens.specs.declared.fault.LexWhy.{LexWhy}
-use Rattle.wc_tokens.specs.Gaps.{Inside, nothing, other, semicolon, parenthesis, comment, Gap, blank, line, block}
+use Rattle.wc_tokens.specs.Gaps.{is_blank, Inside, nothing, other, semicolon, parenthesis, comment, Gap, blank, line, block}
 use Rattle.wc_tokens.specs.Lexemes.{Lexeme, place, spanned, Lexed, ended, gap, token, Lexes, longest}
 use Rattle.wc_tokens.specs.declared.fault.LexFault.{LexFault}
 use Rattle.wc_tokens.specs.declared.fault.LexFault.TheVariants.{Bad, Memory}
 use Rattle.wc_tokens.specs.Faults.{Stuck, Stops, stuck, FirstFault, lexical}
 use Rattle.wc_tokens.specs.Faults as faults
 use Rattle.wc_tokens.specs.Lexing.{StandsIn, IsStop, IsFault}
+use Rattle.wc_tokens.specs.Steps.{BlanksEnd}
 use Rattle.wc_tokens.specs.Tokens.{lexeme_of, lexemes_of, InOrder}
 use Rattle.wc_tokens.proofs.StepLaws.{BeginsToken}
 use Rattle.wc_tokens.proofs.LexLaws.{token-some, Lexes-same, Lexes-FirstFault, FirstFault-same}
@@ -59,6 +61,18 @@ IsReadTo-gap text rest after read r g =
       reads = λ ts h. r.reads ts (gap g h);
       stops = λ at why h. r.stops at why (faults.gap g h);
     }
+
+pub IsReadTo-blanks : (text rest after : List ℕ) (read : List Lexeme) → IsReadTo text rest read → BlanksEnd rest after → IsReadTo text after read
+IsReadTo-blanks text rest after read r b = go b.blanks rest r b.text_is b.all_blank
+  where
+    go : (blanks here : List ℕ) → IsReadTo text here read → here ≡ blanks ++ after → AllByRecursion (λ c. is_blank c ≡ true) blanks → IsReadTo text after read
+    go [] here s e a = subst (λ (t : List ℕ). IsReadTo text t read) e s
+    go (c ∷ blanks) here s e a =
+        let g : Gap here (blanks ++ after) = subst (λ (t : List ℕ). Gap t (blanks ++ after)) (sym e) (blank c a.0) in
+        go blanks (blanks ++ after) (IsReadTo-gap text here (blanks ++ after) read s g) refl a.1
+
+pub blanks-shorter : (rest after : List ℕ) → BlanksEnd rest after → length after ≤ length rest
+blanks-shorter rest after b = omega (arith, ap length b.text_is, length-append b.blanks after)
 
 -- ---- a token
 

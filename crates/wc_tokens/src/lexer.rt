@@ -5,9 +5,10 @@ ghost use Rattle.wc_tokens.specs.Lexemes.{Lexeme, Lexes, Lexed, place};
 ghost use Rattle.wc_tokens.specs.Faults.{FirstFault};
 ghost use Rattle.wc_tokens.specs.declared.fault.LexWhy.{LexWhy as Reason};
 ghost use Rattle.wc_tokens.specs.Lexing.{IsFault, IsStop, StandsIn};
+ghost use Rattle.wc_tokens.specs.declared.token.TokenKind.{TokenKind as Kind};
 
 use crate::fault::{LexFault, LexWhy};
-use crate::steps::{Step, next_step};
+use crate::steps::{Step, after_blanks, next_step};
 use crate::token::{Token, TokenKind};
 use crate::tokens::Tokens;
 use std::alloc::Global;
@@ -15,18 +16,24 @@ use std::alloc::Global;
 /// The most bytes that a text may have.
 const LONGEST: usize = 4_294_967_295;
 
-/// The token that stands in a text before the rest.
-fn spanned<'a>(text: &'a str, kind: TokenKind, here: &[u8], rest: &[u8]) -> Token<'a>
-    requires { StandsIn text.now kind here.now rest.now }
-    ensures kind { result.kind ≡ kind }
-    ensures text { (stands : StandsIn text.now kind here.now rest.now) → result.text.now ≡ stands.part }
+/// Where a token stands in a text.
+#[derive(Clone, Copy)]
+struct Span<'a> {
+    text: &'a str,
+    start: usize,
+    stop: usize,
+}
+
+/// The span of the token that stands in a text before the rest.
+fn span_of<'a>(text: &'a str, here: &[u8], rest: &[u8]) -> Span<'a>
+    requires { (kind : Kind) × StandsIn text.now kind here.now rest.now }
+    ensures text { (kind : Kind) (stands : StandsIn text.now kind here.now rest.now) → result.text.now ≡ stands.part }
     ensures start { result.start ≡ place (length text.now) here.now }
     ensures stop { result.stop ≡ place (length text.now) rest.now }
 {
     let start = text.len() - here.len();
     let stop = text.len() - rest.len();
-    Token {
-        kind,
+    Span {
         text: &text[start..stop],
         start,
         stop,
@@ -41,13 +48,21 @@ fn tokens<'a>(alloc: Global, text: &'a str) -> Result<Tokens<'a>, LexFault>
 {
     let bytes = text.as_bytes();
     let mut items = Vec::new(alloc);
-    let mut rest = bytes;
+    let mut rest = after_blanks(bytes);
     while let Some(step) = next_step(rest) {
         match step {
-            Step::Gap(after) => rest = after,
+            Step::Gap(after) => rest = after_blanks(after),
             Step::Token(kind, after) => {
-                items.push(spanned(text, kind, rest, after))?;
-                rest = after;
+                // With the room there, the token is written straight to its place.
+                items.reserve(1)?;
+                let span = span_of(text, rest, after);
+                items.push_reserved(Token {
+                    kind,
+                    text: span.text,
+                    start: span.start,
+                    stop: span.stop,
+                });
+                rest = after_blanks(after);
             }
             Step::Stuck(at, why) => {
                 let at = (bytes.len() - at.len()) as u64;

@@ -2,6 +2,7 @@
 #![tactic(auto)]
 
 mod bytes;
+mod classes;
 mod digits;
 mod elements;
 mod fault;

@@ -1,11 +1,12 @@
 //! What stands at the front of a text: a gap, a token, or a fault.
 
 ghost use Rattle.std.specs.Prelude.{◌≡◌, ℕ, List, ◌∷◌, MatchOption, true};
-ghost use Rattle.wc_tokens.specs.Gaps.{is_blank, Inside};
+ghost use Rattle.wc_tokens.specs.Gaps.{Inside};
 ghost use Rattle.wc_tokens.specs.Lexemes.{is_idchar};
-ghost use Rattle.wc_tokens.specs.Steps.{LineEnds, RunEnds, StepsTo, MayStep};
+ghost use Rattle.wc_tokens.specs.Steps.{BlanksEnd, LineEnds, RunEnds, StepsTo, MayStep};
 
 use crate::bytes::behind;
+use crate::classes::{is_blank, is_idchar};
 use crate::elements::after_elements;
 use crate::fault::LexWhy;
 use crate::token::TokenKind;
@@ -21,23 +22,15 @@ pub enum Step<'a> {
     Stuck(&'a [u8], LexWhy),
 }
 
-/// White space (Core 1.0, 6.2.3).
-fn is_blank(byte: u8) -> bool
-    ensures { result ≡ is_blank byte }
+/// What follows the blanks at the front of a text.
+pub fn after_blanks(text: &[u8]) -> &[u8]
+    ensures { BlanksEnd text.now result.now }
 {
-    matches!(byte, b' ' | b'\t' | b'\n' | b'\r')
-}
-
-/// A character of words and identifiers (Core 1.0, 6.3.5).
-#[tactic(auto, unfolding(crate::specs::Lexemes::is_idchar))]
-fn is_idchar(byte: u8) -> bool
-    ensures { result ≡ is_idchar byte }
-{
-    matches!(
-        byte,
-        b'0'..=b'9' | b'A'..=b'Z' | b'a'..=b'z' | b'!' | b'#'..=b'\'' | b'*' | b'+' | b'-'..=b'/' | b':'
-            | b'<'..=b'@' | b'\\' | b'^'..=b'`' | b'|' | b'~'
-    )
+    let mut at = 0;
+    while at < text.len() && is_blank(text[at]) {
+        at += 1;
+    }
+    &text[at..]
 }
 
 /// What follows a line.

@@ -6,7 +6,6 @@ use crate::{
 };
 use std::alloc::Global;
 use std::mem::size_of;
-use std::process::Abort;
 use std::test::Fail;
 
 /// A letter for each entry.
@@ -41,12 +40,31 @@ fn letters(alloc: Global, body: &Body) -> Result<Vec<u8>, Fail> {
     Ok(found)
 }
 
+/// A builder with as many open blocks.
 fn nested_blocks(alloc: Global, count: usize) -> Result<BodyBuilder, Fail> {
     let mut builder = BodyBuilder::new(alloc);
     for _ in 0..count {
         builder.push(Entry::Begin(Kind::Block, BlockType::Empty))?;
     }
     Ok(builder)
+}
+
+/// Ends what is open.
+fn ended(mut builder: BodyBuilder) -> Result<Body, Fail> {
+    for _ in 0..builder.depth() {
+        builder.push(Entry::End)?;
+    }
+    Ok(builder.finish()?)
+}
+
+/// Pushes the entries of the letters up to one that is refused, and tells how many were tried, and why no more.
+fn pushed(builder: &mut BodyBuilder, letters: &[u8]) -> (usize, Option<BuildFault>) {
+    for (number, letter) in letters.iter().enumerate() {
+        if let Err(fault) = builder.push(entry(*letter)) {
+            return (number + 1, Some(fault));
+        }
+    }
+    (letters.len(), None)
 }
 
 /// Pushes the entries of the letters; the last one is refused as told, and the body is what the others make.
@@ -67,25 +85,12 @@ const BUILT: [(&[u8], Option<BuildFault>, &[u8]); 12] = [
 
 #[test]
 fn entries_are_kept_or_refused(rt: HostRuntime) -> Result<(), Fail> {
-    for (pushed, refused, kept) in BUILT {
+    for (letters_pushed, refused, kept) in BUILT {
         let mut builder = BodyBuilder::new(rt.alloc());
-        for (number, letter) in pushed.iter().enumerate() {
-            let depth = builder.depth();
-            match builder.push(entry(*letter)) {
-                Ok(()) => {}
-                Err(fault) => {
-                    assert_eq!(rt; Some(fault), refused);
-                    assert_eq!(rt; number + 1, pushed.len());
-                    assert_eq!(rt; builder.depth(), depth);
-                }
-            }
-        }
-        for _ in 0..builder.depth() {
-            builder.push(Entry::End)?;
-        }
-        let body = builder.finish()?;
-        assert_eq!(rt; letters(rt.alloc(), &body)?.as_slice(), kept);
-        assert_eq!(rt; letters(rt.alloc(), &body.try_clone()?)?.as_slice(), kept);
+        let outcome = pushed(&mut builder, letters_pushed);
+        assert_eq!(rt; outcome, (letters_pushed.len(), refused));
+        let copy = ended(builder)?.try_clone()?;
+        assert_eq!(rt; letters(rt.alloc(), &copy)?.as_slice(), kept);
     }
     Ok(())
 }
@@ -93,10 +98,7 @@ fn entries_are_kept_or_refused(rt: HostRuntime) -> Result<(), Fail> {
 #[test]
 fn an_open_block_is_not_finished(rt: HostRuntime) -> Result<(), Fail> {
     let builder = nested_blocks(rt.alloc(), 1)?;
-    match builder.finish() {
-        Ok(_) => assert!(rt; false),
-        Err(fault) => assert_eq!(rt; fault, BuildFault::Mark),
-    }
+    assert_eq!(rt; builder.finish().err(), Some(BuildFault::Mark));
     Ok(())
 }
 
@@ -104,72 +106,41 @@ fn an_open_block_is_not_finished(rt: HostRuntime) -> Result<(), Fail> {
 fn the_deepest_body(rt: HostRuntime) -> Result<(), Fail> {
     assert_eq!(rt; NESTING_LIMIT, 20_000);
     let mut builder = nested_blocks(rt.alloc(), 20_000)?;
-    match builder.push(entry(b'i')) {
-        Ok(()) => assert!(rt; false),
-        Err(fault) => assert_eq!(rt; fault, BuildFault::Depth),
-    }
-    assert_eq!(rt; builder.depth(), 20_000);
-    builder.push(entry(b'p'))?;
-    for _ in 0..20_000 {
-        builder.push(Entry::End)?;
-    }
-    let body = builder.finish()?;
-    let copy = body.try_clone()?;
+    assert_eq!(rt; pushed(&mut builder, b"i"), (1, Some(BuildFault::Depth)));
+    assert_eq!(rt; pushed(&mut builder, b"p"), (1, None));
+    let copy = ended(builder)?.try_clone()?;
     assert_eq!(rt; copy.entries().len(), 40_001);
     Ok(())
 }
 
-fn is_same_table(instr: &Instr, rt: &impl Abort) {
-    match instr {
-        Instr::BrTable(default, labels) => {
-            assert_eq!(rt; *default, 7);
-            assert_eq!(rt; labels.as_slice(), [1, 2, 3].as_slice());
-        }
-        _ => assert!(rt; false),
-    }
+/// Whether an instruction and its copy have the same text for a programmer.
+fn is_copied(alloc: Global, instr: &Instr) -> Result<bool, Fail> {
+    let copy = instr.try_clone()?;
+    let shown = format!(in alloc; "{copy:?}")?;
+    Ok(shown.as_str() == format!(in alloc; "{instr:?}")?.as_str())
 }
 
 #[test]
 fn copies_of_instructions(rt: HostRuntime) -> Result<(), Fail> {
+    let arg = MemArg {
+        align: 3,
+        offset: 8,
+    };
+    assert!(rt; is_copied(rt.alloc(), &Instr::Mem(MemOp::I64Load, arg))?);
+    assert!(rt; is_copied(rt.alloc(), &Instr::Index(IndexOp::Call, 9))?);
+    assert!(rt; is_copied(rt.alloc(), &Instr::CallIndirect(4))?);
+    assert!(rt; is_copied(rt.alloc(), &Instr::I32Const(-1))?);
+    assert!(rt; is_copied(rt.alloc(), &Instr::I64Const(i64::MIN))?);
+    Ok(())
+}
+
+#[test]
+fn labels_give_back_their_memory(rt: HostRuntime) -> Result<(), Fail> {
     let labels = Labels::from_vec(rt.alloc(), vec![in rt.alloc(); 1, 2, 3]?)?;
+    let copy = labels.try_clone()?;
+    assert_eq!(rt; copy.into_vec().as_slice(), [1, 2, 3].as_slice());
     let table = Instr::BrTable(7, labels);
-    is_same_table(&table.try_clone()?, &rt);
-    if let Instr::BrTable(_, labels) = table {
-        assert_eq!(rt; labels.into_vec().as_slice(), [1, 2, 3].as_slice());
-    }
-    let load = Instr::Mem(
-        MemOp::I64Load,
-        MemArg {
-            align: 3,
-            offset: 8,
-        },
-    );
-    assert!(rt;
-        matches!(
-            load.try_clone()?,
-            Instr::Mem(
-                MemOp::I64Load,
-                MemArg {
-                    align: 3,
-                    offset: 8
-                }
-            )
-        )
-    );
-    assert!(rt;
-        matches!(
-            Instr::Index(IndexOp::Call, 9).try_clone()?,
-            Instr::Index(IndexOp::Call, 9)
-        )
-    );
-    assert!(rt; matches!(Instr::CallIndirect(4).try_clone()?, Instr::CallIndirect(4)));
-    assert!(rt; matches!(Instr::I32Const(-1).try_clone()?, Instr::I32Const(-1)));
-    assert!(rt;
-        matches!(
-            Instr::I64Const(i64::MIN).try_clone()?,
-            Instr::I64Const(i64::MIN)
-        )
-    );
+    assert!(rt; is_copied(rt.alloc(), &table)?);
     Ok(())
 }
 

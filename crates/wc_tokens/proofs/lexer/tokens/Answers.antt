@@ -1,26 +1,34 @@
-use Rattle.std.proofs.Common.{ℕ, ◌-◌, List, length, subst, sym}
+use Rattle.std.proofs.Common.{ℕ, ◌-◌, List, [], ◌∷◌, ◌++◌, length, refl, ap, ◌∙◌, subst, sym, arith}
+use Rattle.wc_tokens.specs.declared.token.Token.{Token}
 use Rattle.wc_tokens.specs.Steps.{StepsTo, MayStep}
 use Rattle.wc_tokens.specs.Lexemes.{Lexed}
 use Rattle.wc_tokens.specs.Faults.{Stops}
 use Rattle.wc_tokens.specs.Tokens.{lexemes_of}
 use Rattle.wc_tokens.proofs.LexLaws.{Gap-shorter}
-use Rattle.wc_tokens.proofs.RunLaws.{IsReadTo-start, IsReadTo-gap, IsReadTo-token, StandsIn-token, token-shorter, Lexed-end, InOrder-end, Stops-stuck}
+use Rattle.wc_tokens.proofs.RunLaws.{IsReadTo-start, IsReadTo-gap, IsReadTo-blanks, blanks-shorter, IsReadTo-token, StandsIn-token, token-shorter, Lexed-end, InOrder-end, Stops-stuck}
 use Rattle.wc_tokens.proofs.lexer.tokens.Goals as goal
 
 pub loop-step-init : goal.loop-step-init
-loop-step-init c = IsReadTo-start c.args.text.now c.as_bytes-bytes.result.now c.new-items.result.items c.as_bytes-bytes.ensures.value c.new-items.ensures.items
+loop-step-init c = IsReadTo-blanks c.args.text.now c.as_bytes-bytes.result.now c.after_blanks-rest.result.now (lexemes_of c.new-items.result.items) (IsReadTo-start c.args.text.now c.as_bytes-bytes.result.now c.new-items.result.items c.as_bytes-bytes.ensures.value c.new-items.ensures.items) c.after_blanks-rest.ensures
 
 pub loop-step-smaller-in-Gap : goal.loop-step-smaller-in-Gap
-loop-step-smaller-in-Gap c = Gap-shorter (subst (StepsTo c.loop-step.rest.now) c.in-Gap.is (c.in-Some.ensures {u = tt}))
+loop-step-smaller-in-Gap c =
+    let shorter = Gap-shorter (subst (StepsTo c.loop-step.rest.now) c.in-Gap.is (c.in-Some.ensures {u = tt})) in
+    omega (arith, shorter, blanks-shorter c.in-Gap.after.now c.after_blanks-rest-in-Gap.result.now c.after_blanks-rest-in-Gap.ensures)
 
 pub loop-step-preserved-in-Gap : goal.loop-step-preserved-in-Gap
-loop-step-preserved-in-Gap c = IsReadTo-gap c.args.text.now c.loop-step.rest.now c.in-Gap.after.now (lexemes_of c.loop-step.items.items) c.loop-step.invariant (subst (StepsTo c.loop-step.rest.now) c.in-Gap.is (c.in-Some.ensures {u = tt}))
-
-pub spanned-requires : goal.spanned-requires
-spanned-requires c = StandsIn-token c.args.text.now c.loop-step.rest.now c.in-Token.after.now (lexemes_of c.loop-step.items.items) c.in-Token.kind c.loop-step.invariant (subst (StepsTo c.loop-step.rest.now) c.in-Token.is (c.in-Some.ensures {u = tt}))
+loop-step-preserved-in-Gap c =
+    let text = c.args.text.now in
+    let after = c.in-Gap.after.now in
+    let read = lexemes_of c.loop-step.items.items in
+    let r = IsReadTo-gap text c.loop-step.rest.now after read c.loop-step.invariant (subst (StepsTo c.loop-step.rest.now) c.in-Gap.is (c.in-Some.ensures {u = tt})) in
+    IsReadTo-blanks text after c.after_blanks-rest-in-Gap.result.now read r c.after_blanks-rest-in-Gap.ensures
 
 pub loop-step-smaller : goal.loop-step-smaller
-loop-step-smaller c = token-shorter c.in-Token.kind c.loop-step.rest.now c.in-Token.after.now (subst (StepsTo c.loop-step.rest.now) c.in-Token.is (c.in-Some.ensures {u = tt}))
+loop-step-smaller c =
+    let after = c.in-Token.after.now in
+    let shorter = token-shorter c.in-Token.kind c.loop-step.rest.now after (subst (StepsTo c.loop-step.rest.now) c.in-Token.is (c.in-Some.ensures {u = tt})) in
+    omega (arith, shorter, blanks-shorter after c.after_blanks-rest-in-Token.result.now c.after_blanks-rest-in-Token.ensures)
 
 pub loop-step-preserved : goal.loop-step-preserved
 loop-step-preserved c =
@@ -30,7 +38,10 @@ loop-step-preserved c =
     let kind = c.in-Token.kind in
     let b = subst (StepsTo rest) c.in-Token.is (c.in-Some.ensures {u = tt}) in
     let stands = StandsIn-token text rest after (lexemes_of c.loop-step.items.items) kind c.loop-step.invariant b in
-    IsReadTo-token text rest after c.loop-step.items.items c.push.new.self.items c.spanned.result kind c.loop-step.invariant b (c.in_ok-push-in-Token.ensures {u = tt}).items c.spanned.ensures.kind (c.spanned.ensures.text stands) c.spanned.ensures.start c.spanned.ensures.stop
+    let t : Token = record { kind = kind; text = c.span_of-span.result.text; start = c.span_of-span.result.start; stop = c.span_of-span.result.stop } in
+    let items = c.push_reserved.ensures.items ∙ ap (λ (ts : List Token). ts ++ t ∷ []) c.reserve.ensures.items in
+    let r = IsReadTo-token text rest after c.loop-step.items.items c.push_reserved.new.self.items t kind c.loop-step.invariant b items refl (c.span_of-span.ensures.text kind stands) c.span_of-span.ensures.start c.span_of-span.ensures.stop in
+    IsReadTo-blanks text after c.after_blanks-rest-in-Token.result.now (lexemes_of c.push_reserved.new.self.items) r c.after_blanks-rest-in-Token.ensures
 
 pub returns-in-Stuck-clause-fault : goal.returns-in-Stuck-clause-fault
 returns-in-Stuck-clause-fault c =
