@@ -7,7 +7,6 @@ use Rattle.wc_ast.specs.declared.module.Module.{Module}
 use Rattle.wc_binary.specs.declared.fault.BinFault.{BinFault}
 use Rattle.wc_binary.specs.declared.fault.BinFault.TheVariants.{Bad, Read, Memory}
 use Rattle.wc_binary.specs.Source.{Input, IsEnded}
-use Rattle.wc_binary.specs.Module.{Bin, FirstFault, StopB}
 use Rattle.wc_binary.specs.Decoding.{Decodes, ModuleGives}
 
 -- an input of which `pending` lies before what the reader tells

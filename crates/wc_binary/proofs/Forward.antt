@@ -1,5 +1,5 @@
 -- Reading goes forward.
-use Rattle.std.proofs.Common.{◌≡◌, ℕ, zero, suc, ◌+◌, ◌-◌, ◌≤◌, List, [], ◌∷◌, ◌++◌, length, Bool, true, false, Result, Ok, Err, refl, sym, ap, subst, ◌∙◌, arith}
+use Rattle.std.proofs.Common.{◌≡◌, ℕ, zero, suc, ◌+◌, ◌-◌, ◌≤◌, List, length, Bool, true, false, Ok, refl, sym, ap, ◌∙◌, arith}
 use Rattle.std.specs.Prelude.{IsUtf8}
 use Rattle.std.specs.Str.{is_utf8}
 use Rattle.std.specs.Str.Lossy.{utf8_valid_len}
@@ -7,13 +7,12 @@ use Rattle.std.proofs.lemmas.Str.{IsUtf8-from_is_utf8, is_utf8-from_IsUtf8, utf8
 use Rattle.std.proofs.lemmas.List.{append-nil}
 use Rattle.wc_binary.specs.declared.fault.BinWhy.TheVariants.{NotUtf8}
 use Rattle.wc_binary.specs.Phrase.{Phrase, Spells}
-use Rattle.wc_binary.specs.Reading.{Got, got, fault, ◌and_then◌, judge_at, read}
-use Rattle.wc_binary.specs.Values.{times, any_byte, name, utf8_fault, u32}
+use Rattle.wc_binary.specs.Reading.{got, fault, read}
+use Rattle.wc_binary.specs.Values.{times, any_byte, name, u32}
 use Rattle.wc_binary.specs.declared.fault.BinFault.{BinFault}
 use Rattle.wc_binary.specs.declared.fault.BinFault.TheVariants.{Bad, Read, Memory}
 use Rattle.wc_binary.specs.Source.{Input, Fails, Gave}
 use Rattle.wc_binary.proofs.Going.{GoesOn-trans, ReadFailed-behind}
-use Rattle.wc_binary.proofs.Told.{IsTold}
 use Rattle.wc_binary.proofs.Laws.{read-told}
 
 pub read_forward : {A : Type 0} (p : Phrase A) (o : ℕ) (x : List ℕ) (v : A) (q : ℕ) (y : List ℕ) → read p o x ≡ got v q y → o ≤ q

@@ -1,5 +1,5 @@
 -- Reading goes on from place to place of one device.
-use Rattle.std.proofs.Common.{◌≡◌, ℕ, ◌≤◌, refl, ◌∙◌, arith}
+use Rattle.std.proofs.Common.{ℕ, refl, ◌∙◌, arith}
 use Rattle.wc_binary.specs.Source.{Input, GoesOn, ReadFailed}
 
 pub GoesOn-refl : (i : Input) → GoesOn i i

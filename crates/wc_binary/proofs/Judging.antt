@@ -1,22 +1,30 @@
 -- What a style says of the bytes that it admits beside the canonical ones: that they are these, or that they are these or longer.
+use Rattle.std.specs.Prelude.{ℤ}
 use Rattle.std.proofs.Common.{◌≡◌, ℕ, ◌^◌, ◌<◌, ◌≤◌, List, ◌++◌, length, inl, inr, refl, ap, arith}
 use Rattle.std.proofs.lemmas.List.{length-append}
-use Rattle.wc_leb128.specs.Integers.{U}
-use Rattle.wc_leb128.specs.Shortest.{unsigned_bytes}
+use Rattle.wc_leb128.specs.Integers.{U, S}
+use Rattle.wc_leb128.specs.Shortest.{unsigned_bytes, signed_bytes, HoldsSigned}
+use Rattle.wc_leb128.proofs.SignedLaws.{spelled-holds}
+use Rattle.wc_leb128.proofs.SignedShortest.{signed_bytes-spelled, signed_bytes-only, signed_bytes-or_longer}
 use Rattle.wc_leb128.proofs.UnsignedLaws.{spelled-below}
 use Rattle.wc_leb128.proofs.UnsignedShortest.{unsigned_bytes-spelled, unsigned_bytes-only, unsigned_bytes-or_longer}
 use Rattle.wc_leb128.proofs.Lengths.{length-unsigned_bytes-mono}
 use Rattle.wc_binary.specs.Style.{Style, free, canonical, IsShortest}
 use Rattle.wc_binary.specs.Module.{IsOrLonger}
 
-pub shortest-only : (N : ℕ) (b : List ℕ) (n : ℕ) → IsShortest N b n → b ≡ unsigned_bytes n
+pub shortest-only : (N : ℕ) (b : List ℕ) (n : ℕ) → IsShortest U N b n → b ≡ unsigned_bytes n
 shortest-only N b n h = unsigned_bytes-only N n b h.0 (h.1 (unsigned_bytes n) (unsigned_bytes-spelled N n (spelled-below N b n h.0)))
+
+pub shortest-signed-only : (N : ℕ) (b : List ℕ) (z : ℤ) → IsShortest S N b z → b ≡ signed_bytes z
+shortest-signed-only N b z h =
+    signed_bytes-only N z b h.0 (h.1 (signed_bytes z) (signed_bytes-spelled N z (spelled-holds N b z h.0)))
 
 -- `V c b`: what c is to the canonical bytes b
 pub record Judges (s : Style) (V : List ℕ → List ℕ → Type 0) : Type 1 where
   pub same : (b : List ℕ) → V b b
   pub join : (a c x y : List ℕ) → V a x → V c y → V (a ++ c) (x ++ y)
   pub integer : (b : List ℕ) (n : ℕ) → s.Integer 32 b n → (n < 2 ^ 32) × V b (unsigned_bytes n)
+  pub signed : (N : ℕ) (b : List ℕ) (z : ℤ) → s.Signed N b z → HoldsSigned N z × V b (signed_bytes z)
   -- content and its size before it
   pub size : (a c x : List ℕ) → s.Integer 32 a (length c) → V c x → (length x < 2 ^ 32) × V (a ++ c) (unsigned_bytes (length x) ++ x)
   -- a liberty that is taken, and makes the bytes longer
@@ -29,6 +37,7 @@ exact = record {
   same = λ b. refl;
   join = λ a c x y e f. rw (e, f) refl;
   integer = λ b n h. (spelled-below 32 b n h.0, shortest-only 32 b n h);
+  signed = λ N b z h. (spelled-holds N b z h.0, shortest-signed-only N b z h);
   size = λ a c x h e.
       let lt = spelled-below 32 a (length c) h.0 in
       let first = shortest-only 32 a (length c) h in
@@ -67,6 +76,7 @@ no_shorter = record {
   same = λ b. inl refl;
   join = shorter-join;
   integer = shorter-number;
+  signed = λ N b z h. (spelled-holds N b z h, signed_bytes-or_longer N z b h);
   size = shorter-size;
   liberty = λ P c b n no lt. inr lt;
   equal = λ c b e. inl e;

@@ -1,11 +1,14 @@
 -- Reading answers what a phrase's relations say, for each way of building; so the laws hold of every phrase.
-use Rattle.std.proofs.Common.{◌≡◌, ◌≢◌, ℕ, zero, suc, ◌+◌, ◌-◌, ◌<◌, ◌≤◌, List, [], ◌∷◌, ◌++◌, length, Option, Some, None, Result, Ok, Err, ◌⊎◌, inl, inr, refl, sym, ap, subst, ◌∙◌, append_assoc, add_assoc, add-zero, arith}
-use Rattle.std.proofs.lemmas.List.{length-append, append-nil}
+use Rattle.std.proofs.Common.{◌≡◌, Bool, true, false, if◌then◌else◌, ℕ, ◌+◌, ◌-◌, List, [], ◌∷◌, ◌++◌, length, Option, Some, None, Result, Ok, Err, inl, inr, refl, sym, ap, subst, ◌∙◌, append_assoc, add_assoc, add-zero, arith}
+use Rattle.std.proofs.lemmas.List.{length-append}
+use Rattle.std.specs.Prelude.{ℤ}
+use Rattle.wc_leb128.specs.Integers.{S}
 use Rattle.wc_binary.specs.declared.fault.BinWhy.{BinWhy}
-use Rattle.wc_binary.specs.declared.fault.BinWhy.TheVariants.{End}
-use Rattle.wc_binary.specs.Phrase.{Halt, halt, Phrase, gives, byte, unsigned, ◌>>=◌, judged, measured, Spells, Stops}
-use Rattle.wc_binary.specs.Reading.{Got, got, fault, ◌and_then◌, byte_or, byte_at, judge_at, read}
+use Rattle.wc_binary.specs.Phrase.{Halt, halt, Phrase, gives, byte, unsigned, signed, ◌>>=◌, judged, measured, byte_or_signed, neat, expression, Spells, Stops, StopsEither}
+use Rattle.wc_binary.specs.Reading.{Got, got, ◌and_then◌, byte_or, byte_at, signed_at, either_at, judge_at, read}
 use Rattle.wc_binary.proofs.Told.{IsTold}
+use Rattle.wc_binary.proofs.Signed.{signed-told, signed-spelled, signed-stopped}
+use Rattle.wc_binary.proofs.Expressions.{expression-told, expression-spelled, expression-stopped}
 use Rattle.wc_binary.proofs.Unsigned.{unsigned-told, unsigned-spelled, unsigned-stopped}
 
 byte_or-told : {A : Type 0} (table : ℕ → Result A BinWhy) (o b : ℕ) (x : List ℕ) (r : Result A BinWhy) → table b ≡ r → IsTold (byte table) o (b ∷ x) (byte_or o x r)
@@ -43,20 +46,65 @@ measured-told p o x (Ok g) h =
     (h.0, h.1, (g.value, h.2, ap (λ (k : ℕ). (k, g.value)) n), h.3)
 measured-told p o x (Err e) h = h
 
+-- one byte, or an integer
+module _ {A : Type 0} (test : ℕ → Bool) (table : ℕ → Result A BinWhy) (N : ℕ) (make : ℤ → A) where
+  short-told : (o b : ℕ) (x : List ℕ) → test b ≡ true → (r : Result A BinWhy) → table b ≡ r → IsTold (byte_or_signed test table N make) o (b ∷ x) (byte_or o x r)
+  short-told o b x e (Ok v) t = (b ∷ [], refl, (b, [], refl, inl (e, refl, t)), refl)
+  short-told o b x e (Err r) t = inl (e, r, t, refl)
+
+  whole-told : (o b : ℕ) (x : List ℕ) → test b ≡ false → (r : Result (Got ℤ) Halt) → IsTold (signed N) o (b ∷ x) r
+      → IsTold (byte_or_signed test table N make) o (b ∷ x) (r and_then λ m. got (make m.value) m.place m.left)
+  whole-told o b x e (Ok g) h = go h.0 h.1 h.2 h.3
+    where
+      go : (c : List ℕ) → b ∷ x ≡ c ++ g.left → S N c g.value → g.place ≡ o + length c → IsTold (byte_or_signed test table N make) o (b ∷ x) (got (make g.value) g.place g.left)
+      go [] s k p = absurd k
+      go (y ∷ c) s k p = let same : b ≡ y = cc in (y ∷ c, s, (y, c, refl, inr (rw same at e, g.value, k, refl)), p)
+  whole-told o b x e (Err f) h = inr (e, h)
+
+  either-told : (o : ℕ) (x : List ℕ) → IsTold (byte_or_signed test table N make) o x (either_at test table N make o x)
+  either-told o [] = refl
+  either-told o (b ∷ x) = go (test b) refl
+    where
+      go : (t : Bool) → test b ≡ t → IsTold (byte_or_signed test table N make) o (b ∷ x) (if t then byte_or o x (table b) else (signed_at N o (b ∷ x) and_then λ m. got (make m.value) m.place m.left))
+      go true e = short-told o b x e (table b) refl
+      go false e = whole-told o b x e (signed_at N o (b ∷ x)) (signed-told N o (b ∷ x))
+
+  either-spelled : (o : ℕ) (a y : List ℕ) (v : A) → Spells (byte_or_signed test table N make) a v → either_at test table N make o (a ++ y) ≡ got v (o + length a) y
+  either-spelled o a y v h =
+      let split = h.2 in
+      elim h.3 [
+        | inl s ↦ rw (split, s.1, s.0, s.2) refl
+        | inr s ↦ rw split (rw (s.0, signed-spelled N o (h.0 ∷ h.1) y s.1 s.2, s.3) refl)
+      ]
+
+  either-stopped : (o : ℕ) (x : List ℕ) (f : Halt) → StopsEither test table N o x f → either_at test table N make o x ≡ Err f
+  either-stopped o [] f h = rw h refl
+  either-stopped o (b ∷ x) f (inl h) = rw (h.0, h.2, h.3) refl
+  either-stopped o (b ∷ x) f (inr h) = rw (h.0, signed-stopped N o (b ∷ x) f h.1) refl
+
+neat-told : {A : Type 0} (p : Phrase A) (Q : A → Type 0) (o : ℕ) (x : List ℕ) (r : Result (Got A) Halt) → IsTold p o x r → IsTold (neat p Q) o x r
+neat-told p Q o x (Ok g) h = (h.0, h.1, (h.2, tt), h.3)
+neat-told p Q o x (Err e) h = h
+
 -- what is read is spelled so, and where reading stops the phrase stops
 pub read-told : {A : Type 0} (p : Phrase A) (o : ℕ) (x : List ℕ) → IsTold p o x (read p o x)
 read-told (gives v) o x = ([], refl, (refl, refl), omega arith)
 read-told (byte table) o x = byte-told table o x
 read-told (unsigned N) o x = unsigned-told N o x
+read-told (signed N) o x = signed-told N o x
 read-told (p >>= f) o x = then-told p f o x (read p o x) (read-told p o x) (λ g. read-told (f g.value) g.place g.left)
 read-told (judged p judge) o x = judged-told p judge o x (read p o x) (read-told p o x)
 read-told (measured p) o x = measured-told p o x (read p o x) (read-told p o x)
+read-told (byte_or_signed test table N make) o x = either-told test table N make o x
+read-told (neat p Q) o x = neat-told p Q o x (read p o x) (read-told p o x)
+read-told (expression table f h) o x = expression-told table f h (λ u q y. read-told (f u) q y) (λ q y. read-told h q y) o x
 
 -- what is spelled is read, whatever follows
 pub spells-read : {A : Type 0} (p : Phrase A) (o : ℕ) (a y : List ℕ) (v : A) → Spells p a v → read p o (a ++ y) ≡ got v (o + length a) y
 spells-read (gives w) o a y v h = rw (h.0, h.1, add-zero) refl
 spells-read (byte table) o a y v h = rw (h.1, h.2) refl
 spells-read (unsigned N) o a y v h = unsigned-spelled N o a y v h
+spells-read (signed N) o a y v h = signed-spelled N o a y v h
 spells-read (◌>>=◌ {A} p f) o a y v h =
     let first : read p o (h.0 ++ (h.1 ++ y)) ≡ got h.2 (o + length h.0) (h.1 ++ y) = spells-read p o h.0 (h.1 ++ y) h.2 h.4 in
     let second : read (f h.2) (o + length h.0) (h.1 ++ y) ≡ got v (o + length h.0 + length h.1) y = spells-read (f h.2) (o + length h.0) h.1 y v h.5 in
@@ -65,6 +113,10 @@ spells-read (judged p judge) o a y v h = rw (spells-read p o a y v h.0, h.1) ref
 spells-read (measured p) o a y v h =
     let n : o + length a - o ≡ length a = omega arith in
     rw (spells-read p o a y h.0 h.1, n, h.2) refl
+spells-read (byte_or_signed test table N make) o a y v h = either-spelled test table N make o a y v h
+spells-read (neat p Q) o a y v h = spells-read p o a y v h.0
+spells-read (expression table f h) o a y v k =
+    expression-spelled table f h (λ u q b z w s. spells-read (f u) q b z w s) (λ q b z w s. spells-read h q b z w s) o a y v k
 
 -- where the phrase stops, reading stops
 pub stops-read : {A : Type 0} (p : Phrase A) (o : ℕ) (x : List ℕ) (f : Halt) → Stops p o x f → read p o x ≡ Err f
@@ -72,6 +124,7 @@ stops-read (gives w) o x f h = absurd h
 stops-read (byte table) o [] f h = rw h refl
 stops-read (byte table) o (b ∷ x) f h = rw (h.1, h.2) refl
 stops-read (unsigned N) o x f h = unsigned-stopped N o x f h
+stops-read (signed N) o x f h = signed-stopped N o x f h
 stops-read (p >>= k) o x f h =
     elim h [
       | inl s ↦ rw (stops-read p o x f s) refl
@@ -83,6 +136,11 @@ stops-read (judged p judge) o x f h =
       | inr s ↦ rw (s.4, spells-read p o s.0 s.1 s.2 s.5, s.6, s.7) refl
     ]
 stops-read (measured p) o x f h = rw (stops-read p o x f h) refl
+stops-read (byte_or_signed test table N make) o x f h = either-stopped test table N make o x f h
+stops-read (neat p Q) o x f h = stops-read p o x f h
+stops-read (expression table p h) o x f k =
+    expression-stopped table p h (λ u q b z w s. spells-read (p u) q b z w s) (λ q b z w s. spells-read h q b z w s)
+    (λ u q z t s. stops-read (p u) q z t s) (λ q z t s. stops-read h q z t s) o x f k
 
 -- ---- the laws
 

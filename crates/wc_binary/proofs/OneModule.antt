@@ -1,21 +1,24 @@
 -- An input is one module, or stops at one place for one reason.
-use Rattle.std.proofs.Common.{◌≡◌, ℕ, ◌+◌, List, [], ◌∷◌, ◌++◌, length, Result, Ok, Err, ◌⊎◌, inl, inr, refl, sym, ap, subst, ◌∙◌, append_assoc, add-zero, zero-add, arith}
-use Rattle.std.proofs.lemmas.List.{length-append, append-nil}
+use Rattle.std.proofs.Common.{◌≡◌, ℕ, ◌+◌, List, [], ◌∷◌, ◌++◌, length, Ok, Err, ◌⊎◌, inl, inr, refl, sym, ap, subst, ◌∙◌, append_assoc, arith}
+use Rattle.std.proofs.lemmas.List.{length-append}
 use Rattle.wc_binary.specs.declared.fault.BinWhy.{BinWhy}
-use Rattle.wc_binary.specs.Phrase.{Halt, halt, Phrase, Spells, Stops}
+use Rattle.wc_binary.specs.Phrase.{Halt, halt, Spells, Stops}
 use Rattle.wc_ast.specs.declared.module.Module.{Module}
 use Rattle.wc_binary.specs.declared.section.Section.{Section}
+use Rattle.wc_binary.specs.declared.section.SectionKind.{SectionKind}
 use Rattle.wc_binary.specs.Style.{free}
 use Rattle.wc_binary.specs.Sections.{id_of, content, after, nothing}
-use Rattle.wc_binary.specs.Module.{preamble, reached, AreSections, StopsSections, put_all, RisesBy, StopB}
+use Rattle.wc_binary.specs.Module.{preamble, parts_of, reached, AreSections, StopsSections, StopsCounts, put_all, RisesBy, StopB}
+use Rattle.wc_binary.specs.declared.parts.Parts.{Parts}
+use Rattle.wc_binary.proofs.PartsLaws.{module-known, counts-agree}
 use Rattle.wc_binary.proofs.Laws.{one-spelled, spelled-or-stopped, one-stop}
 
 -- where a section that may begin here stops
 abbrev StopsAt : ℕ → ℕ → ℕ → List ℕ → Halt → Type 0
-StopsAt last p x c f = ((r : BinWhy) × (id_of last x ≡ Err r) × (f ≡ halt p r (p + 1))) ⊎ ((id : ℕ) × (id_of last x ≡ Ok id) × Stops (content id) (p + 1) c f)
+StopsAt last p x c f = ((r : BinWhy) × (id_of last x ≡ Err r) × (f ≡ halt p r (p + 1))) ⊎ ((id : SectionKind) × (id_of last x ≡ Ok id) × Stops (content id) (p + 1) c f)
 
 -- the first section of two readings is one
-same-first : (last x y i j : ℕ) (a b c d : List ℕ) (s t : Section) → x ∷ (a ++ c) ≡ y ∷ (b ++ d) → id_of last x ≡ Ok i → id_of last y ≡ Ok j → Spells (content i) a s → Spells (content j) b t
+same-first : (last x y : ℕ) (i j : SectionKind) (a b c d : List ℕ) (s t : Section) → x ∷ (a ++ c) ≡ y ∷ (b ++ d) → id_of last x ≡ Ok i → id_of last y ≡ Ok j → Spells (content i) a s → Spells (content j) b t
     → (a ≡ b) × (s ≡ t) × (c ≡ d)
 same-first last x y i j a b c d s t e hi hj h k =
     let heads : x ≡ y = cc in
@@ -29,7 +32,7 @@ same-first last x y i j a b c d s t e hi hj h k =
     same-rest [] c d e = e
     same-rest (x ∷ b) c d e = same-rest b c d (let f : b ++ c ≡ b ++ d = cc in f)
 
-no-first : (last p x y i : ℕ) (a c d : List ℕ) (s : Section) (f : Halt) → x ∷ (a ++ c) ≡ y ∷ d → id_of last x ≡ Ok i → Spells (content i) a s → StopsAt last p y d f → ⊥
+no-first : (last p x y : ℕ) (i : SectionKind) (a c d : List ℕ) (s : Section) (f : Halt) → x ∷ (a ++ c) ≡ y ∷ d → id_of last x ≡ Ok i → Spells (content i) a s → StopsAt last p y d f → ⊥
 no-first last p x y i a c d s f e hi h (inl k) = let heads : x ≡ y = cc in let w = k.1 in cc
 no-first last p x y i a c d s f e hi h (inr k) =
     let heads : x ≡ y = cc in
@@ -112,14 +115,30 @@ pub rises-one : (x : List ℕ) (m n : Module) → RisesBy free x m → RisesBy f
 rises-one x m n h k =
     let f = fronts x h.0 h.1 k.0 k.1 h.3 k.3 h.4 k.4 in
     let s = same-sections 0 h.2 k.2 h.1 k.1 f.1 h.5 k.5 in
-    h.6 ∙ ap (put_all nothing) s ∙ sym k.6
+    module-known m n (sym h.6 ∙ ap (put_all nothing) s ∙ k.6)
+
+-- sections that are all of a module tell as many functions as codes
+rises-or-counts : (o : ℕ) (b : List ℕ) (m : Module) (ss : List Section) (f : Halt) → AreSections free 0 ss b → put_all nothing ss ≡ parts_of m → StopsCounts o b f → ⊥
+rises-or-counts o b m ss f h e k =
+    let s = same-sections 0 ss k.0 b b refl h k.1 in
+    let p : put_all nothing k.0 ≡ parts_of m = ap (put_all nothing) (sym s) ∙ e in
+    k.2 (ap (λ (q : Parts). length q.func_types) p ∙ counts-agree m ∙ sym (ap (λ (q : Parts). length q.codes) p))
 
 pub rises-or-stop : (x : List ℕ) (m : Module) (f : Halt) → RisesBy free x m → StopB x f → ⊥
 rises-or-stop x m f h (inl k) = let e = h.3 in spelled-or-stopped {A = Unit {0}} preamble 0 h.0 h.1 tt f h.4 (rw e at k)
 rises-or-stop x m f h (inr k) =
     let w = fronts x h.0 h.1 k.0 k.1 h.3 k.2 h.4 k.3 in
-    let s = k.4 in
-    sections-or-stop f 0 (length k.0) h.2 s.0 h.1 s.1 s.2 s.3 h.5 (w.1 ∙ s.4) s.5 s.6
+    elim k.4 [
+      | inl s ↦ sections-or-stop f 0 (length k.0) h.2 s.0 h.1 s.1 s.2 s.3 h.5 (w.1 ∙ s.4) s.5 s.6
+      | inr s ↦ rises-or-counts (length k.0) k.1 m h.2 f (subst (λ (b : List ℕ). AreSections free 0 h.2 b) w.1 h.5) h.6 s
+    ]
+
+-- behind one preamble there is one fault
+one-behind : (o : ℕ) (b : List ℕ) (f g : Halt) → StopsSections 0 o b f ⊎ StopsCounts o b f → StopsSections 0 o b g ⊎ StopsCounts o b g → f ≡ g
+one-behind o b f g (inl m) (inl n) = one-place f g 0 o m.0 n.0 m.1 m.2 n.1 n.2 m.3 n.3 (sym m.4 ∙ n.4) m.5 n.5 m.6 n.6
+one-behind o b f g (inl m) (inr n) = absurd (sections-or-stop f 0 o n.0 m.0 b m.1 m.2 m.3 n.1 m.4 m.5 m.6)
+one-behind o b f g (inr m) (inl n) = absurd (sections-or-stop g 0 o m.0 n.0 b n.1 n.2 n.3 m.1 n.4 n.5 n.6)
+one-behind o b f g (inr m) (inr n) = m.3 ∙ sym n.3
 
 pub one-fault : (x : List ℕ) (f g : Halt) → StopB x f → StopB x g → f ≡ g
 one-fault x f g (inl h) (inl k) = one-stop {A = Unit {0}} preamble 0 x f g h k
@@ -127,7 +146,6 @@ one-fault x f g (inl h) (inr k) = let e = k.2 in absurd (spelled-or-stopped {A =
 one-fault x f g (inr h) (inl k) = let e = h.2 in absurd (spelled-or-stopped {A = Unit {0}} preamble 0 h.0 h.1 tt g h.3 (rw e at k))
 one-fault x f g (inr h) (inr k) =
     let w = fronts x h.0 h.1 k.0 k.1 h.2 k.2 h.3 k.3 in
-    let m = h.4 in
-    let n = k.4 in
     let front = w.0 in
-    one-place f g 0 (length k.0) m.0 n.0 m.1 m.2 n.1 n.2 m.3 n.3 (sym m.4 ∙ w.1 ∙ n.4) m.5 n.5 (rw front at m.6) n.6
+    let behind = w.1 in
+    one-behind (length k.0) k.1 f g (rw (front, behind) at h.4) k.4

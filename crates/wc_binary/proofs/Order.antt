@@ -1,151 +1,139 @@
 -- Sections in their order, with custom sections anywhere between, are sections whose ids rise.
-use Rattle.std.proofs.Common.{◌≡◌, ◌≢◌, ℕ, zero, suc, ◌<◌, ◌≤◌, Bool, true, false, nat_eq, nat_lt, List, [], ◌∷◌, ◌++◌, length, Result, Ok, Err, ◌⊎◌, inl, inr, refl, sym, ap, ◌∙◌, append_assoc, arith}
+use Rattle.std.proofs.Common.{◌≡◌, ℕ, ◌+◌, ◌<◌, List, [], None, refl, arith}
 use Rattle.std.proofs.lemmas.List.{append-nil}
-use Rattle.std.proofs.lemmas.Bool.{eqb-true, eqb-false, ltb-true, ltb-false}
-use Rattle.wc_ast.specs.declared.func_type.FuncType.{FuncType}
 use Rattle.wc_ast.specs.declared.module.Module.{Module}
+use Rattle.wc_binary.specs.declared.parts.Parts.{Parts}
 use Rattle.wc_binary.specs.declared.section.Section.{Section}
-use Rattle.wc_binary.specs.declared.section.Section.TheVariants.{Custom, Types}
-use Rattle.wc_binary.specs.declared.fault.BinWhy.TheVariants.{SectionSize}
+use Rattle.wc_binary.specs.declared.section.Section.TheVariants as sections
+use Rattle.wc_binary.specs.declared.section.SectionKind.TheVariants as kinds
 use Rattle.wc_binary.specs.Style.{Style}
-use Rattle.wc_binary.specs.Phrase.{SpellsBy}
-use Rattle.wc_binary.specs.Values.{vector, sized}
-use Rattle.wc_binary.specs.Types.{func_type}
-use Rattle.wc_binary.specs.Sections.{custom, id_of, content, after, Stands, of_types, nothing, put}
-use Rattle.wc_binary.specs.Module.{AreCustoms, Customs, IsSection, Then, BinBy, AreSections, put_all, RisesBy}
+use Rattle.wc_binary.specs.Values.{u32, vector}
+use Rattle.wc_binary.specs.Types.{func_type, limits, table_type}
+use Rattle.wc_binary.specs.Externals.{import, export}
+use Rattle.wc_binary.specs.Contents.{global, elem_segment, code, data_segment}
+use Rattle.wc_binary.specs.Sections.{start, kind_of, nothing, put}
+use Rattle.wc_binary.specs.Module.{parts_of, Customs, AreSections, put_all, BinBy, RisesBy}
+use Rattle.wc_binary.proofs.Froms.{From1, From2, From3, From4, From5, From6, From7, From8, From9, From10, From11}
+use Rattle.wc_binary.proofs.Places.{none-above, types-placed, imports-placed, func_types-placed, tables-placed, mems-placed, globals-placed, exports-placed, start-placed, elems-placed, codes-placed, datas-placed}
+use Rattle.wc_binary.proofs.Rising.{Runs, behind-customs, step-rises, step-bin, only-customs}
 
-module _ (s : Style) where
-  -- custom sections leave the last id as it was
-  abbrev customs_of : ℕ → List Section → List Section
-  customs_of zero vs = vs
-  customs_of (suc n) vs = Custom ∷ customs_of n vs
+-- no id lies between two that follow each other
+no-gap : (n x : ℕ) → n < x → x < n + 1 → kind_of x ≡ None
+no-gap n x a b = absurd (omega arith)
 
-  put-customs : (n : ℕ) (m : Module) (vs : List Section) → put_all m (customs_of n vs) ≡ put_all m vs
-  put-customs zero m vs = refl
-  put-customs (suc n) m vs = put-customs n m vs
+-- ---- the parts that the sections up to an id tell
+module _ (p : Parts) where
+  abbrev upto1 : Parts
+  upto1 = put nothing (sections.Types p.types)
 
-  custom-content : (a : List ℕ) → SpellsBy s custom a tt → SpellsBy s (content 0) a Custom
-  unfolding content
-  custom-content a h = (a, [], tt, sym (append-nil a), h, (refl, refl))
+  abbrev upto2 : Parts
+  upto2 = put upto1 (sections.Imports p.imports)
 
-  content-custom : (a : List ℕ) → SpellsBy s (content 0) a Custom → SpellsBy s custom a tt
-  unfolding content
-  content-custom a h = let e : a ≡ h.0 = h.3 ∙ ap (λ (x : List ℕ). h.0 ++ x) h.5.0 ∙ append-nil h.0 in rw e h.4
+  abbrev upto3 : Parts
+  upto3 = put upto2 (sections.FuncTypes p.func_types)
 
-  behind-customs : (n last : ℕ) (b c : List ℕ) (vs : List Section) → AreCustoms s n b → AreSections s last vs c → AreSections s last (customs_of n vs) (b ++ c)
-  behind-customs zero last b c vs h k = let e = h in rw e k
-  behind-customs (suc n) last b c vs h k = (
-    0,
-    0,
-    h.0,
-    h.1 ++ c,
-    ap (λ (x : List ℕ). x ++ c) h.2 ∙ ap (λ (x : List ℕ). 0 ∷ x) (append_assoc h.0 h.1 c),
-    refl,
-    custom-content h.0 h.3,
-    h.4,
-    behind-customs n last h.1 c vs h.5 k,
-  )
+  abbrev upto4 : Parts
+  upto4 = put upto3 (sections.Tables p.tables)
 
-  types-content : (a : List ℕ) (types : List FuncType) → SpellsBy s (sized SectionSize (vector func_type)) a types → SpellsBy s (content 1) a (Types types)
-  unfolding content
-  types-content a types h = (a, [], types, sym (append-nil a), h, (refl, refl))
+  abbrev upto5 : Parts
+  upto5 = put upto4 (sections.Mems p.mems)
 
-  -- a section, or none of it
-  section-rises : (types : List FuncType) (b c : List ℕ) (vs : List Section) → IsSection s 1 func_type types b → AreSections s 1 vs c → AreSections s 0 vs c
-      → ((m : Module) → put_all m vs ≡ m)
-      → (ws : List Section) × AreSections s 0 ws (b ++ c) × (put_all nothing ws ≡ of_types types)
-  section-rises types b c vs (inl h) k lower puts =
-      let none : b ≡ [] = h.0 in
-      (vs, rw none lower, puts nothing ∙ ap of_types (sym h.1))
-  section-rises types b c vs (inr h) k lower puts = (
-    Types types ∷ vs,
-    (1, 1, h.0, c, ap (λ (x : List ℕ). x ++ c) h.1, refl, types-content h.0 types h.2, h.3, k),
-    puts (of_types types),
-  )
+  abbrev upto6 : Parts
+  upto6 = put upto5 (sections.Globals p.globals)
 
-  pub bin-rises : (x : List ℕ) (m : Module) → BinBy s x m → RisesBy s x m
-  bin-rises x m h =
-      let t = h.4 in
-      let rest = behind-customs t.6.0 1 t.2 [] [] t.6.1 refl in
-      let lower = behind-customs t.6.0 0 t.2 [] [] t.6.1 refl in
-      let back : t.2 ++ [] ≡ t.2 = append-nil t.2 in
-      let sec = section-rises m.types t.1 t.2 (customs_of t.6.0 []) t.5 (rw back at rest) (rw back at lower)
-      (λ n. put-customs t.6.0 n []) in
-      let all = behind-customs t.4.0 0 t.0 (t.1 ++ t.2) sec.0 t.4.1 sec.1 in
-      let split = t.3 in
-      (h.0, h.1, customs_of t.4.0 sec.0, h.2, h.3, rw split all, h.5 ∙ sym (put-customs t.4.0 nothing sec.0 ∙ sec.2))
+  abbrev upto7 : Parts
+  upto7 = put upto6 (sections.Exports p.exports)
 
-  -- an id that may stand is the byte itself
-  id-byte : (last x id : ℕ) → id_of last x ≡ Ok id → (x ≡ id) × ((id ≡ 0) ⊎ ((id ≡ 1) × (last < 1)))
-  id-byte last x id h = go (nat_eq x 0) (nat_lt 1 x) (nat_lt last x) refl refl refl
-    where
-      go : (a b c : Bool) → nat_eq x 0 ≡ a → nat_lt 1 x ≡ b → nat_lt last x ≡ c → (x ≡ id) × ((id ≡ 0) ⊎ ((id ≡ 1) × (last < 1)))
-      go true b c p q r = let e = eqb-true x 0 p in let f = rw p at h in let z : id ≡ 0 = cc in (e ∙ sym z, inl z)
-      go false true c p q r = let f = rw (p, q) at h in absurd cc
-      go false false false p q r = let f = rw (p, q, r) at h in absurd cc
-      go false false true p q r =
-          let f = rw (p, q, r) at h in
-          let z : id ≡ x = cc in
-          let some = eqb-false x 0 p in
-          let one = ltb-false 1 x q in
-          let above = ltb-true last x r in
-          (sym z, inr (omega arith, omega arith))
+  abbrev upto8 : Parts
+  upto8 = put upto7 (sections.Start p.start)
 
-  content-types : (a : List ℕ) (v : Section) → SpellsBy s (content 1) a v → (types : List FuncType) × (v ≡ Types types) × SpellsBy s (sized SectionSize (vector func_type)) a types
-  unfolding content
-  content-types a v h = let e : a ≡ h.0 = h.3 ∙ ap (λ (x : List ℕ). h.0 ++ x) h.5.0 ∙ append-nil h.0 in (h.2, h.5.1, rw e h.4)
+  abbrev upto9 : Parts
+  upto9 = put upto8 (sections.Elems p.elems)
 
-  content-none : (a : List ℕ) (v : Section) → SpellsBy s (content 0) a v → v ≡ Custom
-  unfolding content
-  content-none a v h = h.5.1
+  abbrev upto10 : Parts
+  upto10 = put upto9 (sections.Codes p.codes)
 
-  -- a custom section in front
-  one-more-custom : (x id : ℕ) (a c b : List ℕ) (v : Section) → x ≡ id → id ≡ 0 → SpellsBy s (content id) a v → s.Neat (Stands v) → b ≡ x ∷ (a ++ c) → Customs s c → Customs s b × (v ≡ Custom)
-  one-more-custom x id a c b v e z h neat split k =
-      let g = rw z at h in
-      let is = content-none a v g in
-      let zero-byte : x ≡ 0 = e ∙ z in
-      ((suc k.0, (a, c, split ∙ ap (λ (y : ℕ). y ∷ (a ++ c)) zero-byte, content-custom a (rw is at g), rw is at neat, k.1)), is)
+  abbrev upto11 : Parts
+  upto11 = put upto10 (sections.Datas p.datas)
 
-  -- behind the last section only custom ones stand
-  rest-customs : (vs : List Section) (b : List ℕ) → AreSections s 1 vs b → Customs s b × ((m : Module) → put_all m vs ≡ m)
-  rest-customs [] b h = ((0, h), λ m. refl)
-  rest-customs (v ∷ vs) b h =
-      let i = id-byte 1 h.0 h.1 h.5 in
-      let z : h.1 ≡ 0 = elim i.1 [ inl z ↦ z | inr k ↦ absurd (omega (arith, k.1)) ] in
-      let g = rw z at h.6 in
-      let is = content-none h.2 v g in
-      let rest = rest-customs vs h.3 (rw is at h.8) in
-      let one = one-more-custom h.0 h.1 h.2 h.3 b v i.0 z h.6 h.7 h.4 rest.0 in
-      (one.0, λ m. ap (λ (y : Section). put_all (put m y) vs) is ∙ rest.1 m)
+  -- ---- to rising ids
+  module _ (s : Style) where
+    customs-rise : (b : List ℕ) → Customs s b → Runs s 11 b upto11 p
+    customs-rise b k = let r = behind-customs s k.0 11 b [] upto11 p k.1 ([], refl, refl) in let e = append-nil b in rw e at r
 
-  first-section : (vs : List Section) (b : List ℕ) → AreSections s 0 vs b
-      → (types : List FuncType) × Then s 1 func_type types (Customs s) b × (put_all nothing vs ≡ of_types types)
-  first-section [] b h = ([], ([], [], [], h, (0, refl), inl (refl, refl), (0, refl)), refl)
-  first-section (v ∷ vs) b h =
-      let i = id-byte 0 h.0 h.1 h.5 in
-      elim i.1 [
-        | inl z ↦
-            let is = content-none h.2 v (rw z at h.6) in
-            let k = first-section vs h.3 (rw is at h.8) in
-            let t = k.1 in
-            let one = one-more-custom h.0 h.1 h.2 t.0 (h.0 ∷ (h.2 ++ t.0)) v i.0 z h.6 h.7 refl t.4 in
-            let split : b ≡ (h.0 ∷ (h.2 ++ t.0)) ++ (t.1 ++ t.2) =
-            h.4 ∙ ap (λ (y : List ℕ). h.0 ∷ (h.2 ++ y)) t.3 ∙ ap (λ (y : List ℕ). h.0 ∷ y) (sym (append_assoc h.2 t.0 (t.1 ++ t.2))) in
-            (k.0, (h.0 ∷ (h.2 ++ t.0), t.1, t.2, split, one.0, t.5, t.6), ap (λ (y : Section). put_all (put nothing y) vs) is ∙ k.2)
-        | inr k ↦
-            let one = k.0 in
-            let t = content-types h.2 v (rw one at h.6) in
-            let is = t.1 in
-            let rest = rest-customs vs h.3 (rw is at h.8) in
-            let neat = rw is at h.7 in
-            let one-byte : h.0 ≡ 1 = i.0 ∙ k.0 in
-            let split : b ≡ (1 ∷ h.2) ++ h.3 = h.4 ∙ ap (λ (y : ℕ). y ∷ (h.2 ++ h.3)) one-byte in
-            (t.0, ([], 1 ∷ h.2, h.3, split, (0, refl), inr (h.2, refl, t.2, neat), rest.0), ap (λ (y : Section). put_all (put nothing y) vs) is ∙ rest.1 (of_types t.0))
-      ]
+    rises11 : (b : List ℕ) → From11 s p b → Runs s 10 b upto10 p
+    rises11 b k = step-rises s kinds.Data 11 (vector data_segment) [] (λ v. sections.Datas v) (λ n. n.datas) datas-placed 10 upto10 p p.datas (Customs s) (omega arith) refl customs-rise b k
 
-  pub rises-bin : (x : List ℕ) (m : Module) → RisesBy s x m → BinBy s x m
-  rises-bin x m h =
-      let k = first-section h.2 h.1 h.5 in
-      let types-is : m.types ≡ k.0 = ap (λ (n : Module). n.types) (h.6 ∙ k.2) in
-      (h.0, h.1, h.3, h.4, rw types-is k.1, h.6 ∙ k.2 ∙ ap of_types (sym types-is))
+    rises10 : (b : List ℕ) → From10 s p b → Runs s 9 b upto9 p
+    rises10 b k = step-rises s kinds.Code 10 (vector code) [] (λ v. sections.Codes v) (λ n. n.codes) codes-placed 9 upto9 p p.codes (From11 s p) (omega arith) refl rises11 b k
+
+    rises9 : (b : List ℕ) → From9 s p b → Runs s 8 b upto8 p
+    rises9 b k = step-rises s kinds.Element 9 (vector elem_segment) [] (λ v. sections.Elems v) (λ n. n.elems) elems-placed 8 upto8 p p.elems (From10 s p) (omega arith) refl rises10 b k
+
+    rises8 : (b : List ℕ) → From8 s p b → Runs s 7 b upto7 p
+    rises8 b k = step-rises s kinds.Start 8 start None (λ v. sections.Start v) (λ n. n.start) start-placed 7 upto7 p p.start (From9 s p) (omega arith) refl rises9 b k
+
+    rises7 : (b : List ℕ) → From7 s p b → Runs s 6 b upto6 p
+    rises7 b k = step-rises s kinds.Export 7 (vector export) [] (λ v. sections.Exports v) (λ n. n.exports) exports-placed 6 upto6 p p.exports (From8 s p) (omega arith) refl rises8 b k
+
+    rises6 : (b : List ℕ) → From6 s p b → Runs s 5 b upto5 p
+    rises6 b k = step-rises s kinds.Global 6 (vector global) [] (λ v. sections.Globals v) (λ n. n.globals) globals-placed 5 upto5 p p.globals (From7 s p) (omega arith) refl rises7 b k
+
+    rises5 : (b : List ℕ) → From5 s p b → Runs s 4 b upto4 p
+    rises5 b k = step-rises s kinds.Memory 5 (vector limits) [] (λ v. sections.Mems v) (λ n. n.mems) mems-placed 4 upto4 p p.mems (From6 s p) (omega arith) refl rises6 b k
+
+    rises4 : (b : List ℕ) → From4 s p b → Runs s 3 b upto3 p
+    rises4 b k = step-rises s kinds.Table 4 (vector table_type) [] (λ v. sections.Tables v) (λ n. n.tables) tables-placed 3 upto3 p p.tables (From5 s p) (omega arith) refl rises5 b k
+
+    rises3 : (b : List ℕ) → From3 s p b → Runs s 2 b upto2 p
+    rises3 b k = step-rises s kinds.Function 3 (vector u32) [] (λ v. sections.FuncTypes v) (λ n. n.func_types) func_types-placed 2 upto2 p p.func_types (From4 s p) (omega arith) refl rises4 b k
+
+    rises2 : (b : List ℕ) → From2 s p b → Runs s 1 b upto1 p
+    rises2 b k = step-rises s kinds.Import 2 (vector import) [] (λ v. sections.Imports v) (λ n. n.imports) imports-placed 1 upto1 p p.imports (From3 s p) (omega arith) refl rises3 b k
+
+    rises1 : (b : List ℕ) → From1 s p b → Runs s 0 b nothing p
+    rises1 b k = step-rises s kinds.Type 1 (vector func_type) [] (λ v. sections.Types v) (λ n. n.types) types-placed 0 nothing p p.types (From2 s p) (omega arith) refl rises2 b k
+
+  -- ---- and back
+  module _ (s : Style) where
+    behind-last : (vs : List Section) (b : List ℕ) → AreSections s 11 vs b → Customs s b
+    behind-last vs b h = only-customs s 11 none-above vs b h
+
+    back11 : (vs : List Section) (b : List ℕ) → AreSections s 10 vs b → put_all upto10 vs ≡ p → From11 s p b
+    back11 vs b h e = step-bin s kinds.Data 11 (vector data_segment) [] (λ v. sections.Datas v) (λ n. n.datas) datas-placed 10 (omega arith) (omega arith) (no-gap 10) upto10 p refl refl vs b h e (Customs s) (λ ws d k e. behind-last ws d k)
+
+    back10 : (vs : List Section) (b : List ℕ) → AreSections s 9 vs b → put_all upto9 vs ≡ p → From10 s p b
+    back10 vs b h e = step-bin s kinds.Code 10 (vector code) [] (λ v. sections.Codes v) (λ n. n.codes) codes-placed 9 (omega arith) (omega arith) (no-gap 9) upto9 p refl refl vs b h e (From11 s p) back11
+
+    back9 : (vs : List Section) (b : List ℕ) → AreSections s 8 vs b → put_all upto8 vs ≡ p → From9 s p b
+    back9 vs b h e = step-bin s kinds.Element 9 (vector elem_segment) [] (λ v. sections.Elems v) (λ n. n.elems) elems-placed 8 (omega arith) (omega arith) (no-gap 8) upto8 p refl refl vs b h e (From10 s p) back10
+
+    back8 : (vs : List Section) (b : List ℕ) → AreSections s 7 vs b → put_all upto7 vs ≡ p → From8 s p b
+    back8 vs b h e = step-bin s kinds.Start 8 start None (λ v. sections.Start v) (λ n. n.start) start-placed 7 (omega arith) (omega arith) (no-gap 7) upto7 p refl refl vs b h e (From9 s p) back9
+
+    back7 : (vs : List Section) (b : List ℕ) → AreSections s 6 vs b → put_all upto6 vs ≡ p → From7 s p b
+    back7 vs b h e = step-bin s kinds.Export 7 (vector export) [] (λ v. sections.Exports v) (λ n. n.exports) exports-placed 6 (omega arith) (omega arith) (no-gap 6) upto6 p refl refl vs b h e (From8 s p) back8
+
+    back6 : (vs : List Section) (b : List ℕ) → AreSections s 5 vs b → put_all upto5 vs ≡ p → From6 s p b
+    back6 vs b h e = step-bin s kinds.Global 6 (vector global) [] (λ v. sections.Globals v) (λ n. n.globals) globals-placed 5 (omega arith) (omega arith) (no-gap 5) upto5 p refl refl vs b h e (From7 s p) back7
+
+    back5 : (vs : List Section) (b : List ℕ) → AreSections s 4 vs b → put_all upto4 vs ≡ p → From5 s p b
+    back5 vs b h e = step-bin s kinds.Memory 5 (vector limits) [] (λ v. sections.Mems v) (λ n. n.mems) mems-placed 4 (omega arith) (omega arith) (no-gap 4) upto4 p refl refl vs b h e (From6 s p) back6
+
+    back4 : (vs : List Section) (b : List ℕ) → AreSections s 3 vs b → put_all upto3 vs ≡ p → From4 s p b
+    back4 vs b h e = step-bin s kinds.Table 4 (vector table_type) [] (λ v. sections.Tables v) (λ n. n.tables) tables-placed 3 (omega arith) (omega arith) (no-gap 3) upto3 p refl refl vs b h e (From5 s p) back5
+
+    back3 : (vs : List Section) (b : List ℕ) → AreSections s 2 vs b → put_all upto2 vs ≡ p → From3 s p b
+    back3 vs b h e = step-bin s kinds.Function 3 (vector u32) [] (λ v. sections.FuncTypes v) (λ n. n.func_types) func_types-placed 2 (omega arith) (omega arith) (no-gap 2) upto2 p refl refl vs b h e (From4 s p) back4
+
+    back2 : (vs : List Section) (b : List ℕ) → AreSections s 1 vs b → put_all upto1 vs ≡ p → From2 s p b
+    back2 vs b h e = step-bin s kinds.Import 2 (vector import) [] (λ v. sections.Imports v) (λ n. n.imports) imports-placed 1 (omega arith) (omega arith) (no-gap 1) upto1 p refl refl vs b h e (From3 s p) back3
+
+    back1 : (vs : List Section) (b : List ℕ) → AreSections s 0 vs b → put_all nothing vs ≡ p → From1 s p b
+    back1 vs b h e = step-bin s kinds.Type 1 (vector func_type) [] (λ v. sections.Types v) (λ n. n.types) types-placed 0 (omega arith) (omega arith) (no-gap 0) nothing p refl refl vs b h e (From2 s p) back2
+
+pub bin-rises : (s : Style) (x : List ℕ) (m : Module) → BinBy s x m → RisesBy s x m
+bin-rises s x m h = let r = rises1 (parts_of m) s h.1 h.4 in (h.0, h.1, r.0, h.2, h.3, r.1, r.2)
+
+pub rises-bin : (s : Style) (x : List ℕ) (m : Module) → RisesBy s x m → BinBy s x m
+rises-bin s x m h = (h.0, h.1, h.3, h.4, back1 (parts_of m) s h.2 h.1 h.5 h.6)

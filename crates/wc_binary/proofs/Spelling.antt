@@ -1,26 +1,19 @@
 -- Ways of building, and the canonical bytes of what they build.
-use Rattle.std.proofs.Common.{◌≡◌, ◌≢◌, ℕ, zero, suc, ◌+◌, ◌-◌, ◌^◌, ◌<◌, ◌≤◌, Bool, true, false, cond, nat_eq, eqb, List, [], ◌∷◌, ◌++◌, length, Option, Some, None, Result, Ok, Err, ◌⊎◌, if◌then◌else◌, inl, inr, refl, sym, ap, subst, ◌∙◌, append_assoc, eq-eqb, arith}
+use Rattle.std.proofs.Common.{◌≡◌, ℕ, zero, suc, ◌^◌, ◌<◌, Bool, true, false, nat_eq, List, [], ◌∷◌, ◌++◌, length, Option, Some, None, Result, Ok, if◌then◌else◌, refl, sym, ap, subst, ◌∙◌, eq-eqb}
 use Rattle.std.specs.List.{AllByRecursion, flat_map}
-use Rattle.std.proofs.lemmas.List.{length-append, append-nil}
+use Rattle.std.proofs.lemmas.List.{append-nil}
 use Rattle.std.proofs.lemmas.Bool.{eqb-true}
 use Rattle.wc_binary.specs.declared.fault.BinWhy.{BinWhy}
-use Rattle.wc_binary.specs.declared.fault.BinWhy.TheVariants.{WrongType}
+use Rattle.wc_leb128.specs.Integers.{U}
 use Rattle.wc_leb128.specs.Shortest.{unsigned_bytes}
 use Rattle.wc_leb128.proofs.UnsignedShortest.{unsigned_bytes-spelled, unsigned_bytes-least}
-use Rattle.wc_ast.specs.declared.val_type.ValType.{ValType}
-use Rattle.wc_ast.specs.declared.val_type.ValType.TheVariants.{I32, I64}
-use Rattle.wc_ast.specs.declared.func_type.FuncType.{FuncType}
-use Rattle.wc_binary.specs.Style.{Style, free, canonical, IsShortest}
-use Rattle.wc_binary.specs.Phrase.{Phrase, gives, byte, unsigned, ◌>>=◌, judged, measured, SpellsBy}
-use Rattle.wc_binary.specs.Values.{times, u32, vector, only, sized, size_fault}
-use Rattle.wc_binary.specs.Types.{value_type, value_type_of, func_type}
-use Rattle.wc_binary.specs.Written.{vector_bytes, value_type_bytes, func_type_bytes, sized_bytes, FitsVector, FitsSized, FitsTypes, FitsFuncType, Anything}
+use Rattle.wc_binary.specs.Style.{Style, canonical, IsShortest}
+use Rattle.wc_binary.specs.Phrase.{Phrase, gives, byte, ◌>>=◌, SpellsBy}
+use Rattle.wc_binary.specs.Values.{times, u32, vector, only, sized}
+use Rattle.wc_binary.specs.Written.{vector_bytes, sized_bytes, Fits32, FitsVector, FitsSized, Anything}
 use Rattle.wc_binary.proofs.Judging.{Judges, HasBytes}
 
-abbrev pub Fits32 : ℕ → Type 0
-Fits32 n = n < 2 ^ 32
-
-shortest-is : (n : ℕ) → n < 2 ^ 32 → IsShortest 32 (unsigned_bytes n) n
+shortest-is : (n : ℕ) → n < 2 ^ 32 → IsShortest U 32 (unsigned_bytes n) n
 shortest-is n lt = (unsigned_bytes-spelled 32 n lt, unsigned_bytes-least 32 n)
 
 abbrev pub of : {A : Type 0} → Phrase A → Style → List ℕ → A → Type 0
@@ -147,26 +140,6 @@ module _ {A : Type 0} (p : Phrase A) (fit : A → Type 0) (w : A → List ℕ) (
         rw (value, whole) ((z.0, c.0), z.1);
   }
 
-abbrev ok_type : ValType → Result ValType BinWhy
-ok_type v = Ok v
-
-value_type-only : (x : ℕ) (v : ValType) → value_type_of x ≡ Ok v → x ∷ [] ≡ value_type_bytes v
-value_type-only x v h = go (nat_eq x 0x7F) (nat_eq x 0x7E) (nat_eq x 0x7D) (nat_eq x 0x7C) refl refl refl refl
-  where
-    go : (a b c d : Bool) → nat_eq x 0x7F ≡ a → nat_eq x 0x7E ≡ b → nat_eq x 0x7D ≡ c → nat_eq x 0x7C ≡ d → x ∷ [] ≡ value_type_bytes v
-    go true b c d p q r s = let e : ok_type I32 ≡ Ok v = rw p at h in let f : I32 ≡ v = cc in rw (← f) (ap (λ (y : ℕ). y ∷ []) (eqb-true x 0x7F p))
-    go false true c d p q r s = let e : ok_type I64 ≡ Ok v = rw (p, q) at h in let f : I64 ≡ v = cc in rw (← f) (ap (λ (y : ℕ). y ∷ []) (eqb-true x 0x7E q))
-    go false false true d p q r s = let e = rw (p, q, r) at h in absurd cc
-    go false false false true p q r s = let e = rw (p, q, r, s) at h in absurd cc
-    go false false false false p q r s = let e = rw (p, q, r, s) at h in absurd cc
-
-pub value_type-writes : HasBytes (of value_type) Anything value_type_bytes
-unfolding value_type
-value_type-writes = record {
-  written = elim [ I32 ↦ λ h. (0x7F, refl, refl) | I64 ↦ λ h. (0x7E, refl, refl) ];
-  told = λ s V j b v h. (tt, j.equal b (value_type_bytes v) (h.1 ∙ value_type-only h.0 v h.2));
-}
-
 pub only-is : (b : ℕ) (why : BinWhy) (x : ℕ) (u : Unit {0}) → only b why x ≡ Ok u → x ≡ b
 only-is b why x u h = go (nat_eq x b) refl
   where
@@ -180,40 +153,26 @@ only-writes x why = record {
   told = λ s V j b u h. (tt, j.equal b (x ∷ []) (h.1 ∙ ap (λ (y : ℕ). y ∷ []) (only-is x why h.0 u h.2)));
 }
 
-anything : (ts : List ValType) → AllByRecursion Anything ts
-anything [] = tt
-anything (t ∷ ts) = (tt, anything ts)
+-- one byte of a table
+pub byte-writes : {A : Type 0} (table : ℕ → Result A BinWhy) (w : A → List ℕ) → ((v : A) → SpellsBy canonical (byte table) (w v) v) → ((x : ℕ) (v : A) → table x ≡ Ok v → x ∷ [] ≡ w v)
+    → HasBytes (of (byte table)) Anything w
+byte-writes table w there back = record {
+  written = λ v h. there v;
+  told = λ s V j b v h. (tt, j.equal b (w v) (h.1 ∙ back h.0 v h.2));
+}
 
-pub types-writes : HasBytes (of (vector value_type)) FitsTypes (vector_bytes value_type_bytes)
-types-writes =
-    writes-as (of (vector value_type)) (FitsVector Anything) FitsTypes (vector_bytes value_type_bytes) (vector_bytes value_type_bytes)
-    (vector-writes value_type Anything value_type_bytes value_type-writes) (λ ts h. h.0) (λ ts h. (h, anything ts)) (λ ts. refl)
-
--- ---- function types
-
-abbrev func_type_fits : FuncType → Type 0
-func_type_fits s = Unit {0} × (FitsTypes s.params × (FitsTypes s.results × (s ≡ record { params = s.params; results = s.results })))
-
-pub func_type-writes : HasBytes (of func_type) FitsFuncType func_type_bytes
-unfolding func_type
-func_type-writes =
-    writes-as (of func_type) func_type_fits FitsFuncType func_type_bytes func_type_bytes
-    (then-writes (byte (only 0x60 WrongType)) (λ _. vector value_type >>= λ ps. vector value_type >>= λ rs. gives (record { params = ps; results = rs }))
-    Anything (λ _. 0x60 ∷ [])
-    (λ _ s. FitsTypes s.params × (FitsTypes s.results × (s ≡ record { params = s.params; results = s.results })))
-    (λ _ s. vector_bytes value_type_bytes s.params ++ vector_bytes value_type_bytes s.results)
-    (λ s. tt)
-    (only-writes 0x60 WrongType)
-    (λ _. then-writes (vector value_type) (λ ps. vector value_type >>= λ rs. gives (record { params = ps; results = rs }))
-    FitsTypes (vector_bytes value_type_bytes)
-    (λ ps s. FitsTypes s.results × (s ≡ record { params = ps; results = s.results }))
-    (λ ps s. vector_bytes value_type_bytes s.results)
-    (λ s. s.params)
-    types-writes
-    (λ ps. seen-writes (vector value_type) FitsTypes (vector_bytes value_type_bytes) types-writes (λ rs. record { params = ps; results = rs }) (λ s. s.results) (λ rs. refl))
-    (λ s ps b v h. sym (ap (λ (x : FuncType). x.params) h.5.1)))
-    (λ s u b v h. refl))
-    (λ s h. (h.1.0, h.1.1.0)) (λ s h. (tt, (h.0, (h.1, refl)))) (λ s. refl)
-
-pub types_vector-writes : HasBytes (of (vector func_type)) (FitsVector FitsFuncType) (vector_bytes func_type_bytes)
-types_vector-writes = vector-writes func_type FitsFuncType func_type_bytes func_type-writes
+-- a part, and the value that is made of it
+module _ {A B : Type 0} (p : Phrase A) (fit : A → Type 0) (w : A → List ℕ) (make : A → B) (Fits : B → Type 0) (bytes : B → List ℕ) (writes : HasBytes (of p) fit w) (fits : (u : A) → fit u → Fits (make u))
+    (same : (u : A) → bytes (make u) ≡ w u) (back : (v : B) → Fits v → (u : A) × (v ≡ make u) × fit u) where
+  pub made-writes : HasBytes (of (p >>= λ u. gives (make u))) Fits bytes
+  made-writes = record {
+    written = λ v f.
+        let t = back v f in
+        let is = t.1 in
+        rw is (w t.0, [], t.0, same t.0 ∙ sym (append-nil (w t.0)), writes.written t.0 t.2, (refl, refl));
+    told = λ s V j b v h.
+        let x = writes.told s V j h.0 h.2 h.4 in
+        let v-is : v ≡ make h.2 = h.5.1 in
+        let bytes-is : b ≡ h.0 = rw (h.3, h.5.0, append-nil) refl in
+        rw (bytes-is, v-is, same h.2) (fits h.2 x.0, x.1);
+  }

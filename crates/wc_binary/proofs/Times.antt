@@ -1,5 +1,5 @@
 -- Reading items one after the other, as a loop does.
-use Rattle.std.proofs.Common.{◌≡◌, ℕ, zero, suc, ◌-◌, ◌+◌, ◌≤◌, ◌<◌, List, [], ◌∷◌, ◌++◌, Option, Some, None, Result, Ok, Err, refl, sym, ap, ◌∙◌, append_assoc, length, drop, get_or, drop-cons, arith}
+use Rattle.std.proofs.Common.{◌≡◌, ℕ, suc, ◌-◌, ◌+◌, ◌≤◌, ◌<◌, List, [], ◌∷◌, ◌++◌, Some, None, Result, Ok, Err, refl, sym, ◌∙◌, append_assoc, length, drop, drop-cons, arith}
 use Rattle.std.specs.Prelude.{IsTrue}
 use Rattle.std.proofs.lemmas.List.{append-nil}
 use Rattle.wc_binary.specs.declared.fault.BinFault.{BinFault}
@@ -8,7 +8,7 @@ use Rattle.wc_binary.specs.declared.fault.BinWhy.{BinWhy}
 use Rattle.wc_binary.specs.declared.fault.BinWhy.TheVariants.{End}
 use Rattle.wc_binary.specs.Phrase.{Halt, halt, Phrase}
 use Rattle.wc_binary.specs.Reading.{Got, got, fault, ◌and_then◌, read}
-use Rattle.wc_binary.specs.Source.{Input, GoesOn, ReadFailed, NextGives, Fails, Gave}
+use Rattle.wc_binary.specs.Source.{Input, GoesOn, NextGives, Fails, Gave}
 use Rattle.wc_binary.specs.Values.{times, exactly, any_byte}
 use Rattle.wc_binary.specs.Sections.{skip}
 use Rattle.wc_binary.proofs.Going.{GoesOn-refl, GoesOn-trans, ReadFailed-behind}

@@ -1,16 +1,15 @@
 -- Reading an integer.
-use Rattle.std.proofs.Common.{◌≡◌, ◌≢◌, ℕ, zero, suc, ◌+◌, ◌-◌, ◌*◌, ◌^◌, ◌<◌, ◌≤◌, Bool, true, false, cond, ltb, List, [], ◌∷◌, ◌++◌, length, Result, Ok, Err, ◌⊎◌, inl, inr, refl, sym, ap, subst, ◌∙◌, append_assoc, add_assoc, add-zero, arith}
+use Rattle.std.proofs.Common.{◌≡◌, ℕ, ◌+◌, ◌-◌, ◌*◌, ◌^◌, ◌<◌, ◌≤◌, List, [], ◌∷◌, ◌++◌, length, Result, Ok, Err, ◌⊎◌, inl, inr, refl, sym, ap, ◌∙◌, append_assoc, add-zero, arith}
 use Rattle.std.proofs.lemmas.Bool.{cases_lt, lt-ltb, le-ltb}
-use Rattle.std.proofs.lemmas.List.{length-append, append-nil}
+use Rattle.std.proofs.lemmas.List.{length-append}
 use Rattle.wc_leb128.specs.Integers.{U, Begins, IsUnfinished}
 use Rattle.wc_leb128.proofs.Exact.{unfinished-begins}
 use Rattle.wc_leb128.proofs.Spellings.{tail-unfinished}
 use Rattle.wc_leb128.proofs.UnsignedLaws.{MayStand, continues, begins-stands, unfinished-tail}
-use Rattle.wc_binary.specs.declared.fault.BinWhy.{BinWhy}
 use Rattle.wc_binary.specs.declared.fault.BinWhy.TheVariants.{End, Integer}
-use Rattle.wc_binary.specs.Phrase.{Halt, halt, StopsInteger, Phrase, unsigned, Spells, Stops}
+use Rattle.wc_binary.specs.Phrase.{Halt, halt, StopsInteger, unsigned}
 use Rattle.wc_binary.specs.Reading.{Got, got, fault, ◌and_then◌, unsigned_at}
-use Rattle.std.specs.Prelude.{IsTrue, Option, Some, None}
+use Rattle.std.specs.Prelude.{IsTrue, Some, None}
 use Rattle.wc_binary.specs.declared.fault.BinFault.{BinFault}
 use Rattle.wc_binary.specs.declared.fault.BinFault.TheVariants.{Bad, Read, Memory}
 use Rattle.wc_binary.specs.Source.{Input, GoesOn, NextGives, Fails, Gave}
@@ -27,7 +26,7 @@ stands-begins N b h =
 
 -- a byte that no spelling has there
 module _ (N o b : ℕ) (x : List ℕ) where
-  barred : (MayStand N b → ⊥) → StopsInteger N o (b ∷ x) (halt o Integer (o + 1))
+  barred : (MayStand N b → ⊥) → StopsInteger (U N) o (b ∷ x) (halt o Integer (o + 1))
   barred bars =
       ([], b ∷ x, refl, continues.nothing-unfinished N, inr (b, x, refl, λ h. bars (begins-stands N b [] h), ap (λ (p : ℕ). halt p Integer (p + 1)) (sym (add-zero o))))
 
@@ -124,7 +123,7 @@ unsigned-stopped-at N o (b ∷ a) y f h k =
     ]) in
     rw (on N o b (a ++ y) t.0 t.1 t.2, rest) refl
 
-pub unsigned-stopped : (N o : ℕ) (x : List ℕ) (f : Halt) → StopsInteger N o x f → unsigned_at N o x ≡ Err f
+pub unsigned-stopped : (N o : ℕ) (x : List ℕ) (f : Halt) → StopsInteger (U N) o x f → unsigned_at N o x ≡ Err f
 unsigned-stopped N o x f h = rw h.2 (unsigned-stopped-at N o h.0 h.1 f h.3 h.4)
 
 -- ---- an integer in the making

@@ -1,5 +1,5 @@
 -- What decoding answers.
-use Rattle.std.specs.Prelude.{◌≡◌, ℕ, ◌+◌, ◌≤◌, Bool, true, false, IsTrue, List, Result, Ok, Err, ⊤}
+use Rattle.std.specs.Prelude.{◌≡◌, ℕ, ◌+◌, ◌≤◌, Bool, true, false, IsTrue, List, length, Result, Ok, Err, ⊤}
 use Rattle.wc_ast.specs.declared.module.Module.{Module}
 use Rattle.wc_binary.specs.declared.fault.BinFault.{BinFault}
 use Rattle.wc_binary.specs.declared.fault.BinFault.TheVariants.{Bad, Read, Memory}
@@ -9,6 +9,7 @@ use Rattle.wc_binary.specs.Source.{Input, GoesOn, ReadFailed, IsEnded}
 use Rattle.wc_binary.specs.Sections.{nothing}
 use Rattle.wc_binary.specs.Module.{Bin, StopB, FirstFault, AreSections, StopsSections, put_all}
 use Rattle.wc_binary.specs.declared.section.Section.{Section}
+use Rattle.wc_binary.specs.declared.parts.Parts.{Parts}
 
 -- the bytes are read as a module: the one that they spell, or their first fault
 abbrev pub Decodes : List ℕ → Result Module BinFault → Type 0
@@ -30,9 +31,11 @@ is_read_fault _ = false
 
 -- ---- over a source
 
-abbrev pub SectionsGive : Input → Input → Result Module BinFault → Type 0
-SectionsGive old new (Ok m) =
-    GoesOn old new × (IsTrue old.known → (vs : List Section) × AreSections free 0 vs old.left × (m ≡ put_all nothing vs)) × IsEnded new
+abbrev pub SectionsGive : Input → Input → Result Parts BinFault → Type 0
+SectionsGive old new (Ok p) =
+    GoesOn old new
+    × (IsTrue old.known → (vs : List Section) × AreSections free 0 vs old.left × (put_all nothing vs ≡ p) × (new.place ≡ old.place + length old.left))
+    × IsEnded new
 SectionsGive old new (Err (Bad at why)) = GoesOn old new × (IsTrue old.known → StopsSections 0 old.place old.left (halt at why new.place))
 SectionsGive old new (Err (Read at)) = ReadFailed old new at
 SectionsGive old new (Err Memory) = GoesOn old new

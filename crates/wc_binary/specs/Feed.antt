@@ -1,5 +1,5 @@
 -- What a buffered reader is to contracts.
-use Rattle.std.specs.Prelude.{ℕ, ◌-◌, ◌++◌, List, [], take, drop, Option, None, Some}
+use Rattle.std.specs.Prelude.{ℕ, ◌-◌, ◌++◌, List, [], take, drop, Option}
 use Rattle.std.specs.Option.{is_some, unwrap_or}
 use Rattle.wc_device.specs.Device.{device_inner, has_failed, read_count}
 use Rattle.wc_binary.specs.declared.source.feed.Feed.{Feed}

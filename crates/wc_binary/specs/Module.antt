@@ -1,14 +1,20 @@
 -- Which bytes are a module (Core 1.0, 5.5.15), which of them canonically, and where all others stop being one.
-use Rattle.std.specs.Prelude.{◌≡◌, ◌≢◌, ℕ, zero, suc, ◌+◌, ◌<◌, List, [], ◌∷◌, ◌++◌, length, Result, Ok, Err, ◌⊎◌}
+use Rattle.std.specs.Prelude.{◌≡◌, ◌≢◌, ℕ, zero, suc, ◌+◌, ◌<◌, List, [], ◌∷◌, ◌++◌, length, map, None, Ok, Err, ◌⊎◌}
 use Rattle.wc_ast.specs.declared.module.Module.{Module}
+use Rattle.wc_ast.specs.declared.func.Func.{Func}
+use Rattle.wc_binary.specs.declared.parts.FuncCode.{FuncCode}
+use Rattle.wc_binary.specs.declared.parts.Parts.{Parts}
 use Rattle.wc_binary.specs.declared.section.Section.{Section}
+use Rattle.wc_binary.specs.declared.section.SectionKind.{SectionKind}
 use Rattle.wc_binary.specs.declared.fault.BinWhy.{BinWhy}
-use Rattle.wc_binary.specs.declared.fault.BinWhy.TheVariants.{Magic, Version, SectionSize}
+use Rattle.wc_binary.specs.declared.fault.BinWhy.TheVariants.{Magic, Version, SectionSize, Counts}
 use Rattle.wc_binary.specs.Style.{Style, free, canonical}
 use Rattle.wc_binary.specs.Phrase.{Phrase, ◌>>=◌, SpellsBy, Spells, Halt, halt, Stops}
-use Rattle.wc_binary.specs.Values.{exactly, vector, sized}
-use Rattle.wc_binary.specs.Types.{func_type}
-use Rattle.wc_binary.specs.Sections.{custom, id_of, content, after, Stands, of_types, nothing, put}
+use Rattle.wc_binary.specs.Values.{exactly, u32, vector, sized}
+use Rattle.wc_binary.specs.Types.{func_type, limits, table_type}
+use Rattle.wc_binary.specs.Externals.{import, export}
+use Rattle.wc_binary.specs.Contents.{global, elem_segment, code, data_segment}
+use Rattle.wc_binary.specs.Sections.{custom, start, id_of, content, after, Stands, nothing, put}
 
 -- the magic bytes and the version
 unfoldable pub preamble : Phrase (Unit {0})
@@ -24,18 +30,54 @@ AreCustoms s (suc n) b = (a c : List ℕ) × (b ≡ 0 ∷ (a ++ c)) × SpellsBy 
 abbrev pub Customs : Style → List ℕ → Type 0
 Customs s b = (n : ℕ) × AreCustoms s n b
 
--- no bytes, for the empty vector; or an id, a size and a vector, which isn't empty in a canonical spelling
-abbrev pub IsSection : {A : Type 0} → Style → ℕ → Phrase A → List A → List ℕ → Type 0
-IsSection s id p vs b =
-    ((b ≡ []) × (vs ≡ [])) ⊎ ((a : List ℕ) × (b ≡ id ∷ a) × SpellsBy s (sized SectionSize (vector p)) a vs × s.Neat (vs ≢ []))
+-- no bytes, where there is none of it; or an id, a size and the content, which a canonical spelling has only for something
+abbrev pub IsSection : {A : Type 0} → Style → ℕ → Phrase A → A → A → List ℕ → Type 0
+IsSection s id p none v b = ((b ≡ []) × (v ≡ none)) ⊎ ((a : List ℕ) × (b ≡ id ∷ a) × SpellsBy s (sized SectionSize p) a v × s.Neat (v ≢ none))
 
 -- custom sections, a section, and what comes behind it
-abbrev pub Then : {A : Type 0} → Style → ℕ → Phrase A → List A → (List ℕ → Type 0) → List ℕ → Type 0
-Then s id p vs Rest b = (a c d : List ℕ) × (b ≡ a ++ (c ++ d)) × Customs s a × IsSection s id p vs c × Rest d
+abbrev pub Then : {A : Type 0} → Style → ℕ → Phrase A → A → A → (List ℕ → Type 0) → List ℕ → Type 0
+Then s id p none v Rest b = (a c d : List ℕ) × (b ≡ a ++ (c ++ d)) × Customs s a × IsSection s id p none v c × Rest d
+
+-- ---- what the sections tell of a module: of its functions two tell, place by place
+
+abbrev pub type_of : Func → ℕ
+type_of f = f.ty
+
+abbrev pub code_of : Func → FuncCode
+code_of f = record { locals = f.locals; body = f.body }
+
+abbrev pub parts_of : Module → Parts
+parts_of m = record {
+  types = m.types;
+  imports = m.imports;
+  func_types = map type_of m.funcs;
+  tables = m.tables;
+  mems = m.mems;
+  globals = m.globals;
+  exports = m.exports;
+  start = m.start;
+  elems = m.elems;
+  codes = map code_of m.funcs;
+  datas = m.datas;
+}
+
+abbrev pub HasSections : Style → Parts → List ℕ → Type 0
+HasSections s p =
+    Then s 1 (vector func_type) [] p.types
+    (Then s 2 (vector import) [] p.imports
+    (Then s 3 (vector u32) [] p.func_types
+    (Then s 4 (vector table_type) [] p.tables
+    (Then s 5 (vector limits) [] p.mems
+    (Then s 6 (vector global) [] p.globals
+    (Then s 7 (vector export) [] p.exports
+    (Then s 8 start None p.start
+    (Then s 9 (vector elem_segment) [] p.elems
+    (Then s 10 (vector code) [] p.codes
+    (Then s 11 (vector data_segment) [] p.datas
+    (Customs s)))))))))))
 
 abbrev pub BinBy : Style → List ℕ → Module → Type 0
-BinBy s x m =
-    (a b : List ℕ) × (x ≡ a ++ b) × SpellsBy s preamble a tt × Then s 1 func_type m.types (Customs s) b × (m ≡ of_types m.types)
+BinBy s x m = (a b : List ℕ) × (x ≡ a ++ b) × SpellsBy s preamble a tt × HasSections s (parts_of m) b
 
 -- the bytes spell the module
 abbrev pub Bin : List ℕ → Module → Type 0
@@ -59,16 +101,16 @@ IsShortestOf b m = (c : List ℕ) → Bin c m → IsOrLonger c b
 abbrev pub AreSections : Style → ℕ → List Section → List ℕ → Type 0
 AreSections s last [] b = b ≡ []
 AreSections s last (v ∷ vs) b =
-    (x id : ℕ) × (a c : List ℕ) × (b ≡ x ∷ (a ++ c)) × (id_of last x ≡ Ok id) × SpellsBy s (content id) a v × s.Neat (Stands v)
-    × AreSections s (after last v) vs c
+    (x : ℕ) × (id : SectionKind) × (a c : List ℕ) × (b ≡ x ∷ (a ++ c)) × (id_of last x ≡ Ok id) × SpellsBy s (content id) a v
+    × s.Neat (Stands v) × AreSections s (after last v) vs c
 
-abbrev pub put_all : Module → List Section → Module
-put_all m [] = m
-put_all m (v ∷ vs) = put_all (put m v) vs
+abbrev pub put_all : Parts → List Section → Parts
+put_all p [] = p
+put_all p (v ∷ vs) = put_all (put p v) vs
 
 abbrev pub RisesBy : Style → List ℕ → Module → Type 0
 RisesBy s x m =
-    (a b : List ℕ) × (vs : List Section) × (x ≡ a ++ b) × SpellsBy s preamble a tt × AreSections s 0 vs b × (m ≡ put_all nothing vs)
+    (a b : List ℕ) × (vs : List Section) × (x ≡ a ++ b) × SpellsBy s preamble a tt × AreSections s 0 vs b × (put_all nothing vs ≡ parts_of m)
 
 -- ---- the first fault
 
@@ -82,12 +124,19 @@ abbrev pub StopsSections : ℕ → ℕ → List ℕ → Halt → Type 0
 StopsSections last o b f =
     (vs : List Section) × (a c : List ℕ) × (x : ℕ) × (b ≡ a ++ (x ∷ c)) × AreSections free last vs a
     × (((r : BinWhy) × (id_of (reached last vs) x ≡ Err r) × (f ≡ halt (o + length a) r (o + length a + 1)))
-    ⊎ ((id : ℕ) × (id_of (reached last vs) x ≡ Ok id) × Stops (content id) (o + length a + 1) c f))
+    ⊎ ((id : SectionKind) × (id_of (reached last vs) x ≡ Ok id) × Stops (content id) (o + length a + 1) c f))
+
+-- sections to the last byte, which tell other numbers of functions and of codes
+abbrev pub StopsCounts : ℕ → List ℕ → Halt → Type 0
+StopsCounts o b f =
+    (vs : List Section) × AreSections free 0 vs b × (length (put_all nothing vs).func_types ≢ length (put_all nothing vs).codes)
+    × (f ≡ halt (o + length b) Counts (o + length b))
 
 -- reading the bytes as a module stops so
 abbrev pub StopB : List ℕ → Halt → Type 0
 StopB x f =
-    Stops preamble 0 x f ⊎ ((a b : List ℕ) × (x ≡ a ++ b) × Spells preamble a tt × StopsSections 0 (length a) b f)
+    Stops preamble 0 x f
+    ⊎ ((a b : List ℕ) × (x ≡ a ++ b) × Spells preamble a tt × (StopsSections 0 (length a) b f ⊎ StopsCounts (length a) b f))
 
 -- the first fault of the bytes: its place and its reason
 abbrev pub FirstFault : List ℕ → ℕ → BinWhy → Type 0

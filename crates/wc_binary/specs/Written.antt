@@ -1,12 +1,20 @@
--- The canonical bytes of a module, written out; and which modules have them.
-use Rattle.std.specs.Prelude.{◌≡◌, ℕ, ◌<◌, ◌^◌, List, [], ◌∷◌, ◌++◌, length}
+-- The canonical bytes of values, types, imports, exports and sections; and which of them have any.
+use Rattle.std.specs.Prelude.{ℕ, ◌<◌, ◌^◌, Bool, true, false, Option, Some, None, List, [], ◌∷◌, ◌++◌, length}
+use Rattle.std.specs.Option.{is_some}
+use Rattle.std.specs.Str.{IsUtf8}
 use Rattle.std.specs.List.{AllByRecursion, flat_map}
 use Rattle.wc_leb128.specs.Shortest.{unsigned_bytes}
 use Rattle.wc_ast.specs.declared.val_type.ValType.{ValType}
 use Rattle.wc_ast.specs.declared.val_type.ValType.TheVariants.{I32, I64}
 use Rattle.wc_ast.specs.declared.func_type.FuncType.{FuncType}
-use Rattle.wc_ast.specs.declared.module.Module.{Module}
-use Rattle.wc_binary.specs.Sections.{of_types}
+use Rattle.wc_ast.specs.declared.limits.Limits.{Limits}
+use Rattle.wc_ast.specs.declared.limits.GlobalType.{GlobalType}
+use Rattle.wc_ast.specs.declared.export.ExportKind.{ExportKind}
+use Rattle.wc_ast.specs.declared.export.ExportKind.TheVariants as kinds
+use Rattle.wc_ast.specs.declared.export.Export.{Export}
+use Rattle.wc_ast.specs.declared.import.Desc.{Desc}
+use Rattle.wc_ast.specs.declared.import.Desc.TheVariants as descs
+use Rattle.wc_ast.specs.declared.import.Import.{Import}
 
 -- a count, and the items
 abbrev pub vector_bytes : {A : Type 0} → (A → List ℕ) → List A → List ℕ
@@ -19,6 +27,48 @@ value_type_bytes I64 = 0x7E ∷ []
 abbrev pub func_type_bytes : FuncType → List ℕ
 func_type_bytes t = (0x60 ∷ []) ++ (vector_bytes value_type_bytes t.params ++ vector_bytes value_type_bytes t.results)
 
+abbrev pub maximum_bytes : Option ℕ → List ℕ
+maximum_bytes None = []
+maximum_bytes (Some n) = unsigned_bytes n
+
+abbrev pub flag_bytes : Bool → List ℕ
+flag_bytes false = 0 ∷ []
+flag_bytes true = 1 ∷ []
+
+abbrev pub limits_bytes : Limits → List ℕ
+limits_bytes l = flag_bytes (is_some l.max) ++ (unsigned_bytes l.min ++ maximum_bytes l.max)
+
+abbrev pub table_type_bytes : Limits → List ℕ
+table_type_bytes l = (0x70 ∷ []) ++ limits_bytes l
+
+abbrev pub global_type_bytes : GlobalType → List ℕ
+global_type_bytes g = value_type_bytes g.ty ++ flag_bytes g.mutable
+
+-- ---- imports and exports
+
+abbrev pub name_bytes : List ℕ → List ℕ
+name_bytes name = unsigned_bytes (length name) ++ name
+
+abbrev pub kind_bytes : ExportKind → List ℕ
+kind_bytes kinds.Func = 0 ∷ []
+kind_bytes kinds.Table = 1 ∷ []
+kind_bytes kinds.Memory = 2 ∷ []
+kind_bytes kinds.Global = 3 ∷ []
+
+abbrev pub desc_bytes : Desc → List ℕ
+desc_bytes (descs.Func index) = (0 ∷ []) ++ unsigned_bytes index
+desc_bytes (descs.Table l) = (1 ∷ []) ++ table_type_bytes l
+desc_bytes (descs.Memory l) = (2 ∷ []) ++ limits_bytes l
+desc_bytes (descs.Global g) = (3 ∷ []) ++ global_type_bytes g
+
+abbrev pub import_bytes : Import → List ℕ
+import_bytes i = name_bytes i.«module» ++ (name_bytes i.name ++ desc_bytes i.desc)
+
+abbrev pub export_bytes : Export → List ℕ
+export_bytes e = name_bytes e.name ++ (kind_bytes e.kind ++ unsigned_bytes e.index)
+
+-- ---- sections
+
 -- a size, and the content
 abbrev pub sized_bytes : List ℕ → List ℕ
 sized_bytes b = unsigned_bytes (length b) ++ b
@@ -28,19 +78,18 @@ abbrev pub section_bytes : {A : Type 0} → ℕ → (A → List ℕ) → List A 
 section_bytes id w [] = []
 section_bytes id w (v ∷ vs) = (id ∷ []) ++ sized_bytes (vector_bytes w (v ∷ vs))
 
-abbrev pub preamble_bytes : List ℕ
-preamble_bytes = 0x00 ∷ 0x61 ∷ 0x73 ∷ 0x6D ∷ 0x01 ∷ 0x00 ∷ 0x00 ∷ 0x00 ∷ []
+-- the same of an index, unless there is none
+abbrev pub start_bytes : ℕ → Option ℕ → List ℕ
+start_bytes id None = []
+start_bytes id (Some index) = (id ∷ []) ++ sized_bytes (unsigned_bytes index)
 
-abbrev pub types_section : List FuncType → List ℕ
-types_section types = section_bytes 1 func_type_bytes types
-
-abbrev pub module_bytes : Module → List ℕ
-module_bytes m = preamble_bytes ++ types_section m.types
-
--- ---- each count and each size is below 2 ^ 32, and there are types alone
+-- ---- each number, each count and each size is below 2 ^ 32
 
 abbrev pub Anything : {A : Type 0} → A → Type 0
 Anything v = Unit {0}
+
+abbrev pub Fits32 : ℕ → Type 0
+Fits32 n = n < 2 ^ 32
 
 abbrev pub FitsVector : {A : Type 0} → (A → Type 0) → List A → Type 0
 FitsVector Fits vs = (length vs < 2 ^ 32) × AllByRecursion Fits vs
@@ -48,21 +97,36 @@ FitsVector Fits vs = (length vs < 2 ^ 32) × AllByRecursion Fits vs
 abbrev pub FitsSized : {A : Type 0} → (A → List ℕ) → (A → Type 0) → A → Type 0
 FitsSized w Fits v = (length (w v) < 2 ^ 32) × Fits v
 
-abbrev pub FitsTypes : List ValType → Type 0
-FitsTypes types = length types < 2 ^ 32
-
 abbrev pub FitsFuncType : FuncType → Type 0
-FitsFuncType t = FitsTypes t.params × FitsTypes t.results
+FitsFuncType t = FitsVector Anything t.params × FitsVector Anything t.results
+
+abbrev pub FitsMaximum : Option ℕ → Type 0
+FitsMaximum None = Unit {0}
+FitsMaximum (Some n) = Fits32 n
+
+abbrev pub FitsLimits : Limits → Type 0
+FitsLimits l = Fits32 l.min × FitsMaximum l.max
+
+-- a name is UTF-8
+abbrev pub FitsName : List ℕ → Type 0
+FitsName name = Fits32 (length name) × IsUtf8 name
+
+abbrev pub FitsDesc : Desc → Type 0
+FitsDesc (descs.Func index) = Fits32 index
+FitsDesc (descs.Table l) = FitsLimits l
+FitsDesc (descs.Memory l) = FitsLimits l
+FitsDesc (descs.Global g) = Unit {0}
+
+abbrev pub FitsImport : Import → Type 0
+FitsImport i = FitsName i.«module» × (FitsName i.name × FitsDesc i.desc)
+
+abbrev pub FitsExport : Export → Type 0
+FitsExport e = FitsName e.name × Fits32 e.index
 
 abbrev pub FitsSection : {A : Type 0} → (A → List ℕ) → (A → Type 0) → List A → Type 0
 FitsSection w Fits [] = Unit {0}
 FitsSection w Fits (v ∷ vs) = FitsSized (vector_bytes w) (FitsVector Fits) (v ∷ vs)
 
-abbrev pub FitsFuncTypes : List FuncType → Type 0
-FitsFuncTypes types = FitsVector FitsFuncType types
-
-abbrev pub FitsTypesSection : List FuncType → Type 0
-FitsTypesSection types = FitsSection func_type_bytes FitsFuncType types
-
-abbrev pub FitsModule : Module → Type 0
-FitsModule m = FitsTypesSection m.types × (m ≡ of_types m.types)
+abbrev pub FitsStart : Option ℕ → Type 0
+FitsStart None = Unit {0}
+FitsStart (Some index) = FitsSized unsigned_bytes Fits32 index

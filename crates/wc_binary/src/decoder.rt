@@ -1,10 +1,17 @@
 //! Modules from bytes.
 
+mod code;
+mod contents;
+mod expression;
+mod externals;
+mod immediates;
 mod integer;
+mod locals;
 mod module;
 mod name;
 mod part;
 mod section;
+mod signed;
 mod types;
 
 ghost use Rattle.std.specs.Prelude.{◌≡◌, ◌≤◌, ◌++◌, length, IfSome, IfErr, OnOk, false, ℕ};

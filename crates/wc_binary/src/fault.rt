@@ -25,8 +25,27 @@ pub enum BinWhy {
     NotUtf8,
     /// No type of the kind that is wanted begins so. The place is the byte (5.3).
     WrongType,
-    /// A float type. The place is the byte (5.3.1).
+    /// A float type, or the opcode of a float instruction. The place is the byte (5.3.1 and 5.4).
     Float,
+    /// No kind of import or export, no flag of limits or no mutability is told so. The place is the byte (5.3.4, 5.3.7,
+    /// 5.5.5 and 5.5.10).
+    Tag,
+    /// No instruction has this opcode, or an `else` stands where none may: it is not the first one directly in an `if`.
+    /// The place is the byte (5.4).
+    Opcode,
+    /// A zero byte must stand here. The place is the byte (5.4.1 and 5.4.4).
+    ZeroByte,
+    /// One more block, loop or if would be open than may be. The place is its opcode (5.4.1).
+    Depth,
+    /// More than 50,000 locals are declared. The place is the first byte of the count of the group that goes beyond, and
+    /// the fault shows before the type of the group is read (5.5.13).
+    Locals,
+    /// A body isn't of its size. The place is the first byte of the size, and the fault shows once the body was read
+    /// (5.5.13).
+    BodySize,
+    /// There are not as many bodies as functions. The place is the input's length, and the fault shows once all sections
+    /// were read (5.5.15).
+    Counts,
 }
 
 /// Why decoding gave no module.

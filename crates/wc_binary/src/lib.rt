@@ -5,8 +5,10 @@ mod decoder;
 mod encoder;
 mod fault;
 mod law;
+mod parts;
 mod section;
 mod source;
+mod tables;
 
 pub use decoder::{decode, decode_from};
 pub use encoder::encode;

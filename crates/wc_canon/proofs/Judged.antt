@@ -1,6 +1,6 @@
--- From what decoding and encoding answer to what is answered to an input.
-use Rattle.std.proofs.Common.{◌≡◌, ℕ, List, Option, Some, None, Result, Ok, Err, IfSome, IsErrAnd}
-use Rattle.std.proofs.Common.{MatchResult, IfErr, subst, sym, ◌∙◌, refl}
+-- From what decoding, checking and encoding answer to what is answered to an input.
+use Rattle.std.proofs.Common.{◌≡◌, ℕ, List, [], Option, Some, None, Result, Ok, Err, IfOk, IfSome, IsErrAnd}
+use Rattle.std.proofs.Common.{MatchResult, IfErr, subst, sym, refl, ◌⊎◌, inl, inr}
 use Rattle.wc_ast.specs.declared.module.Module.{Module}
 use Rattle.wc_binary.specs.declared.fault.BinFault.{BinFault}
 use Rattle.wc_binary.specs.declared.fault.BinFault.TheVariants.{Bad, Read as Unread, Memory as NoMemoryToDecode}
@@ -9,85 +9,145 @@ use Rattle.wc_binary.specs.declared.fault.EncFault.TheVariants.{Oversize as TooL
 use Rattle.wc_binary.specs.Module.{Bin, Canon}
 use Rattle.wc_binary.specs.Decoding.{Decodes, DecodesNear}
 use Rattle.wc_binary.specs.Encoding.{EncodesModule}
+use Rattle.wc_check.specs.declared.fault.CheckFault.{CheckFault}
+use Rattle.wc_check.specs.declared.fault.CheckFault.TheVariants.{Broken, Memory as NoMemoryToCheck}
+use Rattle.wc_check.specs.Rules.{IsFirstOf}
+use Rattle.wc_check.specs.Broken.{broken}
 use Rattle.wc_canon.specs.declared.fault.Refusal.{Refusal}
-use Rattle.wc_canon.specs.declared.fault.Refusal.TheVariants.{Memory as NoMemory}
+use Rattle.wc_canon.specs.declared.fault.Refusal.TheVariants.{Binary, Check, Oversize, Memory as NoMemory}
 use Rattle.wc_canon.specs.declared.fault.RunFault.{RunFault}
-use Rattle.wc_canon.specs.declared.fault.RunFault.TheVariants.{Memory}
-use Rattle.wc_canon.specs.Faults.{decoding_fault, encoding_fault, encoding_refusal}
-use Rattle.wc_canon.specs.Input.{HasAnswer}
+use Rattle.wc_canon.specs.Faults.{decoding_fault, checking_refusal, encoding_refusal, refusing_fault}
+use Rattle.wc_canon.specs.Input.{KeepsRules, BreaksFirst, IsModuleFault, Means, HasAnswer, HasFault, IsRefused}
 use Rattle.wc_canon.specs.Run.{Judges, RefusesNear}
-use Rattle.wc_canon.proofs.Laws.{has-answer, has-binary-fault}
+use Rattle.wc_canon.proofs.Laws.{has-answer, has-binary-fault, has-broken-rule, answer-canonical}
+use Rattle.wc_canon.proofs.Laws.{meant-or-fault, never-both, one-fault}
 
--- ---- a module that some bytes spell is never too large to be encoded
+-- what holds of the one error holds of the error
+pub at-error : {V E : Type 0} (r : Result V E) (e : E) (P : E → Type 0) → IsErrAnd r (λ f. f ≡ e) → P e → IsErrAnd r P
+at-error (Ok v) e P h p = absurd h
+at-error (Err f) e P h p = subst P (sym h) p
 
-abbrev pub IsNotEncoded : Module → EncFault → Type 0
-IsNotEncoded m e = EncodesModule m (Err e)
+pub if-error : {V E : Type 0} (r : Result V E) (e : E) (P : E → Type 0) → IsErrAnd r (λ f. f ≡ e) → P e → IfErr r P
+if-error (Ok v) e P h p = absurd h
+if-error (Err f) e P h p = subst P (sym h) p
 
-refusal-by-memory : (x : List ℕ) (m : Module) (e : EncFault) → Bin x m → IsNotEncoded m e → encoding_refusal e ≡ NoMemory
-refusal-by-memory x m TooLarge p q = absurd (q x p)
-refusal-by-memory x m NoMemoryToEncode p q = refl
+-- ---- a module
 
-fault-by-memory : (x : List ℕ) (m : Module) (e : EncFault) → Bin x m → IsNotEncoded m e → encoding_fault e ≡ Memory
-fault-by-memory x m TooLarge p q = absurd (q x p)
-fault-by-memory x m NoMemoryToEncode p q = refl
+pub keeps-rules : (m : Module) → broken m ≡ [] → KeepsRules m
+unfolding KeepsRules
+keeps-rules m p = p
 
--- the refusal is want of memory
-pub refused-by-memory : {V : Type 0} (r : Result V Refusal) (x : List ℕ) (m : Module) (e : EncFault) → Bin x m → IsNotEncoded m e
-    → IsErrAnd r (λ f. f ≡ encoding_refusal e) → IsErrAnd r (λ f. f ≡ NoMemory)
-refused-by-memory (Ok v) x m e p q h = absurd h
-refused-by-memory (Err f) x m e p q h = h ∙ refusal-by-memory x m e p q
+pub broken-refusal : (m : Module) (e : CheckFault) → IsFirstOf (broken m) e → IsModuleFault m (checking_refusal e)
+unfolding BreaksFirst
+broken-refusal m (Broken item why) p = p
+broken-refusal m NoMemoryToCheck p = tt
 
-pub at-memory : {V : Type 0} (r : Result V Refusal) (P : V → Type 0) (Q : Refusal → Type 0) → IsErrAnd r (λ f. f ≡ NoMemory) → Q NoMemory → MatchResult r P Q
-at-memory (Ok v) P Q h q = absurd h
-at-memory (Err f) P Q h q = subst Q (sym h) q
+pub oversize-refusal : (m : Module) (e : EncFault) → EncodesModule m (Err e) → IsModuleFault m (encoding_refusal e)
+oversize-refusal m TooLarge p = p
+oversize-refusal m NoMemoryToEncode p = tt
+
+-- ---- a refusal of an input
+
+-- what bytes spell is never too large, so they are refused as the module is
+pub module-refused : (x : List ℕ) (m : Module) (f : Refusal) → Bin x m → IsModuleFault m f → IsRefused x f
+module-refused x m (Binary at why) p q = absurd q
+module-refused x m (Check item why) p q = inr (has-broken-rule x m item why p q)
+module-refused x m Oversize p q = absurd (q x p)
+module-refused x m NoMemory p q = inl refl
+
+pub never-meant : (x : List ℕ) (m : Module) (f : Refusal) → IsRefused x f → Means x m → f ≡ NoMemory
+never-meant x m f (inl e) p = e
+never-meant x m f (inr q) p = absurd (meant-or-fault x m f p q)
+
+pub that-fault : (x : List ℕ) (f g : Refusal) → IsRefused x f → HasFault x g → (f ≡ NoMemory) ⊎ (f ≡ g)
+that-fault x f g (inl e) p = inl e
+that-fault x f g (inr q) p = inr (one-fault x f g q p)
+
+-- ---- the answer, or the refusal
+
+module _ {V : Type 0} (bytes : V → List ℕ) (r : Result V Refusal) (x : List ℕ) where
+  -- a result that meets its clauses
+  abbrev pub IsJudged : Type 0
+  IsJudged = IfOk r (λ v. HasAnswer x (bytes v)) × IfErr r (IsRefused x)
+
+module _ {V : Type 0} (bytes : V → List ℕ) where
+  pub module-judged : (r : Result V Refusal) (x : List ℕ) (m : Module) → Bin x m → IfOk r (λ v. KeepsRules m)
+      → IfOk r (λ v. Canon (bytes v) m) → IfErr r (IsModuleFault m) → IsJudged bytes r x
+  module-judged (Ok v) x m p k q h = (has-answer x (bytes v) m p k q, tt)
+  module-judged (Err f) x m p k q h = (tt, module-refused x m f p h)
+
+  pub judged-only : (r : Result V Refusal) (x : List ℕ) → IsJudged bytes r x → (m : Module) → Means x m
+      → MatchResult r (λ v. Canon (bytes v) m) (λ f. f ≡ NoMemory)
+  judged-only (Ok v) x j m p = answer-canonical x (bytes v) m p j.0
+  judged-only (Err f) x j m p = never-meant x m f j.1 p
+
+  pub judged-fault : (r : Result V Refusal) (x : List ℕ) → IsJudged bytes r x → (g : Refusal) → HasFault x g
+      → MatchResult r (λ v. ⊥) (λ f. (f ≡ NoMemory) ⊎ (f ≡ g))
+  judged-fault (Ok v) x j g p = never-both x (bytes v) g j.0 p
+  judged-fault (Err f) x j g p = that-fault x f g j.1 p
 
 -- ---- known bytes
 
-fault-judged : {V : Type 0} (bytes : V → List ℕ) (e : BinFault) (x : List ℕ) → Decodes x (Err e) → Judges bytes (Err (decoding_fault e)) x
+fault-judged : {V : Type 0} (bytes : V → List ℕ) (e : BinFault) (x : List ℕ) → Decodes x (Err e)
+    → Judges bytes (Err (decoding_fault e)) x
 fault-judged bytes (Bad at why) x p = has-binary-fault x at why p
 fault-judged bytes (Unread at) x p = tt
 fault-judged bytes NoMemoryToDecode x p = tt
 
 -- they weren't decoded
-pub not-decoded : {V : Type 0} (bytes : V → List ℕ) (a : Option (List ℕ)) (e : BinFault) (r : Result V RunFault) → IfSome a (λ x. Decodes x (Err e))
-    → IsErrAnd r (λ f. f ≡ decoding_fault e) → IfSome a (Judges bytes r)
+pub not-decoded : {V : Type 0} (bytes : V → List ℕ) (a : Option (List ℕ)) (e : BinFault) (r : Result V RunFault)
+    → IfSome a (λ x. Decodes x (Err e)) → IsErrAnd r (λ f. f ≡ decoding_fault e) → IfSome a (Judges bytes r)
 not-decoded bytes None e r p h = tt
 not-decoded bytes (Some x) e (Ok v) p h = absurd h
-not-decoded bytes (Some x) e (Err f) p h = let P : RunFault → Type 0 = λ g. Judges bytes (Err g) x in subst P (sym h) (fault-judged bytes e x p)
+not-decoded bytes (Some x) e (Err f) p h =
+    let P : RunFault → Type 0 = λ g. Judges bytes (Err g) x in subst P (sym h) (fault-judged bytes e x p)
 
--- they were decoded, and the module wasn't encoded
-pub not-encoded : {V : Type 0} (bytes : V → List ℕ) (a : Option (List ℕ)) (m : Module) (e : EncFault) (r : Result V RunFault) → IfSome a (λ x. Bin x m)
-    → IsNotEncoded m e → IsErrAnd r (λ f. f ≡ encoding_fault e) → IfSome a (Judges bytes r)
-not-encoded bytes None m e r p q h = tt
-not-encoded bytes (Some x) m e (Ok v) p q h = absurd h
-not-encoded bytes (Some x) m e (Err f) p q h =
+refusal-judged : {V : Type 0} (bytes : V → List ℕ) (x : List ℕ) (m : Module) (f : Refusal) → Bin x m → IsModuleFault m f
+    → Judges bytes (Err (refusing_fault f)) x
+refusal-judged bytes x m (Binary at why) p q = absurd q
+refusal-judged bytes x m (Check item why) p q = has-broken-rule x m item why p q
+refusal-judged bytes x m Oversize p q = absurd (q x p)
+refusal-judged bytes x m NoMemory p q = tt
+
+-- they were decoded, and the module is refused
+pub not-answered : {V : Type 0} (bytes : V → List ℕ) (a : Option (List ℕ)) (m : Module) (f : Refusal)
+    (r : Result V RunFault) → IfSome a (λ x. Bin x m) → IsModuleFault m f → IsErrAnd r (λ g. g ≡ refusing_fault f) → IfSome a (Judges bytes r)
+not-answered bytes None m f r p q h = tt
+not-answered bytes (Some x) m f (Ok v) p q h = absurd h
+not-answered bytes (Some x) m f (Err g) p q h =
     let P : RunFault → Type 0 = λ g. Judges bytes (Err g) x in
-    subst P (sym (h ∙ fault-by-memory x m e p q)) tt
+    subst P (sym h) (refusal-judged bytes x m f p q)
 
 -- they were decoded, and the module was encoded
-pub encoded : (a : Option (List ℕ)) (m : Module) (b : List ℕ) → IfSome a (λ x. Bin x m) → Canon b m → IfSome a (λ x. HasAnswer x b)
-encoded None m b p q = tt
-encoded (Some x) m b p q = has-answer x b m p q
+pub answered : (a : Option (List ℕ)) (m : Module) (b : List ℕ) → IfSome a (λ x. Bin x m) → KeepsRules m → Canon b m
+    → IfSome a (λ x. HasAnswer x b)
+answered None m b p k q = tt
+answered (Some x) m b p k q = has-answer x b m p k q
 
 -- ---- how far a refused input was read
 
-near-told : (count : ℕ) (x : List ℕ) (e : BinFault) → DecodesNear count x (Err e) → RefusesNear count (decoding_fault e) x
+near-told : (count : ℕ) (x : List ℕ) (e : BinFault) → DecodesNear count x (Err e)
+    → RefusesNear count (decoding_fault e) x
 near-told count x (Bad at why) p = p
 near-told count x (Unread at) p = tt
 near-told count x NoMemoryToDecode p = tt
 
-pub near-decoded : {V : Type 0} (a : Option (List ℕ)) (count : ℕ) (e : BinFault) (r : Result V RunFault) → IfSome a (λ x. DecodesNear count x (Err e))
-    → IsErrAnd r (λ f. f ≡ decoding_fault e) → IfErr r (λ f. IfSome a (RefusesNear count f))
+pub near-decoded : {V : Type 0} (a : Option (List ℕ)) (count : ℕ) (e : BinFault) (r : Result V RunFault)
+    → IfSome a (λ x. DecodesNear count x (Err e)) → IsErrAnd r (λ f. f ≡ decoding_fault e)
+    → IfErr r (λ f. IfSome a (RefusesNear count f))
 near-decoded a count e (Ok v) p h = tt
 near-decoded None count e (Err f) p h = tt
 near-decoded (Some x) count e (Err f) p h = subst (λ g. RefusesNear count g x) (sym h) (near-told count x e p)
 
-near-encoding : (count : ℕ) (x : List ℕ) (e : EncFault) → RefusesNear count (encoding_fault e) x
-near-encoding count x TooLarge = tt
-near-encoding count x NoMemoryToEncode = tt
+near-refusing : (count : ℕ) (x : List ℕ) (m : Module) (f : Refusal) → IsModuleFault m f
+    → RefusesNear count (refusing_fault f) x
+near-refusing count x m (Binary at why) q = absurd q
+near-refusing count x m (Check item why) q = tt
+near-refusing count x m Oversize q = tt
+near-refusing count x m NoMemory q = tt
 
-pub near-encoded : {V : Type 0} (a : Option (List ℕ)) (count : ℕ) (e : EncFault) (r : Result V RunFault) → IsErrAnd r (λ f. f ≡ encoding_fault e)
-    → IfErr r (λ f. IfSome a (RefusesNear count f))
-near-encoded a count e (Ok v) h = tt
-near-encoded None count e (Err f) h = tt
-near-encoded (Some x) count e (Err f) h = subst (λ g. RefusesNear count g x) (sym h) (near-encoding count x e)
+pub near-refused : {V : Type 0} (a : Option (List ℕ)) (count : ℕ) (m : Module) (f : Refusal) (r : Result V RunFault)
+    → IsModuleFault m f → IsErrAnd r (λ g. g ≡ refusing_fault f) → IfErr r (λ g. IfSome a (RefusesNear count g))
+near-refused a count m f (Ok v) q h = tt
+near-refused None count m f (Err g) q h = tt
+near-refused (Some x) count m f (Err g) q h = subst (λ g. RefusesNear count g x) (sym h) (near-refusing count x m f q)

@@ -1,3 +1,5 @@
 pub mod Laws
 pub mod Judged
+pub mod Comparisons
 pub mod Writing
+pub mod Acted

@@ -1,4 +1,9 @@
-pub mod Faults
 pub mod Input
+pub mod Faults
 pub mod Run
+pub mod Comparing
 pub mod Text
+pub mod Program
+pub mod Asked
+pub mod Failing
+pub mod Status

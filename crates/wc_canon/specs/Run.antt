@@ -3,7 +3,7 @@ use Rattle.std.specs.Prelude.{◌≡◌, ℕ, ◌+◌, ◌≤◌, List, length, 
 use Rattle.std.specs.Io.KnownBytes.{Keeps, Appends}
 use Rattle.wc_binary.specs.Phrase.{halt}
 use Rattle.wc_binary.specs.Module.{StopB}
-use Rattle.wc_canon.specs.declared.fault.Refusal.TheVariants.{Binary, Oversize, Memory as NoMemory}
+use Rattle.wc_canon.specs.declared.fault.Refusal.TheVariants.{Binary, Check, Oversize, Memory as NoMemory}
 use Rattle.wc_canon.specs.declared.fault.RunFault.{RunFault}
 use Rattle.wc_canon.specs.declared.fault.RunFault.TheVariants.{Refused, Read, Write, Memory}
 use Rattle.wc_canon.specs.Input.{HasAnswer, HasFault}
@@ -42,9 +42,10 @@ IsQuiet old new (Err (Read at)) = Keeps old new
 IsQuiet old new (Err (Write n)) = ⊤
 IsQuiet old new (Err Memory) = Keeps old new
 
--- at most 4,096 bytes were read past those behind which the fault of x showed
+-- at most 4,096 bytes were read past those behind which the fault of the bytes x showed
 abbrev pub RefusesNear : ℕ → RunFault → List ℕ → Type 0
 RefusesNear count (Refused (Binary at why)) x = (taken : ℕ) × StopB x (halt at why taken) × (count ≤ taken + 4096)
+RefusesNear count (Refused (Check item why)) x = ⊤
 RefusesNear count (Refused Oversize) x = ⊤
 RefusesNear count (Refused NoMemory) x = ⊤
 RefusesNear count (Read at) x = ⊤

@@ -2,25 +2,69 @@
 use Rattle.std.specs.Prelude.{ℕ, List, ◌++◌, codes}
 use Rattle.std.specs.Fmt.{decimal}
 use Rattle.wc_binary.specs.declared.fault.BinWhy.{BinWhy}
-use Rattle.wc_binary.specs.declared.fault.BinWhy.TheVariants.{End, Magic, Version, SectionId, SectionOrder, SectionSize, Integer, NotUtf8, WrongType, Float}
+use Rattle.wc_binary.specs.declared.fault.BinWhy.TheVariants as bin
+use Rattle.wc_check.specs.declared.fault.Item.{Item}
+use Rattle.wc_check.specs.declared.fault.Item.TheVariants.{FuncType, Import, Func, Instr, Table, Memory, Global}
+use Rattle.wc_check.specs.declared.fault.Item.TheVariants.{Export, Start, Elem, Data}
+use Rattle.wc_check.specs.declared.fault.CheckWhy.{CheckWhy}
+use Rattle.wc_check.specs.declared.fault.CheckWhy.TheVariants as rule
 use Rattle.wc_canon.specs.declared.fault.Refusal.{Refusal}
-use Rattle.wc_canon.specs.declared.fault.Refusal.TheVariants.{Binary, Oversize, Memory}
+use Rattle.wc_canon.specs.declared.fault.Refusal.TheVariants as refusal
 
 -- why bytes are no binary
 abbrev pub reason_text : BinWhy → List ℕ
-reason_text End = codes "unexpected end"
-reason_text Magic = codes "bad magic"
-reason_text Version = codes "unsupported version"
-reason_text SectionId = codes "unknown section id"
-reason_text SectionOrder = codes "section out of order"
-reason_text SectionSize = codes "section size differs from its content"
-reason_text Integer = codes "integer out of range"
-reason_text NotUtf8 = codes "name is not UTF-8"
-reason_text WrongType = codes "unknown type"
-reason_text Float = codes "float is not supported"
+reason_text bin.End = codes "unexpected end"
+reason_text bin.Magic = codes "bad magic"
+reason_text bin.Version = codes "unsupported version"
+reason_text bin.SectionId = codes "unknown section id"
+reason_text bin.SectionOrder = codes "section out of order"
+reason_text bin.SectionSize = codes "section size differs from its content"
+reason_text bin.Integer = codes "integer out of range"
+reason_text bin.NotUtf8 = codes "name is not UTF-8"
+reason_text bin.WrongType = codes "unknown type"
+reason_text bin.Float = codes "float is not supported"
+reason_text bin.Tag = codes "unknown tag"
+reason_text bin.Opcode = codes "unknown opcode"
+reason_text bin.ZeroByte = codes "zero byte expected"
+reason_text bin.Depth = codes "nesting too deep"
+reason_text bin.Locals = codes "too many locals"
+reason_text bin.BodySize = codes "body size differs from its content"
+reason_text bin.Counts = codes "function and code counts differ"
 
--- the place of a fault, in decimal digits, and its reason
+-- which rule is broken
+abbrev pub rule_text : CheckWhy → List ℕ
+rule_text rule.TypeIndex = codes "type index out of range"
+rule_text rule.Limits = codes "limits out of range"
+rule_text rule.Several = codes "second table or memory"
+rule_text rule.Constant = codes "not a constant of the right type"
+rule_text rule.Index = codes "index out of range"
+rule_text rule.Immutable = codes "global is not mutable"
+rule_text rule.Label = codes "label out of range"
+rule_text rule.Align = codes "alignment above natural"
+rule_text rule.ExportName = codes "duplicate export name"
+rule_text rule.StartType = codes "start function has parameters or results"
+
+-- an item by a word and its number, and a text behind it
+abbrev pub numbered : List ℕ → ℕ → List ℕ → List ℕ
+numbered word n text = word ++ (decimal n ++ (codes ": " ++ text))
+
+-- an item that breaks a rule, and the text of the rule
+abbrev pub broken_text : Item → List ℕ → List ℕ
+broken_text (FuncType n) text = numbered (codes "type ") n text
+broken_text (Import n) text = numbered (codes "import ") n text
+broken_text (Func n) text = numbered (codes "func ") n text
+broken_text (Instr func number) text = codes "func " ++ (decimal func ++ numbered (codes " instruction ") number text)
+broken_text (Table n) text = numbered (codes "table ") n text
+broken_text (Memory n) text = numbered (codes "memory ") n text
+broken_text (Global n) text = numbered (codes "global ") n text
+broken_text (Export n) text = numbered (codes "export ") n text
+broken_text Start text = codes "start: " ++ text
+broken_text (Elem n) text = numbered (codes "elem ") n text
+broken_text (Data n) text = numbered (codes "data ") n text
+
+-- the place of a fault, in decimal digits, and its reason; or an item and the rule that it breaks
 abbrev pub refusal_text : Refusal → List ℕ
-refusal_text (Binary at why) = codes "byte " ++ (decimal at ++ (codes ": " ++ reason_text why))
-refusal_text Oversize = codes "module too large"
-refusal_text Memory = codes "out of memory"
+refusal_text (refusal.Binary at why) = codes "byte " ++ (decimal at ++ (codes ": " ++ reason_text why))
+refusal_text (refusal.Check item why) = broken_text item (rule_text why)
+refusal_text refusal.Oversize = codes "module too large"
+refusal_text refusal.Memory = codes "out of memory"

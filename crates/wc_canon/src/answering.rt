@@ -3,23 +3,27 @@
 ghost use Rattle.std.specs.Prelude.{◌≡◌, ◌⊎◌, IfOk, IfErr, MatchResult};
 ghost use Rattle.wc_ast.specs.declared.module.Module.{Module};
 ghost use Rattle.wc_binary.specs.Module.{Canon, IsOrLonger};
-ghost use Rattle.wc_canon.specs.Input.{Means, HasAnswer, HasFault};
+ghost use Rattle.wc_canon.specs.Input.{Means, HasAnswer, HasFault, IsRefused};
 
+use crate::canonical::canonical_bytes;
 use crate::fault::Refusal;
 use std::alloc::Global;
-use wc_binary::{BinFault, decode, encode};
+use wc_binary::{BinFault, decode};
 
-/// The canonical bytes of the module that the input denotes, to its last byte, or else the one first fault of the input.
+/// The canonical bytes of the module that the input denotes, to its last byte, or else the one first fault of the
+/// input.
 ///
 /// Two inputs that are accepted have equal answers exactly if they denote the same module, and an answer is its own
 /// answer. Custom sections are read and left out. Every input is judged as a binary (WebAssembly Core
-/// Specification 1.0, 5.5.15).
+/// Specification 1.0, 5.5.15), and its module by the rules on modules (chapter 3, but for the typing of instructions).
 ///
 /// # Errors
-/// `Refusal::Binary` exactly where the input isn't accepted, and `Refusal::Memory` where a growth of memory was refused.
+/// `Refusal::Binary` where the input is no binary, and else `Refusal::Check` where its module breaks a rule. Exactly
+/// these inputs are refused; `Refusal::Oversize` never comes, and `Refusal::Memory` only where a growth of memory was
+/// refused.
 pub fn normalise(alloc: Global, input: &[u8]) -> Result<Vec<u8>, Refusal>
     ensures ok { IfOk result (λ b. HasAnswer input.now b.items) }
-    ensures err { IfErr result (λ f. (f ≡ Refusal.Memory) ⊎ HasFault input.now f) }
+    ensures err { IfErr result (IsRefused input.now) }
 
     // Each input that denotes a module is answered so, and each one with a fault is refused by it.
     ensures only { (m : Module) → Means input.now m
@@ -31,7 +35,7 @@ pub fn normalise(alloc: Global, input: &[u8]) -> Result<Vec<u8>, Refusal>
     ensures shortest { IfOk result (λ b. IsOrLonger input.now b.items) }
 {
     match decode(alloc, input) {
-        Ok(module) => Ok(encode(alloc, &module)?),
+        Ok(module) => canonical_bytes(alloc, &module),
         Err(fault) => match fault {
             BinFault::Bad { at, why } => Err(Refusal::Binary { at, why }),
             BinFault::Memory => Err(Refusal::Memory),

@@ -2,6 +2,7 @@
 
 use thiserror::Error;
 use wc_binary::{BinFault, BinWhy, EncFault};
+use wc_check::{CheckFault, CheckWhy, Item};
 
 /// Why an input has no canonical bytes. [`render`](crate::render) gives the text.
 #[derive(Debug, Drop)]
@@ -9,6 +10,9 @@ pub enum Refusal {
     /// The input is no binary (WebAssembly Core Specification 1.0, chapter 5). `at` is the byte of its first fault,
     /// counted from 0, and `why` says which byte that is.
     Binary { at: u64, why: BinWhy },
+    /// The input denotes a module that breaks a rule (WebAssembly Core Specification 1.0, chapter 3): the first item
+    /// that breaks one, and the first rule that it breaks.
+    Check { item: Item, why: CheckWhy },
     /// The input denotes a module that no bytes spell canonically: a size or a count of it would reach `2^32`.
     Oversize,
     /// A growth of memory was refused.
@@ -33,6 +37,20 @@ pub enum RunFault {
     Memory,
 }
 
+impl From<CheckFault> for Refusal {
+    ghost use Rattle.std.specs.Prelude.{◌≡◌};
+    ghost use Rattle.wc_canon.specs.Faults.{checking_refusal};
+
+    ghost from_gives = { λ fault refusal. refusal ≡ checking_refusal fault };
+
+    fn from(fault: CheckFault) -> Refusal {
+        match fault {
+            CheckFault::Broken { item, why } => Refusal::Check { item, why },
+            CheckFault::Memory => Refusal::Memory,
+        }
+    }
+}
+
 impl From<EncFault> for Refusal {
     ghost use Rattle.std.specs.Prelude.{◌≡◌};
     ghost use Rattle.wc_canon.specs.Faults.{encoding_refusal};
@@ -47,16 +65,16 @@ impl From<EncFault> for Refusal {
     }
 }
 
-impl From<EncFault> for RunFault {
+impl From<Refusal> for RunFault {
     ghost use Rattle.std.specs.Prelude.{◌≡◌};
-    ghost use Rattle.wc_canon.specs.Faults.{encoding_fault};
+    ghost use Rattle.wc_canon.specs.Faults.{refusing_fault};
 
-    ghost from_gives = { λ fault run_fault. run_fault ≡ encoding_fault fault };
+    ghost from_gives = { λ refusal run_fault. run_fault ≡ refusing_fault refusal };
 
-    fn from(fault: EncFault) -> RunFault {
-        match fault {
-            EncFault::Oversize => RunFault::Refused(Refusal::Oversize),
-            EncFault::Memory => RunFault::Memory,
+    fn from(refusal: Refusal) -> RunFault {
+        match refusal {
+            Refusal::Memory => RunFault::Memory,
+            refusal => RunFault::Refused(refusal),
         }
     }
 }

@@ -1,11 +1,12 @@
 //! The texts of refusals.
 
 ghost use Rattle.std.specs.Prelude.{◌≡◌, IfOk, string_bytes};
-ghost use Rattle.wc_canon.specs.Text.{reason_text, refusal_text};
+ghost use Rattle.wc_canon.specs.Text.{reason_text, rule_text, broken_text, refusal_text};
 
 use crate::fault::Refusal;
 use std::alloc::{AllocError, Global};
 use wc_binary::BinWhy;
+use wc_check::{CheckWhy, Item};
 
 fn reason(why: BinWhy) -> &'static str
     ensures { result.now ≡ reason_text why }
@@ -21,10 +22,56 @@ fn reason(why: BinWhy) -> &'static str
         BinWhy::NotUtf8 => "name is not UTF-8",
         BinWhy::WrongType => "unknown type",
         BinWhy::Float => "float is not supported",
+        BinWhy::Tag => "unknown tag",
+        BinWhy::Opcode => "unknown opcode",
+        BinWhy::ZeroByte => "zero byte expected",
+        BinWhy::Depth => "nesting too deep",
+        BinWhy::Locals => "too many locals",
+        BinWhy::BodySize => "body size differs from its content",
+        BinWhy::Counts => "function and code counts differ",
     }
 }
 
-/// The text of a refusal, without a line end: `byte AT: TEXT` where the input is no binary, with AT in decimal digits.
+fn rule(why: CheckWhy) -> &'static str
+    ensures { result.now ≡ rule_text why }
+{
+    match why {
+        CheckWhy::TypeIndex => "type index out of range",
+        CheckWhy::Limits => "limits out of range",
+        CheckWhy::Several => "second table or memory",
+        CheckWhy::Constant => "not a constant of the right type",
+        CheckWhy::Index => "index out of range",
+        CheckWhy::Immutable => "global is not mutable",
+        CheckWhy::Label => "label out of range",
+        CheckWhy::Align => "alignment above natural",
+        CheckWhy::ExportName => "duplicate export name",
+        CheckWhy::StartType => "start function has parameters or results",
+    }
+}
+
+/// An item, and the rule that it breaks.
+fn render_broken(alloc: Global, item: Item, rule: &str) -> Result<String, AllocError>
+    ensures { IfOk result (λ text. string_bytes text ≡ broken_text item rule.now) }
+{
+    match item {
+        Item::FuncType(n) => format!(in alloc; "type {n}: {rule}"),
+        Item::Import(n) => format!(in alloc; "import {n}: {rule}"),
+        Item::Func(n) => format!(in alloc; "func {n}: {rule}"),
+        Item::Instr { func, number } => {
+            format!(in alloc; "func {func} instruction {number}: {rule}")
+        }
+        Item::Table(n) => format!(in alloc; "table {n}: {rule}"),
+        Item::Memory(n) => format!(in alloc; "memory {n}: {rule}"),
+        Item::Global(n) => format!(in alloc; "global {n}: {rule}"),
+        Item::Export(n) => format!(in alloc; "export {n}: {rule}"),
+        Item::Start => format!(in alloc; "start: {rule}"),
+        Item::Elem(n) => format!(in alloc; "elem {n}: {rule}"),
+        Item::Data(n) => format!(in alloc; "data {n}: {rule}"),
+    }
+}
+
+/// The text of a refusal, without a line end. Numbers are in decimal digits. `byte AT: TEXT` where the input is no
+/// binary; `ITEM: TEXT` where a rule is broken, as in `func 0 instruction 1: label out of range`.
 ///
 /// # Errors
 /// A growth of memory was refused.
@@ -33,6 +80,7 @@ pub fn render(alloc: Global, refusal: &Refusal) -> Result<String, AllocError>
 {
     match refusal {
         Refusal::Binary { at, why } => format!(in alloc; "byte {at}: {}", reason(*why)),
+        Refusal::Check { item, why } => render_broken(alloc, *item, rule(*why)),
         Refusal::Oversize => "module too large".to_string(alloc),
         Refusal::Memory => "out of memory".to_string(alloc),
     }

@@ -7,11 +7,12 @@ ghost use Rattle.wc_binary.specs.Decoding.{Decodes, DecodesNear, is_read_fault a
 ghost use Rattle.wc_canon.specs.declared.fault.Refusal.TheVariants as refusals;
 ghost use Rattle.wc_canon.specs.Run.{Judges, Answers, RefusesNear, IsQuiet, is_read_fault, is_write_fault};
 
+use crate::canonical::canonical_bytes;
 use crate::fault::RunFault;
 use std::alloc::Global;
 use std::io::{Read, Write};
 use wc_ast::Module;
-use wc_binary::{BinFault, decode, decode_from, encode};
+use wc_binary::{BinFault, decode, decode_from};
 use wc_device::Device;
 
 /// How many bytes the first read is offered.
@@ -58,14 +59,15 @@ fn answer<R: Read>(alloc: Global, r: &mut Device<R>) -> Result<Vec<u8>, RunFault
     ensures memory { ¬ (IsErrOf result (RunFault.Refused refusals.Memory)) }
 {
     let module = read_module(alloc, r)?;
-    Ok(encode(alloc, &module)?)
+    Ok(canonical_bytes(alloc, &module)?)
 }
 
 /// Writes all the bytes, and flushes once.
-fn write_all<W: Write>(w: &mut Device<W>, bytes: &[u8]) -> Result<u64, RunFault>
+pub(crate) fn write_all<W: Write>(w: &mut Device<W>, bytes: &[u8]) -> Result<u64, RunFault>
     requires { has_failed w.old ≡ false }
     ensures ok { IfOk result (λ n. n ≡ length bytes.now) }
-    ensures appends { OnOk result (Appends (W.contents (device_inner w.old)) (W.contents (device_inner w.new)) bytes.now) }
+    ensures appends { OnOk result
+        (Appends (W.contents (device_inner w.old)) (W.contents (device_inner w.new)) bytes.now) }
     ensures wrote { IfErr result (λ e. (n : ℕ) × (e ≡ RunFault.Write n) × (n ≤ length bytes.now)
         × Appends (W.contents (device_inner w.old)) (W.contents (device_inner w.new)) (take n bytes.now)) }
     ensures write { is_write_fault result ≡ has_failed w.new }

@@ -1,57 +1,28 @@
 //! Worked inputs, readers and writers that fail, and the texts.
+mod accepted;
+mod acting;
+mod comparing;
 mod devices;
+mod lines;
+mod refused;
+mod rendering;
 
 use crate::fault::{Refusal, RunFault};
 use crate::running::{Job, run};
 use crate::{normalise, render};
+use accepted::ACCEPTED;
 use devices::{Reader, Writer};
+use refused::REFUSED;
 use std::alloc::{AllocError, Global};
 use std::io::Read;
 use std::test::Fail;
-use wc_binary::BinWhy;
 use wc_device::Device;
-
-/// Inputs that denote a module, and their canonical bytes.
-const ACCEPTED: [(&[u8], &[u8]); 3] = [
-    (b"\0asm\x01\0\0\0", b"\0asm\x01\0\0\0"),
-    (b"\0asm\x01\0\0\0\x01\x01\0\0\x02\x01a", b"\0asm\x01\0\0\0"),
-    (PADDED, SHORT),
-];
 
 /// A type section whose size and count are padded to two bytes.
 const PADDED: &[u8] = b"\0asm\x01\0\0\0\x01\x87\0\x81\0\x60\x01\x7f\x01\x7f";
 
 /// The same module canonically.
 const SHORT: &[u8] = b"\0asm\x01\0\0\0\x01\x06\x01\x60\x01\x7f\x01\x7f";
-
-/// Inputs that are refused, and the texts.
-const REFUSED: [(&[u8], &str); 10] = [
-    (b"", "byte 0: unexpected end"),
-    (b"\0", "byte 1: unexpected end"),
-    (b"\0asm\x01\0\0", "byte 7: unexpected end"),
-    (b"\0asm\x02\0\0\0", "byte 4: unsupported version"),
-    (b"\0asm\x01\0\0\0\x0c\x01\0", "byte 8: unknown section id"),
-    (
-        b"\0asm\x01\0\0\0\x01\x01\0\x01\x01\0",
-        "byte 11: section out of order",
-    ),
-    (
-        b"\0asm\x01\0\0\0\x01\x05\x01\x60\0\0",
-        "byte 9: section size differs from its content",
-    ),
-    (
-        b"\0asm\x01\0\0\0\0\x01\x02ab",
-        "byte 9: section size differs from its content",
-    ),
-    (
-        b"\0asm\x01\0\0\0\0\x02\x01\xff",
-        "byte 11: name is not UTF-8",
-    ),
-    (
-        b"\0asm\x01\0\0\0\x01\x05\x01\x60\x01\x7d\0",
-        "byte 13: float is not supported",
-    ),
-];
 
 /// What a run told, in words.
 fn told(alloc: Global, outcome: Result<u64, RunFault>) -> Result<String, AllocError> {
@@ -167,45 +138,6 @@ fn a_failed_write_is_told(rt: HostRuntime) -> Result<(), Fail> {
         assert_eq!(rt; w.inner().taken.as_slice(), &SHORT[..taken]);
         assert_eq!(rt; w.inner().flushes, flushes);
     }
-    Ok(())
-}
-
-#[test]
-fn refusals_are_rendered(rt: HostRuntime) -> Result<(), Fail> {
-    for (why, text) in [
-        (BinWhy::End, "byte 9: unexpected end"),
-        (BinWhy::Magic, "byte 9: bad magic"),
-        (BinWhy::Version, "byte 9: unsupported version"),
-        (BinWhy::SectionId, "byte 9: unknown section id"),
-        (BinWhy::SectionOrder, "byte 9: section out of order"),
-        (
-            BinWhy::SectionSize,
-            "byte 9: section size differs from its content",
-        ),
-        (BinWhy::Integer, "byte 9: integer out of range"),
-        (BinWhy::NotUtf8, "byte 9: name is not UTF-8"),
-        (BinWhy::WrongType, "byte 9: unknown type"),
-        (BinWhy::Float, "byte 9: float is not supported"),
-    ] {
-        let refusal = Refusal::Binary { at: 9, why };
-        assert_eq!(rt; render(rt.alloc(), &refusal)?.as_str(), text);
-    }
-    let far = Refusal::Binary {
-        at: u64::MAX,
-        why: BinWhy::End,
-    };
-    assert_eq!(rt;
-        render(rt.alloc(), &far)?.as_str(),
-        "byte 18446744073709551615: unexpected end"
-    );
-    assert_eq!(rt;
-        render(rt.alloc(), &Refusal::Oversize)?.as_str(),
-        "module too large"
-    );
-    assert_eq!(rt;
-        render(rt.alloc(), &Refusal::Memory)?.as_str(),
-        "out of memory"
-    );
     Ok(())
 }
 

@@ -6,9 +6,9 @@ ghost use Rattle.wc_binary.specs.Module.{preamble as preamble_phrase};
 ghost use Rattle.wc_binary.specs.Source.{Gives};
 ghost use Rattle.wc_binary.specs.Decoding.{SectionsGive, ModuleGives};
 
-use crate::decoder::section::{content, section_id};
+use crate::decoder::section::{content, put, section_kind};
 use crate::fault::{BinFault, BinWhy};
-use crate::section::Section;
+use crate::parts::Parts;
 use crate::source::Source;
 use std::alloc::Global;
 use wc_ast::Module;
@@ -45,28 +45,24 @@ fn preamble<S: Source>(source: &mut S) -> Result<(), BinFault>
 }
 
 /// Sections to the end of the input.
-fn sections<S: Source>(alloc: Global, source: &mut S) -> Result<Module, BinFault>
+fn sections<S: Source>(alloc: Global, source: &mut S) -> Result<Parts, BinFault>
     ensures { SectionsGive (S.input source.old) (S.input source.new) result }
 {
-    let mut module = Module::new(alloc);
+    let mut parts = Parts::new(alloc);
     let mut last = 0;
     loop {
         let at = source.place();
         let byte = match source.next()? {
-            None => return Ok(module),
+            None => return Ok(parts),
             Some(byte) => byte,
         };
-        let id = match section_id(last, byte) {
-            Ok(id) => id,
+        let kind = match section_kind(last, byte) {
+            Ok(kind) => kind,
             Err(why) => return Err(BinFault::Bad { at, why }),
         };
-        match content(alloc, id, source)? {
-            Section::Custom => {}
-            Section::Types(types) => {
-                module.types = types;
-                last = 1;
-            }
-        }
+        let section = content(alloc, kind, source)?;
+        last = last.max(section.number());
+        put(&mut parts, section);
     }
 }
 
@@ -76,5 +72,12 @@ pub fn whole_module<S: Source>(alloc: Global, source: &mut S) -> Result<Module, 
     ensures { ModuleGives (S.input source.old) (S.input source.new) result }
 {
     preamble(source)?;
-    sections(alloc, source)
+    let parts = sections(alloc, source)?;
+    if parts.func_types.len() != parts.codes.len() {
+        return Err(BinFault::Bad {
+            at: source.place(),
+            why: BinWhy::Counts,
+        });
+    }
+    Ok(parts.into_module(alloc)?)
 }

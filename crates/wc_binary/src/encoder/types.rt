@@ -1,59 +1,100 @@
-//! Types and the type section (Core 1.0, 5.3 and 5.5.4).
+//! Types (Core 1.0, 5.3).
 
-ghost use Rattle.wc_binary.specs.Written.{vector_bytes, value_type_bytes, func_type_bytes, types_section, FitsTypes, FitsFuncType, FitsFuncTypes, FitsTypesSection};
+ghost use Rattle.wc_binary.specs.Written.{value_type_bytes, func_type_bytes, limits_bytes, table_type_bytes, global_type_bytes, section_bytes, vector_bytes, Anything, FitsFuncType, FitsLimits, FitsVector, FitsSection};
 ghost use Rattle.wc_binary.specs.Encoding.{Writes};
 
-use crate::encoder::value::write_length;
+use crate::encoder::item::{Item, write_content, write_vector};
+use crate::encoder::value::{write_length, write_u32};
 use crate::fault::EncFault;
 use std::alloc::Global;
-use wc_ast::{FuncType, ValType};
+use wc_ast::{FuncType, GlobalType, Limits, ValType};
 
-fn write_value_types(out: &mut Vec<u8>, types: &[ValType]) -> Result<(), EncFault>
-    ensures { Writes (FitsTypes types.now) out.old.items out.new.items (vector_bytes value_type_bytes types.now) result }
-{
-    write_length(out, types.len())?;
-    for value_type in types {
-        out.push(match value_type {
+impl Item for ValType {
+    ghost bytes = { value_type_bytes };
+
+    ghost Fits = { Anything };
+
+    fn write(&self, out: &mut Vec<u8>) -> Result<(), EncFault> {
+        out.push(match self {
             ValType::I32 => 0x7f,
             ValType::I64 => 0x7e,
         })?;
+        Ok(())
+    }
+}
+
+impl Item for FuncType {
+    ghost bytes = { func_type_bytes };
+
+    ghost Fits = { FitsFuncType };
+
+    fn write(&self, out: &mut Vec<u8>) -> Result<(), EncFault> {
+        out.push(0x60)?;
+        write_vector(out, self.params.as_slice())?;
+        write_vector(out, self.results.as_slice())
+    }
+}
+
+impl Item for Limits {
+    ghost bytes = { limits_bytes };
+
+    ghost Fits = { FitsLimits };
+
+    fn write(&self, out: &mut Vec<u8>) -> Result<(), EncFault> {
+        match self.max {
+            None => {
+                out.push(0)?;
+                write_u32(out, self.min)?;
+            }
+            Some(max) => {
+                out.push(1)?;
+                write_u32(out, self.min)?;
+                write_u32(out, max)?;
+            }
+        }
+        Ok(())
+    }
+}
+
+/// Writes a table type.
+pub fn write_table_type(out: &mut Vec<u8>, limits: &Limits) -> Result<(), EncFault>
+    ensures { Writes (FitsLimits limits.now) out.old.items out.new.items (table_type_bytes limits.now) result }
+{
+    out.push(0x70)?;
+    limits.write(out)
+}
+
+fn write_table_types(out: &mut Vec<u8>, tables: &[Limits]) -> Result<(), EncFault>
+    ensures { Writes (FitsVector FitsLimits tables.now) out.old.items out.new.items (vector_bytes table_type_bytes tables.now) result }
+{
+    write_length(out, tables.len())?;
+    for table in tables {
+        write_table_type(out, table)?;
     }
     Ok(())
 }
 
-fn write_func_type(out: &mut Vec<u8>, func_type: &FuncType) -> Result<(), EncFault>
-    ensures { Writes (FitsFuncType func_type.now) out.old.items out.new.items (func_type_bytes func_type.now) result }
-{
-    out.push(0x60)?;
-    write_value_types(out, func_type.params.as_slice())?;
-    write_value_types(out, func_type.results.as_slice())
-}
-
-fn write_func_types(out: &mut Vec<u8>, types: &[FuncType]) -> Result<(), EncFault>
-    ensures { Writes (FitsFuncTypes types.now) out.old.items out.new.items (vector_bytes func_type_bytes types.now) result }
-{
-    write_length(out, types.len())?;
-    for func_type in types {
-        write_func_type(out, func_type)?;
-    }
-    Ok(())
-}
-
-/// Writes the type section, unless there is no type.
-pub fn write_type_section(
+/// Writes the table section, unless there is no table.
+pub fn write_table_section(
     alloc: Global,
     out: &mut Vec<u8>,
-    types: &[FuncType],
+    tables: &[Limits],
 ) -> Result<(), EncFault>
-    ensures { Writes (FitsTypesSection types.now) out.old.items out.new.items (types_section types.now) result }
+    ensures { Writes (FitsSection table_type_bytes FitsLimits tables.now) out.old.items out.new.items (section_bytes 4 table_type_bytes tables.now) result }
 {
-    if types.is_empty() {
+    if tables.is_empty() {
         return Ok(());
     }
     let mut content = Vec::new(alloc);
-    write_func_types(&mut content, types)?;
-    out.push(0x01)?;
-    write_length(out, content.len())?;
-    out.extend_from_slice(&content)?;
+    write_table_types(&mut content, tables)?;
+    write_content(out, 4, content.as_slice())
+}
+
+/// Writes a global type.
+pub fn write_global_type(out: &mut Vec<u8>, global_type: &GlobalType) -> Result<(), EncFault>
+    ensures { Writes (Anything global_type.now) out.old.items out.new.items (global_type_bytes global_type.now) result }
+{
+    global_type.ty.write(out)?;
+    out.push(u8::from(global_type.mutable))?;
     Ok(())
 }

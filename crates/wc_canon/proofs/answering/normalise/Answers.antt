@@ -1,27 +1,29 @@
-use Rattle.std.proofs.Common.{inl, inr, refl}
-use Rattle.wc_canon.proofs.Laws.{has-answer, has-binary-fault, answer-canonical, meant-or-fault, never-both, one-fault}
-use Rattle.wc_canon.proofs.Judged.{refused-by-memory, at-memory}
+use Rattle.std.proofs.Common.{inr}
+use Rattle.wc_canon.proofs.Laws.{has-binary-fault, meant-or-fault, one-fault}
+use Rattle.wc_canon.proofs.Judged.{module-judged, judged-only, judged-fault}
 use Rattle.wc_canon.proofs.answering.normalise.Goals as goal
 
-pub returns-in_ok-encode-in-Ok : goal.returns-in_ok-encode-in-Ok
-returns-in_ok-encode-in-Ok c =
-    let a = has-answer _ _ c.in-Ok.module c.in-Ok.ensures.decodes c.in_ok-encode-in-Ok.ensures.0 in record {
-      ok = a;
-      err = tt;
-      only = λ m p. answer-canonical _ _ m p a;
-      only_fault = λ f p. never-both _ _ f a p;
-      shortest = c.in_ok-encode-in-Ok.ensures.1 _ c.in-Ok.ensures.decodes;
-    }
+pub returns-in-Ok-clause-ok : goal.returns-in-Ok-clause-ok
+returns-in-Ok-clause-ok c =
+    let e = c.canonical_bytes.ensures in
+    (module-judged (λ v. v.items) _ _ _ c.in-Ok.ensures.decodes e.keeps e.canonical e.err).0
 
-pub returns-in_err-encode-in-Ok : goal.returns-in_err-encode-in-Ok
-returns-in_err-encode-in-Ok c =
-    let told = refused-by-memory _ _ c.in-Ok.module _ c.in-Ok.ensures.decodes c.in_err-encode-in-Ok.ensures c.from_residual.ensures.1 in record {
-      ok = at-memory _ _ _ told tt;
-      err = at-memory _ _ _ told (inl refl);
-      only = λ m p. at-memory _ _ _ told refl;
-      only_fault = λ f p. at-memory _ _ _ told (inl refl);
-      shortest = at-memory _ _ _ told tt;
-    }
+pub returns-in-Ok-clause-err : goal.returns-in-Ok-clause-err
+returns-in-Ok-clause-err c =
+    let e = c.canonical_bytes.ensures in
+    (module-judged (λ v. v.items) _ _ _ c.in-Ok.ensures.decodes e.keeps e.canonical e.err).1
+
+pub returns-in-Ok-clause-only : goal.returns-in-Ok-clause-only
+returns-in-Ok-clause-only c =
+    let e = c.canonical_bytes.ensures in
+    judged-only (λ v. v.items) _ _
+    (module-judged (λ v. v.items) _ _ _ c.in-Ok.ensures.decodes e.keeps e.canonical e.err)
+
+pub returns-in-Ok-clause-only_fault : goal.returns-in-Ok-clause-only_fault
+returns-in-Ok-clause-only_fault c =
+    let e = c.canonical_bytes.ensures in
+    judged-fault (λ v. v.items) _ _
+    (module-judged (λ v. v.items) _ _ _ c.in-Ok.ensures.decodes e.keeps e.canonical e.err)
 
 pub returns-in-Bad : goal.returns-in-Bad
 returns-in-Bad c =

@@ -1,4 +1,4 @@
-use Rattle.std.proofs.Common.{◌≡◌, arith, [], sym}
+use Rattle.std.proofs.Common.{arith, []}
 use Rattle.std.proofs.lemmas.Result.{err_from_is_err_and}
 use Rattle.wc_leb128.proofs.UnsignedLaws.{continues, spelled-below}
 use Rattle.wc_binary.specs.Values.{u32}

@@ -1,0 +1,13 @@
+use Rattle.std.proofs.Common.{◌-◌, ◌^◌}
+use Rattle.wc_binary.specs.Reading.{read}
+use Rattle.wc_binary.specs.Instructions.{expr}
+use Rattle.wc_binary.proofs.ReadingEntries.{Draws}
+use Rattle.wc_binary.proofs.decoder.expression.BodyPart.read.Given as goal
+
+abbrev pub invariant-entries : goal.invariant-entries
+invariant-entries g l =
+    let old = g.S.Source.input l.fn.source in
+    Draws old (g.S.Source.input l.source) l.builder (read expr old.place old.left)
+
+abbrev pub decreases-entries : goal.decreases-entries
+decreases-entries g l = 2 ^ 64 - (g.S.Source.input l.source).place

@@ -1,0 +1,29 @@
+use Rattle.std.proofs.Common.{refl, sym, ◌∙◌, arith}
+use Rattle.wc_ast.specs.declared.op.OpByte.TheVariants.{Known, Float}
+use Rattle.wc_binary.proofs.Going.{GoesOn-refl}
+use Rattle.wc_binary.proofs.ReadingEntries.{opcode-is, no-entry}
+use Rattle.wc_binary.proofs.decoder.expression.entry.Goals as goal
+use Rattle.wc_binary.proofs.decoder.expression.entry.Goals.{else-byte-eq5-via-then-byte-eq5+else-in_first_part, else-byte-eq5-via-else-byte-eq5}
+
+pub returns-in-Known-clause-gives : goal.returns-in-Known-clause-gives
+returns-in-Known-clause-gives g c =
+    let e = opcode-is c.args.byte (Known c.in-Known.op) c.in-Known.ensures (λ e. absurd cc) in
+    rw e c.instruction.ensures.gives
+
+pub returns-in-Float-clause-gives : goal.returns-in-Float-clause-gives
+returns-in-Float-clause-gives g c =
+    let e = opcode-is c.args.byte Float c.in-Float.ensures (λ e. absurd cc) in
+    (GoesOn-refl _, λ w. rw (e, c.requires) refl)
+
+pub returns-else-byte-eq5-clause-gives : goal.returns-else-byte-eq5-clause-gives
+returns-else-byte-eq5-clause-gives g c = (
+  GoesOn-refl _,
+  λ w.
+      let e = no-entry c.args.builder.now c.args.byte c.args.at (g.S.Source.input c.args.source.now).left
+      c.in-Unknown.ensures (λ e. absurd (omega arith)) (elim c.else-byte-eq5.branch [
+        | else-byte-eq5-via-then-byte-eq5+else-in_first_part w ↦
+            λ e. sym w.in_first_part.ensures ∙ w.if-in_first_part.false
+        | else-byte-eq5-via-else-byte-eq5 w ↦ λ e. absurd (omega arith)
+      ]) in
+      rw (e, c.requires) refl,
+)

@@ -1,0 +1,11 @@
+use Rattle.std.proofs.Common.{◌≡◌, ◌++◌, length, map, take}
+use Rattle.std.specs.List.{flat_map, AllByRecursion}
+use Rattle.wc_leb128.specs.Shortest.{unsigned_bytes}
+use Rattle.wc_binary.specs.Module.{code_of}
+use Rattle.wc_binary.specs.WrittenContents.{code_bytes, FitsCode}
+use Rattle.wc_binary.proofs.encoder.funcs.write_codes.Given as goal
+
+abbrev pub invariant-loop-func : goal.invariant-loop-func
+invariant-loop-func l =
+    (l.out.items ≡ l.fn.out.items ++ (unsigned_bytes (length l.funcs) ++ flat_map code_bytes (map code_of (take l.func-index l.funcs))))
+    × AllByRecursion FitsCode (map code_of (take l.func-index l.funcs))

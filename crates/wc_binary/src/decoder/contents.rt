@@ -1,0 +1,54 @@
+//! Globals and segments (Core 1.0, 5.5.9, 5.5.12 and 5.5.14).
+
+ghost use Rattle.wc_binary.specs.Contents.{global as global_phrase, elem_segment, data_segment};
+
+use crate::decoder::integer::u32;
+use crate::decoder::part::Part;
+use crate::decoder::types::global_type;
+use crate::fault::BinFault;
+use crate::source::Source;
+use std::alloc;
+use wc_ast::{Body, Data, Elem, Global, List};
+
+impl Part for Global {
+    ghost phrase = { global_phrase };
+
+    #[tactic(auto, unfolding(crate::specs::Contents::global))]
+    fn read<S: Source>(alloc: alloc::Global, source: &mut S) -> Result<Global, BinFault> {
+        let ty = global_type(alloc, source)?;
+        let init = Body::read(alloc, source)?;
+        Ok(Global { ty, init })
+    }
+}
+
+impl Part for Elem {
+    ghost phrase = { elem_segment };
+
+    #[tactic(auto, unfolding(crate::specs::Contents::elem_segment))]
+    fn read<S: Source>(alloc: alloc::Global, source: &mut S) -> Result<Elem, BinFault> {
+        let table = u32(source)?;
+        let offset = Body::read(alloc, source)?;
+        let funcs = List::read(alloc, source)?;
+        Ok(Elem {
+            table,
+            offset,
+            funcs,
+        })
+    }
+}
+
+impl Part for Data {
+    ghost phrase = { data_segment };
+
+    #[tactic(auto, unfolding(crate::specs::Contents::data_segment))]
+    fn read<S: Source>(alloc: alloc::Global, source: &mut S) -> Result<Data, BinFault> {
+        let memory = u32(source)?;
+        let offset = Body::read(alloc, source)?;
+        let bytes = List::read(alloc, source)?;
+        Ok(Data {
+            memory,
+            offset,
+            bytes,
+        })
+    }
+}

@@ -1,0 +1,149 @@
+//! What follows an opcode (Core 1.0, 5.4; Core 2.0 for block types).
+
+ghost use Rattle.std.specs.Prelude.{◌≡◌};
+ghost use Rattle.wc_ast.specs.declared.op.Op.TheVariants as ops;
+ghost use Rattle.wc_binary.specs.Instructions.{follows, zero_byte as zero_byte_phrase, head_of, headed, block_type as block_type_phrase};
+ghost use Rattle.wc_binary.specs.Source.{Gives};
+ghost use Rattle.wc_binary.specs.Values.{u32 as u32_phrase};
+
+use crate::decoder::integer::u32;
+use crate::decoder::part::Part;
+use crate::decoder::signed::{s32, s64, signed_from};
+use crate::fault::{BinFault, BinWhy};
+use crate::source::Source;
+use std::alloc::Global;
+use wc_ast::{BlockType, IndexOp, Instr, Labels, List, MemArg, MemOp, SimpleOp, ValType};
+
+impl Part for u32 {
+    ghost phrase = { u32_phrase };
+
+    fn read<S: Source>(_alloc: Global, source: &mut S) -> Result<u32, BinFault> {
+        u32(source)
+    }
+}
+
+fn zero_byte<S: Source>(source: &mut S) -> Result<(), BinFault>
+    ensures { Gives zero_byte_phrase (S.input source.old) (S.input source.new) result }
+{
+    let at = source.place();
+    match source.next()? {
+        None => Err(BinFault::Bad {
+            at,
+            why: BinWhy::End,
+        }),
+        Some(0x00) => Ok(()),
+        Some(_) => Err(BinFault::Bad {
+            at,
+            why: BinWhy::ZeroByte,
+        }),
+    }
+}
+
+/// An instruction without immediates.
+#[tactic(auto, unfolding(crate::specs::Instructions::follows))]
+pub fn simple<S: Source>(op: SimpleOp, source: &mut S) -> Result<Instr, BinFault>
+    ensures { Gives (follows (ops.Simple op)) (S.input source.old) (S.input source.new) result }
+{
+    if matches!(op, SimpleOp::MemorySize | SimpleOp::MemoryGrow) {
+        zero_byte(source)?;
+    }
+    Ok(Instr::Simple(op))
+}
+
+/// An instruction with an index.
+#[tactic(auto, unfolding(crate::specs::Instructions::follows))]
+pub fn index<S: Source>(op: IndexOp, source: &mut S) -> Result<Instr, BinFault>
+    ensures { Gives (follows (ops.Index op)) (S.input source.old) (S.input source.new) result }
+{
+    Ok(Instr::Index(op, u32(source)?))
+}
+
+/// A load or a store.
+#[tactic(auto, unfolding(crate::specs::Instructions::follows))]
+pub fn memory<S: Source>(op: MemOp, source: &mut S) -> Result<Instr, BinFault>
+    ensures { Gives (follows (ops.Mem op)) (S.input source.old) (S.input source.new) result }
+{
+    let align = u32(source)?;
+    let offset = u32(source)?;
+    Ok(Instr::Mem(op, MemArg { align, offset }))
+}
+
+/// A `br_table`.
+#[tactic(auto, unfolding(crate::specs::Instructions::follows))]
+pub fn br_table<S: Source>(alloc: Global, source: &mut S) -> Result<Instr, BinFault>
+    ensures { Gives (follows ops.BrTable) (S.input source.old) (S.input source.new) result }
+{
+    let labels: List<u32> = List::read(alloc, source)?;
+    let default = u32(source)?;
+    let labels = Labels::from_vec(alloc, labels.into_vec())?;
+    Ok(Instr::BrTable(default, labels))
+}
+
+/// A `call_indirect`.
+#[tactic(auto, unfolding(crate::specs::Instructions::follows))]
+pub fn call_indirect<S: Source>(source: &mut S) -> Result<Instr, BinFault>
+    ensures { Gives (follows ops.CallIndirect) (S.input source.old) (S.input source.new) result }
+{
+    let ty = u32(source)?;
+    zero_byte(source)?;
+    Ok(Instr::CallIndirect(ty))
+}
+
+/// An `i32.const`.
+#[tactic(auto, unfolding(crate::specs::Instructions::follows))]
+pub fn i32_const<S: Source>(source: &mut S) -> Result<Instr, BinFault>
+    ensures { Gives (follows ops.I32Const) (S.input source.old) (S.input source.new) result }
+{
+    Ok(Instr::I32Const(s32(source)?))
+}
+
+/// An `i64.const`.
+#[tactic(auto, unfolding(crate::specs::Instructions::follows))]
+pub fn i64_const<S: Source>(source: &mut S) -> Result<Instr, BinFault>
+    ensures { Gives (follows ops.I64Const) (S.input source.old) (S.input source.new) result }
+{
+    Ok(Instr::I64Const(s64(source)?))
+}
+
+fn short_type(byte: u8) -> Result<BlockType, BinWhy>
+    ensures { head_of byte ≡ headed result }
+{
+    match byte {
+        0x40 => Ok(BlockType::Empty),
+        0x7f => Ok(BlockType::Value(ValType::I32)),
+        0x7e => Ok(BlockType::Value(ValType::I64)),
+        0x7d | 0x7c => Err(BinWhy::Float),
+        _ => Err(BinWhy::WrongType),
+    }
+}
+
+/// A block type.
+#[tactic(auto, unfolding(crate::specs::Instructions::block_type))]
+pub fn block_type<S: Source>(source: &mut S) -> Result<BlockType, BinFault>
+    ensures { Gives block_type_phrase (S.input source.old) (S.input source.new) result }
+{
+    let at = source.place();
+    let first = match source.next()? {
+        None => {
+            return Err(BinFault::Bad {
+                at,
+                why: BinWhy::End,
+            })
+        }
+        Some(first) => first,
+    };
+    if (0x40..0x80).contains(&first) {
+        return match short_type(first) {
+            Ok(short) => Ok(short),
+            Err(why) => Err(BinFault::Bad { at, why }),
+        };
+    }
+    let index = signed_from::<33, S>(at, first, source)?;
+    if index < 0 {
+        return Err(BinFault::Bad {
+            at,
+            why: BinWhy::WrongType,
+        });
+    }
+    Ok(BlockType::Index(index as u32))
+}

@@ -1,0 +1,30 @@
+//! Declared locals (Core 1.0, 5.5.13).
+
+ghost use Rattle.wc_binary.specs.Written.{Anything};
+ghost use Rattle.wc_binary.specs.WrittenLocals.{group_bytes, locals_bytes, FitsLocals};
+
+use crate::encoder::item::{Item, write_vector};
+use crate::encoder::value::write_u32;
+use crate::fault::EncFault;
+use wc_ast::{Group, Locals};
+
+impl Item for Group {
+    ghost bytes = { group_bytes };
+
+    ghost Fits = { Anything };
+
+    fn write(&self, out: &mut Vec<u8>) -> Result<(), EncFault> {
+        write_u32(out, self.count)?;
+        self.value_type.write(out)
+    }
+}
+
+impl Item for Locals {
+    ghost bytes = { locals_bytes };
+
+    ghost Fits = { FitsLocals };
+
+    fn write(&self, out: &mut Vec<u8>) -> Result<(), EncFault> {
+        write_vector(out, self.groups())
+    }
+}

@@ -1,0 +1,22 @@
+//! The canonical bytes of a module that breaks no rule.
+
+ghost use Rattle.std.specs.Prelude.{IfOk, IfErr};
+ghost use Rattle.wc_binary.specs.Module.{Canon, IsShortestOf};
+ghost use Rattle.wc_canon.specs.Input.{KeepsRules, IsModuleFault};
+
+use crate::fault::Refusal;
+use std::alloc::Global;
+use wc_ast::Module;
+use wc_binary::encode;
+use wc_check::check;
+
+/// The canonical bytes of the module, where it breaks no rule.
+pub(crate) fn canonical_bytes(alloc: Global, module: &Module) -> Result<Vec<u8>, Refusal>
+    ensures keeps { IfOk result (λ b. KeepsRules «module».now) }
+    ensures canonical { IfOk result (λ b. Canon b.items «module».now) }
+    ensures shortest { IfOk result (λ b. IsShortestOf b.items «module».now) }
+    ensures err { IfErr result (IsModuleFault «module».now) }
+{
+    check(alloc, module)?;
+    Ok(encode(alloc, module)?)
+}

@@ -1,0 +1,4 @@
+pub mod VerdictLemmas
+pub mod SpaceLemmas
+pub mod BodyLemmas
+pub mod NameLemmas

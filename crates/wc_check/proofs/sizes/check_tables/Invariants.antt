@@ -1,0 +1,9 @@
+use Rattle.std.proofs.Common.{◌≡◌, ◌+◌, drop}
+use Rattle.wc_check.specs.Rules.{each, verdict}
+use Rattle.wc_check.specs.SizeRules.{broken_table}
+use Rattle.wc_check.proofs.sizes.check_tables.Given as goal
+
+abbrev pub invariant-loop-place : goal.invariant-loop-place
+invariant-loop-place l =
+    verdict (each broken_table (l.start + l.place) (drop l.place l.tables))
+    ≡ verdict (each broken_table l.start l.tables)

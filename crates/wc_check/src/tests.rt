@@ -1,0 +1,6 @@
+mod building;
+mod expected;
+mod indices;
+mod items;
+mod labels;
+mod many;
