@@ -1,4 +1,5 @@
 mod NameLemmas
+mod Names
 mod MeaningLemmas
 pub mod GroupLemmas
 mod EntryLemmas

@@ -116,6 +116,7 @@ impl BodyBuilder {
         count > 0 && self.parts[count - 1] == Part::Then
     }
 
+    #[inline(always)]
     fn push_plain(&mut self, instr: Instr) -> Result<(), BuildFault>
         ensures ok { OnOk result (self.new ≡ step self.old (plain instr)) }
         ensures err { OnErr result (self.new ≡ self.old) }
@@ -125,6 +126,7 @@ impl BodyBuilder {
         Ok(())
     }
 
+    #[inline(never)]
     fn push_begin(&mut self, kind: Kind, block_type: BlockType) -> Result<(), BuildFault>
         ensures ok { OnOk result (self.new ≡ step self.old (begin_of kind block_type)) }
         ensures err { OnErr result (self.new ≡ self.old) }
@@ -169,6 +171,7 @@ impl BodyBuilder {
         Ok(())
     }
 
+    #[inline(always)]
     fn put(&mut self, entry: Entry) -> Result<(), BuildFault>
         ensures ok { OnOk result (self.new ≡ step self.old (mark entry)) }
         ensures err { OnErr result (self.new ≡ self.old) }
@@ -186,6 +189,8 @@ impl BodyBuilder {
     /// Adds an entry. An `Else` that an `End` follows directly isn't kept. After an error the builder is as it was:
     /// `Depth` at a `Begin` where `NESTING_LIMIT` are open, `Mark` at an `Else` or `End` that may not come, and
     /// `Memory` only where a growth was refused.
+    // Inlined where an entry is made, which then needn't be written to memory twice.
+    #[inline(always)]
     pub fn push(&mut self, entry: Entry) -> Result<(), BuildFault>
         ensures ok { OnOk result (self.new ≡ step self.old (mark entry)) }
         ensures kept { OnOk result (so_far self.new ≡ with_mark (so_far self.old) (mark entry)) }
@@ -196,8 +201,8 @@ impl BodyBuilder {
         self.put(entry)
     }
 
-    /// The body of the entries that were kept, in order. It takes no memory. The error is `Mark`, where something is
-    /// open.
+    /// The body of the entries that were kept, in order. It takes no memory, and gives back what was held for more
+    /// entries. The error is `Mark`, where something is open.
     pub fn finish(self) -> Result<Body, BuildFault>
         ensures ok { IfOk result (λ body. self ≡ whole body) }
         ensures err { IfErr result (λ fault. (fault ≡ faults.Mark) × (is_open self.around ≡ true)) }
@@ -205,7 +210,9 @@ impl BodyBuilder {
         if self.depth() > 0 {
             return Err(BuildFault::Mark);
         }
-        Ok(Body::from_entries(self.entries))
+        let mut entries = self.entries;
+        entries.shrink_to_fit();
+        Ok(Body::from_entries(entries))
     }
 }
 

@@ -6,6 +6,7 @@ use crate::op::{IndexOp, MemOp, Op, OpByte, SimpleOp};
 
 impl Op {
     /// What a byte means as an opcode (Core 1.0, 5.4; Core 2.0 for `C0` to `C4`). It takes no memory.
+    #[inline(always)]
     pub fn of_byte(byte: u8) -> OpByte
         ensures { IsOpByte byte result }
     {

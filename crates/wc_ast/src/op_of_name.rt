@@ -264,19 +264,22 @@ fn named(word: &str) -> Option<Op>
 fn names_float(word: &str) -> bool
     ensures { result ≡ is_float_name word.now }
 {
-    let bytes = word.as_bytes();
-    bytes.starts_with(b"f32.")
-        || bytes.starts_with(b"f64.")
-        || word == "i32.trunc_f32_s"
-        || word == "i32.trunc_f32_u"
-        || word == "i32.trunc_f64_s"
-        || word == "i32.trunc_f64_u"
-        || word == "i64.trunc_f32_s"
-        || word == "i64.trunc_f32_u"
-        || word == "i64.trunc_f64_s"
-        || word == "i64.trunc_f64_u"
-        || word == "i32.reinterpret_f32"
-        || word == "i64.reinterpret_f64"
+    match word {
+        "i32.trunc_f32_s"
+        | "i32.trunc_f32_u"
+        | "i32.trunc_f64_s"
+        | "i32.trunc_f64_u"
+        | "i64.trunc_f32_s"
+        | "i64.trunc_f32_u"
+        | "i64.trunc_f64_s"
+        | "i64.trunc_f64_u"
+        | "i32.reinterpret_f32"
+        | "i64.reinterpret_f64" => true,
+        _ => {
+            let bytes = word.as_bytes();
+            bytes.starts_with(b"f32.") || bytes.starts_with(b"f64.")
+        }
+    }
 }
 
 impl Op {

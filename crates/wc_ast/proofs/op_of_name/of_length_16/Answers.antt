@@ -1,0 +1,12 @@
+-- Each arm's word is its instruction's name. No other name is as long.
+use Rattle.wc_ast.proofs.Names.{named_is, none_is}
+use Rattle.wc_ast.proofs.op_of_name.of_length_16.Goals as goal
+
+pub returns-in-text : goal.returns-in-text
+returns-in-text c = named_is _ _ c.in-text.is
+
+pub returns-in-text-2 : goal.returns-in-text-2
+returns-in-text-2 c = named_is _ _ c.in-text-2.is
+
+pub returns-in_default : goal.returns-in_default
+returns-in_default c = none_is 16 _ c.requires c.in_default.not-text c.in_default.not-text-2
