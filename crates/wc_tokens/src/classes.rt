@@ -16,7 +16,7 @@ static CLASSES: [u8; 256] = *b"\
     --------------------------------";
 
 /// White space (Core 1.0, 6.2.3).
-#[inline]
+#[inline(always)]
 pub fn is_blank(byte: u8) -> bool
     ensures { result ≡ is_blank byte }
 {
@@ -24,7 +24,7 @@ pub fn is_blank(byte: u8) -> bool
 }
 
 /// A character of words and identifiers (Core 1.0, 6.3.5).
-#[inline]
+#[inline(always)]
 pub fn is_idchar(byte: u8) -> bool
     ensures { result ≡ is_idchar byte }
 {

@@ -98,6 +98,8 @@ pub fn read_element(text: &[u8]) -> Option<Element<'_>>
 }
 
 /// What follows the elements at the front of a text.
+// Strings are few, so they stay out of the loop over tokens.
+#[inline(never)]
 pub fn after_elements(text: &[u8]) -> &[u8]
     ensures { EndsElements text.now result.now }
 {

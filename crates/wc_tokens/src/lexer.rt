@@ -25,6 +25,7 @@ struct Span<'a> {
 }
 
 /// The span of the token that stands in a text before the rest.
+#[inline(always)]
 fn span_of<'a>(text: &'a str, here: &[u8], rest: &[u8]) -> Span<'a>
     requires { (kind : Kind) × StandsIn text.now kind here.now rest.now }
     ensures text { (kind : Kind) (stands : StandsIn text.now kind here.now rest.now) → result.text.now ≡ stands.part }
@@ -41,6 +42,8 @@ fn span_of<'a>(text: &'a str, here: &[u8], rest: &[u8]) -> Span<'a>
 }
 
 /// The tokens of a text that is short enough.
+// It stands apart, so that its loop has the registers to itself.
+#[inline(never)]
 fn tokens<'a>(alloc: Global, text: &'a str) -> Result<Tokens<'a>, LexFault>
     requires { length text.now ≤ 4294967295 }
     ensures tokens { IfOk result (λ ts. Lexed (length text.now) text.now ts) }
