@@ -3,6 +3,7 @@ pub mod Told
 pub mod Unsigned
 pub mod Signed
 pub mod SignedTaking
+pub mod UnsignedTaking
 pub mod Expressions
 pub mod Laws
 pub mod Meanings

@@ -1,7 +1,6 @@
 -- Reading an integer.
-use Rattle.std.proofs.Common.{◌≡◌, ℕ, ◌+◌, ◌-◌, ◌*◌, ◌^◌, ◌<◌, ◌≤◌, List, [], ◌∷◌, ◌++◌, length, Result, Ok, Err, ◌⊎◌, inl, inr, refl, sym, ap, ◌∙◌, append_assoc, add-zero, arith}
+use Rattle.std.proofs.Common.{◌≡◌, ℕ, ◌+◌, ◌-◌, ◌*◌, ◌^◌, ◌<◌, ◌≤◌, List, [], ◌∷◌, ◌++◌, length, Result, Ok, Err, ◌⊎◌, inl, inr, refl, sym, ap, ◌∙◌, add-zero, arith}
 use Rattle.std.proofs.lemmas.Bool.{cases_lt, lt-ltb, le-ltb}
-use Rattle.std.proofs.lemmas.List.{length-append}
 use Rattle.wc_leb128.specs.Integers.{U, Begins, IsUnfinished}
 use Rattle.wc_leb128.proofs.Exact.{unfinished-begins}
 use Rattle.wc_leb128.proofs.Spellings.{tail-unfinished}
@@ -9,11 +8,6 @@ use Rattle.wc_leb128.proofs.UnsignedLaws.{MayStand, continues, begins-stands, un
 use Rattle.wc_binary.specs.declared.fault.BinWhy.TheVariants.{End, Integer}
 use Rattle.wc_binary.specs.Phrase.{Halt, halt, StopsInteger, unsigned}
 use Rattle.wc_binary.specs.Reading.{Got, got, fault, ◌and_then◌, unsigned_at}
-use Rattle.std.specs.Prelude.{IsTrue, Some, None}
-use Rattle.wc_binary.specs.declared.fault.BinFault.{BinFault}
-use Rattle.wc_binary.specs.declared.fault.BinFault.TheVariants.{Bad, Read, Memory}
-use Rattle.wc_binary.specs.Source.{Input, GoesOn, NextGives, Fails, Gave}
-use Rattle.wc_binary.proofs.Going.{GoesOn-refl, GoesOn-trans, ReadFailed-behind}
 use Rattle.wc_binary.proofs.Told.{IsTold}
 
 -- a byte that may stand begins a spelling
@@ -125,70 +119,3 @@ unsigned-stopped-at N o (b ∷ a) y f h k =
 
 pub unsigned-stopped : (N o : ℕ) (x : List ℕ) (f : Halt) → StopsInteger (U N) o x f → unsigned_at N o x ≡ Err f
 unsigned-stopped N o x f h = rw h.2 (unsigned-stopped-at N o h.0 h.1 f h.3 h.4)
-
--- ---- an integer in the making
-
-pub ends-at : (N o p : ℕ) (x y a : List ℕ) → x ≡ a ++ y → p ≡ o + length a → IsUnfinished (U N) a → y ≡ [] → unsigned_at N o x ≡ fault p End p
-ends-at N o p x y a e q h n = rw (e, q) (unsigned-stopped-at N o a y (halt (o + length a) End (o + length a)) h (inl (n, refl)))
-
-pub bad-at : (N o p b : ℕ) (x y z a : List ℕ) → x ≡ a ++ y → p ≡ o + length a → IsUnfinished (U N) a → y ≡ b ∷ z → (Begins (U N) (a ++ b ∷ []) → ⊥) → unsigned_at N o x ≡ fault p Integer (p + 1)
-bad-at N o p b x y z a e q h n bars = rw (e, q) (unsigned-stopped-at N o a y (halt (o + length a) Integer (o + length a + 1)) h (inr (b, z, n, bars, refl)))
-
-pub done-at : (N o p q b v : ℕ) (x y z a : List ℕ) → x ≡ a ++ y → p ≡ o + length a → y ≡ b ∷ z → q ≡ p + 1 → U N (a ++ b ∷ []) v → unsigned_at N o x ≡ got v q z
-done-at N o p q b v x y z a e k n s h =
-    let whole : x ≡ (a ++ b ∷ []) ++ z = rw (e, n) (sym (append_assoc a (b ∷ []) z)) in
-    let place : o + length (a ++ b ∷ []) ≡ q = omega (arith, length-append a (b ∷ [])) in
-    rw (whole, unsigned-spelled N o (a ++ b ∷ []) z v h, place) refl
-
--- the bytes a were taken, where they are known
-pub record Taken (a : List ℕ) (old new : Input) : Type 0 where
-  pub going : GoesOn old new
-  pub bytes : IsTrue old.known → IsTrue new.known × (old.left ≡ a ++ new.left) × (new.place ≡ old.place + length a)
-
-pub taken-none : (old : Input) → Taken [] old old
-taken-none old = record { going = GoesOn-refl old; bytes = λ k. (k, refl, sym (add-zero old.place)) }
-
--- a failed read
-pub taken-fails : {A : Type 0} (a : List ℕ) (old mid new : Input) → Taken a old mid → (f : BinFault) → NextGives mid new (Err f) → (r : Result (Got A) Halt) → Fails old new f r
-taken-fails a old mid new t (Bad at why) h r = absurd h
-taken-fails a old mid new t (Read at) h r = ReadFailed-behind old mid new at t.going h
-taken-fails a old mid new t Memory h r = absurd h
-
-module _ (N : ℕ) (a : List ℕ) (old mid new : Input) where
-  pub taken-end : Taken a old mid → NextGives mid new (Ok None) → IsUnfinished (U N) a
-      → Fails old new (Bad mid.place End) (unsigned_at N old.place old.left)
-  taken-end t n h = (
-    GoesOn-trans old mid new t.going n.0,
-    λ k. let b = t.bytes k in let e = n.2 b.0 in let p = n.1 in rw p (ends-at N old.place mid.place old.left mid.left a b.1 b.2 h e.1),
-  )
-
-module _ (a : List ℕ) (old mid new : Input) (b : ℕ) where
-  pub taken-one : Taken a old mid → NextGives mid new (Ok (Some b)) → Taken (a ++ b ∷ []) old new
-  taken-one t n = record {
-    going = GoesOn-trans old mid new t.going n.0;
-    bytes = λ k.
-        let s = t.bytes k in
-        let e = n.2 s.0 in
-        (e.0, rw (append_assoc, s.1) (ap (λ (z : List ℕ). a ++ z) e.1), omega (arith, n.1, s.2, length-append a (b ∷ [])));
-  }
-
-module _ (N : ℕ) (a : List ℕ) (old mid new : Input) (b : ℕ) where
-  pub taken-bad : Taken a old mid → NextGives mid new (Ok (Some b)) → IsUnfinished (U N) a → (Begins (U N) (a ++ b ∷ []) → ⊥)
-      → Fails old new (Bad mid.place Integer) (unsigned_at N old.place old.left)
-  taken-bad t n h bars = (
-    GoesOn-trans old mid new t.going n.0,
-    λ k.
-        let s = t.bytes k in
-        let e = n.2 s.0 in
-        let p = n.1 in
-        rw p (bad-at N old.place mid.place b old.left mid.left new.left a s.1 s.2 h e.1 bars),
-  )
-
-  pub taken-done : (v : ℕ) → Taken a old mid → NextGives mid new (Ok (Some b)) → U N (a ++ b ∷ []) v → Gave old new (Ok v) (unsigned_at N old.place old.left)
-  taken-done v t n h = (
-    GoesOn-trans old mid new t.going n.0,
-    λ k.
-        let s = t.bytes k in
-        let e = n.2 s.0 in
-        (e.0, done-at N old.place mid.place new.place b v old.left mid.left new.left a s.1 s.2 e.1 n.1 h),
-  )

@@ -1,4 +1,5 @@
-//! Expressions (Core 1.0, 5.4.6).
+//! Expressions (Core 1.0, 5.4.6). What makes an entry is inlined into the loop over them, so that it stays in registers
+//! until it is kept.
 
 ghost use Rattle.std.specs.Prelude.{◌≡◌, ◌+◌, ◌<◌, true, false, IfOk, IfErr, length};
 ghost use Rattle.wc_ast.specs.Nested.{nesting_limit};
@@ -19,6 +20,7 @@ use std::alloc::Global;
 use wc_ast::{Body, BodyBuilder, BuildFault, Entry, Kind, NESTING_LIMIT, Op, OpByte};
 
 /// What begins a block, a loop or an if, whose opcode stands at this place and was read.
+#[inline(always)]
 fn begin<S: Source>(
     kind: Kind,
     at: u64,
@@ -39,6 +41,7 @@ fn begin<S: Source>(
 }
 
 /// The entry of an instruction whose opcode stands at this place and was read.
+#[inline(always)]
 fn instruction<S: Source>(
     alloc: Global,
     op: Op,
@@ -58,13 +61,14 @@ fn instruction<S: Source>(
         Op::CallIndirect => Ok(Entry::Plain(call_indirect(source)?)),
         Op::I32Const => Ok(Entry::Plain(i32_const(source)?)),
         Op::I64Const => Ok(Entry::Plain(i64_const(source)?)),
-        Op::Block => begin(Kind::Block, at, builder, source),
-        Op::Loop => begin(Kind::Loop, at, builder, source),
-        Op::If => begin(Kind::If, at, builder, source),
+        Op::Block => Ok(begin(Kind::Block, at, builder, source)?),
+        Op::Loop => Ok(begin(Kind::Loop, at, builder, source)?),
+        Op::If => Ok(begin(Kind::If, at, builder, source)?),
     }
 }
 
 /// The entry whose first byte stands at this place and was read.
+#[inline(always)]
 fn entry<S: Source>(
     alloc: Global,
     byte: u8,
@@ -98,6 +102,7 @@ fn entry<S: Source>(
 }
 
 /// Adds the entry, or answers false: where it is the end of the expression.
+#[inline(always)]
 fn add(builder: &mut BodyBuilder, entry: Entry) -> Result<bool, BinFault>
     requires { begins (mark entry) ≡ true → length builder.old.around < nesting_limit }
     ensures more { IfOk result (λ more. more ≡ takes builder.old (mark entry)) }

@@ -40,6 +40,7 @@ fn zero_byte<S: Source>(source: &mut S) -> Result<(), BinFault>
 }
 
 /// An instruction without immediates.
+#[inline(always)]
 #[tactic(auto, unfolding(crate::specs::Instructions::follows))]
 pub fn simple<S: Source>(op: SimpleOp, source: &mut S) -> Result<Instr, BinFault>
     ensures { Gives (follows (ops.Simple op)) (S.input source.old) (S.input source.new) result }
@@ -51,6 +52,7 @@ pub fn simple<S: Source>(op: SimpleOp, source: &mut S) -> Result<Instr, BinFault
 }
 
 /// An instruction with an index.
+#[inline(always)]
 #[tactic(auto, unfolding(crate::specs::Instructions::follows))]
 pub fn index<S: Source>(op: IndexOp, source: &mut S) -> Result<Instr, BinFault>
     ensures { Gives (follows (ops.Index op)) (S.input source.old) (S.input source.new) result }
@@ -59,6 +61,7 @@ pub fn index<S: Source>(op: IndexOp, source: &mut S) -> Result<Instr, BinFault>
 }
 
 /// A load or a store.
+#[inline(always)]
 #[tactic(auto, unfolding(crate::specs::Instructions::follows))]
 pub fn memory<S: Source>(op: MemOp, source: &mut S) -> Result<Instr, BinFault>
     ensures { Gives (follows (ops.Mem op)) (S.input source.old) (S.input source.new) result }

@@ -8,7 +8,16 @@ use crate::fault::EncFault;
 use std::alloc::AllocError;
 use wc_leb128::shortest_u;
 
-/// Writes a number.
+/// Writes a number of several bytes.
+#[inline(never)]
+fn write_long(out: &mut Vec<u8>, n: u32) -> Result<(), AllocError>
+    ensures { OnOk result (out.new.items ≡ out.old.items ++ unsigned_bytes n) }
+{
+    out.extend_from_slice(shortest_u(u64::from(n)).as_slice())
+}
+
+/// Writes a number. Most have one byte, so that case is written in place.
+#[inline(always)]
 pub fn write_u32(out: &mut Vec<u8>, n: u32) -> Result<(), AllocError>
     ensures { OnOk result (out.new.items ≡ out.old.items ++ unsigned_bytes n) }
 {
@@ -16,7 +25,7 @@ pub fn write_u32(out: &mut Vec<u8>, n: u32) -> Result<(), AllocError>
         out.push(n as u8)?;
         return Ok(());
     }
-    out.extend_from_slice(shortest_u(u64::from(n)).as_slice())
+    write_long(out, n)
 }
 
 /// Writes a count of items or a size in bytes.

@@ -22,6 +22,7 @@ impl Source for Bytes<'_> {
         self.at as u64
     }
 
+    #[inline(always)]
     fn next(&mut self) -> Result<Option<u8>, BinFault> {
         match self.bytes.get(self.at) {
             None => Ok(None),

@@ -31,6 +31,7 @@ impl<R: Read> Source for Feed<'_, R> {
         self.device.count() - (self.end - self.at) as u64
     }
 
+    #[inline(always)]
     fn next(&mut self) -> Result<Option<u8>, BinFault> {
         if self.at == self.end {
             match self.device.read(&mut self.buffer) {

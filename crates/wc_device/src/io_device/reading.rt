@@ -17,6 +17,8 @@ impl<R: Read> Device<R> {
     /// # Errors
     /// The reader's own error, of any kind. Where the count has reached 2^64 - 1 and the buffer isn't
     /// empty, an error of kind `Other`, and the reader isn't asked. No byte is counted, and the failure is kept.
+    // Once for a buffer of bytes, so it doesn't burden what goes over these one by one.
+    #[inline(never)]
     pub fn read(&mut self, buf: &mut [u8]) -> io::Result<usize>
         ensures bound { ReadsAtMost result buf.new }
         ensures bytes { ReadConsumes (R.remaining (device_inner self.old)) (R.remaining (device_inner self.new))
