@@ -7,7 +7,7 @@ ghost use Rattle.wc_canon.specs.Comparing.{Compares};
 ghost use Rattle.wc_canon.specs.Failing.{IsRefusal, FailsInput, FailsPair, refusal_failure};
 ghost use Rattle.wc_canon.specs.Status.{TellsLine, Finishes};
 
-use crate::answering::normalise;
+use crate::accepting::accept;
 use crate::comparing::{Comparison, Side, compare};
 use crate::failure::{Failure, REFUSED, STANDARD_OUTPUT, tell};
 use crate::fault::{Refusal, RunFault};
@@ -63,8 +63,8 @@ fn check_input<'a, R: Read + Drop>(
     ensures { IfSome (option_and_then R.remaining input) (λ x. MatchResult result (λ _. IsAccepted x) (FailsInput x)) }
 {
     let bytes = read_input(alloc, path, input)?;
-    match normalise(alloc, bytes.as_slice()) {
-        Ok(_) => Ok(()),
+    match accept(alloc, bytes.as_slice()) {
+        Ok(()) => Ok(()),
         Err(refusal) => Err(refused(path, refusal)),
     }
 }

@@ -2,6 +2,7 @@
 //! two inputs; and the command line.
 #![tactic(auto)]
 
+mod accepting;
 mod acting;
 mod answering;
 mod canonical;
