@@ -1,9 +1,9 @@
 //! Times one layer on a file that is read whole first: `wc_bench LAYER FILE ROUNDS`. It tells on standard output what a
-//! round made, and on standard error the best and the median of the rounds.
+//! round made, and on standard error the best and the median of the rounds: of making it, and of making it and letting it
+//! go.
 #![tactic(auto)]
 
 use anyhow::{Context, Result, bail};
-use std::alloc::Global;
 use std::time::Instant;
 use std::{env, fs};
 use wc_binary::{decode, encode};
@@ -45,51 +45,76 @@ impl Layer {
     }
 }
 
-/// How many tokens the text has.
-fn count_tokens(alloc: Global, text: &[u8]) -> Result<usize> {
-    match lex(alloc, text) {
-        Ok(tokens) => Ok(tokens.as_slice().len()),
-        Err(_) => bail!("the text has a fault"),
-    }
+/// What a round made.
+#[derive(Clone, Copy)]
+struct Made {
+    /// How many of the layer's units.
+    amount: usize,
+    /// How long it took to make them, without letting them go, in nanoseconds.
+    nanoseconds: u128,
 }
 
-/// How many functions the module defines.
-fn count_functions(alloc: Global, bytes: &[u8]) -> Result<usize> {
-    match decode(alloc, bytes) {
-        Ok(module) => Ok(module.funcs.len()),
-        Err(_) => bail!("the bytes are no module"),
-    }
+/// Makes the tokens of the text.
+fn make_tokens(rt: &HostRuntime, text: &[u8]) -> Result<Made> {
+    let start = Instant::now(rt)?;
+    let Ok(tokens) = lex(rt.alloc(), text) else {
+        bail!("the text has a fault");
+    };
+    Ok(Made {
+        amount: tokens.as_slice().len(),
+        nanoseconds: start.elapsed(rt)?.as_nanos(),
+    })
 }
 
-/// How many functions the module defines, where it breaks no rule.
-fn count_checked(alloc: Global, bytes: &[u8]) -> Result<usize> {
-    let Ok(module) = decode(alloc, bytes) else {
+/// Makes the module, and tells its functions.
+fn make_module(rt: &HostRuntime, bytes: &[u8]) -> Result<Made> {
+    let start = Instant::now(rt)?;
+    let Ok(module) = decode(rt.alloc(), bytes) else {
         bail!("the bytes are no module");
     };
-    match check(alloc, &module) {
-        Ok(()) => Ok(module.funcs.len()),
-        Err(_) => bail!("the module breaks a rule"),
-    }
+    Ok(Made {
+        amount: module.funcs.len(),
+        nanoseconds: start.elapsed(rt)?.as_nanos(),
+    })
 }
 
-/// How many canonical bytes the module has.
-fn count_bytes(alloc: Global, bytes: &[u8]) -> Result<usize> {
-    let Ok(module) = decode(alloc, bytes) else {
+/// Makes the module, which breaks no rule, and tells its functions.
+fn make_checked(rt: &HostRuntime, bytes: &[u8]) -> Result<Made> {
+    let start = Instant::now(rt)?;
+    let Ok(module) = decode(rt.alloc(), bytes) else {
         bail!("the bytes are no module");
     };
-    match encode(alloc, &module) {
-        Ok(canonical) => Ok(canonical.len()),
-        Err(_) => bail!("the module has no bytes"),
+    if check(rt.alloc(), &module).is_err() {
+        bail!("the module breaks a rule");
     }
+    Ok(Made {
+        amount: module.funcs.len(),
+        nanoseconds: start.elapsed(rt)?.as_nanos(),
+    })
 }
 
-/// One round: how much it made. What it made is let go, and that is timed too.
-fn count(alloc: Global, layer: Layer, input: &[u8]) -> Result<usize> {
+/// Makes the module's canonical bytes.
+fn make_bytes(rt: &HostRuntime, bytes: &[u8]) -> Result<Made> {
+    let start = Instant::now(rt)?;
+    let Ok(module) = decode(rt.alloc(), bytes) else {
+        bail!("the bytes are no module");
+    };
+    let Ok(canonical) = encode(rt.alloc(), &module) else {
+        bail!("the module has no bytes");
+    };
+    Ok(Made {
+        amount: canonical.len(),
+        nanoseconds: start.elapsed(rt)?.as_nanos(),
+    })
+}
+
+/// One round. What it made is let go at its end.
+fn make(rt: &HostRuntime, layer: Layer, input: &[u8]) -> Result<Made> {
     match layer {
-        Layer::Tokens => count_tokens(alloc, input),
-        Layer::Decode => count_functions(alloc, input),
-        Layer::Check => count_checked(alloc, input),
-        Layer::Encode => count_bytes(alloc, input),
+        Layer::Tokens => make_tokens(rt, input),
+        Layer::Decode => make_module(rt, input),
+        Layer::Check => make_checked(rt, input),
+        Layer::Encode => make_bytes(rt, input),
     }
 }
 
@@ -98,26 +123,32 @@ fn rate(bytes: usize, nanoseconds: u128) -> u128 {
     bytes as u128 * 1000 / nanoseconds.max(1)
 }
 
+/// Tells the best and the median of the rounds' times.
+fn tell(rt: &HostRuntime, what: &str, bytes: usize, mut times: Vec<u128>) -> Result<()> {
+    times.sort()?;
+    if let (Some(best), Some(median)) = (times.first(), times.get(times.len() / 2)) {
+        let (best, median) = (rate(bytes, *best), rate(bytes, *median));
+        eprintln!(rt; "{what}: best {best} MB/s, median {median} MB/s")?;
+    }
+    Ok(())
+}
+
 /// Does so many rounds, and tells what they made and took.
 fn measure(rt: &HostRuntime, layer: Layer, path: &str, rounds: u32) -> Result<()> {
     let input = fs::read(rt, path)?;
-    let mut made = 0;
-    let mut times = Vec::new(rt.alloc());
+    let mut amount = 0;
+    let mut making = Vec::new(rt.alloc());
+    let mut whole = Vec::new(rt.alloc());
     for _ in 0..rounds {
         let start = Instant::now(rt)?;
-        made = count(rt.alloc(), layer, &input)?;
-        times.push(start.elapsed(rt)?.as_nanos())?;
+        let made = make(rt, layer, &input)?;
+        whole.push(start.elapsed(rt)?.as_nanos())?;
+        making.push(made.nanoseconds)?;
+        amount = made.amount;
     }
-    times.sort()?;
-    println!(rt; "{made} {}", layer.unit())?;
-    if let (Some(best), Some(median)) = (times.first(), times.get(times.len() / 2)) {
-        let (best, median) = (rate(input.len(), *best), rate(input.len(), *median));
-        eprintln!(rt;
-            "{} bytes, {rounds} rounds: best {best} MB/s, median {median} MB/s",
-            input.len()
-        )?;
-    }
-    Ok(())
+    println!(rt; "{amount} {}", layer.unit())?;
+    tell(rt, "making", input.len(), making)?;
+    tell(rt, "making and letting go", input.len(), whole)
 }
 
 fn main(rt: HostRuntime) -> Result<()> {
