@@ -22,10 +22,7 @@ pub mod op_law;
 pub mod op_of_byte;
 pub mod op_of_name;
 pub mod op_row;
-pub mod segment;
-#[cfg(test)]
-mod tests;
-pub mod try_clone;
+pub mod segment;pub mod try_clone;
 pub mod val_type;
 
 pub use crate::body::{Body, NESTING_LIMIT};

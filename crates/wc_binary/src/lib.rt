@@ -17,6 +17,3 @@ pub use law::{
     always_canonical, always_judged, module_or_fault, one_canonical, one_fault, one_module,
     sections_rise, shortest_and_only,
 };
-
-#[cfg(test)]
-mod tests;

@@ -29,6 +29,3 @@ pub use parsing::{line, status_of};
 pub use rendering::render;
 pub use running::{Job, run};
 pub use words::Line;
-
-#[cfg(test)]
-mod tests;

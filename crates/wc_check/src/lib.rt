@@ -16,6 +16,3 @@ mod start;
 
 pub use checking::check;
 pub use fault::{CheckFault, CheckWhy, Item};
-
-#[cfg(test)]
-mod tests;

@@ -21,6 +21,3 @@ pub use numbers::{Num, integer, unsigned};
 pub use strings::string_bytes;
 pub use token::{Token, TokenKind};
 pub use tokens::Tokens;
-
-#[cfg(test)]
-mod tests;

@@ -146,6 +146,3 @@ impl Part for Body {
         }
     }
 }
-
-#[cfg(test)]
-mod tests;

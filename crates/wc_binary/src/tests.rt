@@ -1,7 +1,0 @@
-mod accepted;
-mod checks;
-mod inputs;
-mod limits;
-mod readers;
-mod refused;
-mod rows;

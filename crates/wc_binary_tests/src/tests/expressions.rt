@@ -1,0 +1,138 @@
+//! Expressions from bytes.
+
+use crate::tests::inputs::{module, repeat};
+use std::alloc::{AllocError, Global};
+use std::test::Fail;
+use wc_ast::{BlockType, Entry, Instr, Kind, Module};
+use wc_binary::{BinFault, BinWhy, decode};
+
+/// Where the expression of `with_global` begins.
+const START: u64 = 13;
+
+/// Expressions, and how many entries they are kept as.
+const READ: [(&[u8], usize); 8] = [
+    (&[0x0b], 0),
+    (&[0x01, 0x0b], 1),
+    (&[0x3f, 0x00, 0x40, 0x00, 0x0b], 2),
+    (&[0x02, 0x7e, 0x03, 0x40, 0x0b, 0x0b, 0x0b], 4),
+    (&[0x04, 0x40, 0x0b, 0x0b], 2),
+    (&[0x04, 0x40, 0x05, 0x0b, 0x0b], 2),
+    (&[0x04, 0x7f, 0x01, 0x05, 0x00, 0x0b, 0x0b], 5),
+    (&[0x02, 0xc0, 0x80, 0x80, 0x80, 0x00, 0x0b, 0x0b], 2),
+];
+
+/// Bytes that begin no expression, the place of the fault, and its reason.
+const REFUSED: [(&[u8], u64, BinWhy); 24] = [
+    (&[], 0, BinWhy::End),
+    (&[0x01], 1, BinWhy::End),
+    (&[0x02, 0x40, 0x0b], 3, BinWhy::End),
+    (&[0x02], 1, BinWhy::End),
+    (&[0x28, 0x02], 2, BinWhy::End),
+    (&[0x06, 0x0b], 0, BinWhy::Opcode),
+    (&[0x05, 0x0b], 0, BinWhy::Opcode),
+    (&[0x02, 0x40, 0x05], 2, BinWhy::Opcode),
+    (&[0x04, 0x40, 0x05, 0x05], 3, BinWhy::Opcode),
+    (&[0x04, 0x40, 0x05, 0x02, 0x40, 0x05], 5, BinWhy::Opcode),
+    (&[0x2a, 0x02, 0x00], 0, BinWhy::Float),
+    (&[0x01, 0x43, 0x00], 1, BinWhy::Float),
+    (&[0xbf], 0, BinWhy::Float),
+    (&[0x02, 0x7d], 1, BinWhy::Float),
+    (&[0x02, 0x41], 1, BinWhy::WrongType),
+    (&[0x02, 0x80, 0x80, 0x80, 0x80, 0x70], 1, BinWhy::WrongType),
+    (&[0x02, 0x80, 0x80, 0x80, 0x80, 0x10], 5, BinWhy::Integer),
+    (&[0x41, 0x80, 0x80, 0x80, 0x80, 0x08], 5, BinWhy::Integer),
+    (
+        &[0x41, 0xff, 0xff, 0xff, 0xff, 0xff, 0x7f],
+        5,
+        BinWhy::Integer,
+    ),
+    (&[0x10, 0xff, 0xff, 0xff, 0xff, 0x1f], 5, BinWhy::Integer),
+    (&[0x0e, 0x02, 0x00, 0x01], 4, BinWhy::End),
+    (&[0x11, 0x00, 0x01], 2, BinWhy::ZeroByte),
+    (&[0x3f, 0x01], 1, BinWhy::ZeroByte),
+    (&[0x40, 0x80, 0x00], 1, BinWhy::ZeroByte),
+];
+
+/// One of each form of instruction.
+const FORMS: [u8; 29] = [
+    0x03, 0x03, 0x41, 0x7f, 0x41, 0xff, 0xff, 0xff, 0xff, 0x07, 0x42, 0x80, 0x7f, 0x0e, 0x01, 0x05,
+    0x06, 0x11, 0x07, 0x00, 0x2f, 0x01, 0x88, 0x00, 0x24, 0x09, 0xc4, 0x0b, 0x0b,
+];
+
+/// A module of one global, whose value is this expression. The section has the right size where the whole module has
+/// fewer than 128 bytes.
+fn with_global(alloc: Global, expression: &[u8]) -> Result<Vec<u8>, AllocError> {
+    let mut bytes = module(alloc, &[0x06])?;
+    let size = u8::try_from(expression.len()).unwrap_or(0);
+    bytes.push(size.wrapping_add(3))?;
+    bytes.extend_from_slice(&[0x01, 0x7f, 0x00])?;
+    bytes.extend_from_slice(expression)?;
+    Ok(bytes)
+}
+
+/// The entries of the value of the one global.
+fn entries(module: &Module) -> Option<&[Entry]> {
+    match module.globals.as_slice() {
+        [global] => Some(global.init.entries()),
+        _ => None,
+    }
+}
+
+#[test]
+fn expressions_are_read(rt: HostRuntime) -> Result<(), Fail> {
+    for (expression, count) in READ {
+        let input = with_global(rt.alloc(), expression)?;
+        let module = decode(rt.alloc(), &input)?;
+        assert!(rt; matches!(entries(&module), Some(found) if found.len() == count));
+    }
+    Ok(())
+}
+
+#[test]
+fn expressions_are_refused(rt: HostRuntime) -> Result<(), Fail> {
+    for (expression, at, why) in REFUSED {
+        let input = with_global(rt.alloc(), expression)?;
+        let answer = decode(rt.alloc(), &input);
+        assert!(rt;
+            matches!(answer, Err(BinFault::Bad { at: a, why: w }) if a.wrapping_sub(START) == at && w == why)
+        );
+    }
+    Ok(())
+}
+
+#[test]
+fn each_form_is_read(rt: HostRuntime) -> Result<(), Fail> {
+    let input = with_global(rt.alloc(), &FORMS)?;
+    let module = decode(rt.alloc(), &input)?;
+    assert!(rt;
+        matches!(
+            entries(&module),
+            Some([
+                Entry::Begin(Kind::Loop, BlockType::Index(3)),
+                Entry::Plain(Instr::I32Const(-1)),
+                Entry::Plain(Instr::I32Const(0x7fff_ffff)),
+                Entry::Plain(Instr::I64Const(-128)),
+                Entry::Plain(Instr::BrTable(6, _)),
+                _,
+                _,
+                _,
+                _,
+                _,
+            ])
+        )
+    );
+    Ok(())
+}
+
+#[test]
+fn as_many_are_open_as_may_be(rt: HostRuntime) -> Result<(), Fail> {
+    let mut expression = Vec::new(rt.alloc());
+    repeat(&mut expression, &[0x02, 0x40], 20_000)?;
+    let answer = decode(rt.alloc(), &with_global(rt.alloc(), &expression)?);
+    let at = START + 40_000;
+    assert!(rt; matches!(answer, Err(BinFault::Bad { at: a, why: BinWhy::End }) if a == at));
+    expression.push(0x03)?;
+    let answer = decode(rt.alloc(), &with_global(rt.alloc(), &expression)?);
+    assert!(rt; matches!(answer, Err(BinFault::Bad { at: a, why: BinWhy::Depth }) if a == at));
+    Ok(())
+}

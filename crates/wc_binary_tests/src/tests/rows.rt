@@ -1,0 +1,89 @@
+//! Modules from bytes, by slices and by readers, and their canonical bytes.
+
+use crate::tests::checks::{check_accepted, check_refused};
+use crate::tests::inputs::{function, module};
+use crate::tests::{accepted, refused};
+use std::process::Abort;
+use std::test::Fail;
+use wc_binary::{BinFault, BinWhy, decode, encode};
+
+#[test]
+fn modules_are_accepted(rt: HostRuntime) -> Result<(), Fail> {
+    for (rest, canonical) in accepted::MODULES {
+        let input = module(rt.alloc(), rest)?;
+        let want = module(rt.alloc(), canonical)?;
+        check_accepted(&rt, &input, &want)?;
+    }
+    Ok(())
+}
+
+#[test]
+fn bodies_are_accepted(rt: HostRuntime) -> Result<(), Fail> {
+    for (rest, canonical) in accepted::BODIES {
+        let input = function(rt.alloc(), rest)?;
+        let want = function(rt.alloc(), canonical)?;
+        check_accepted(&rt, &input, &want)?;
+    }
+    Ok(())
+}
+
+#[test]
+fn modules_are_refused(rt: HostRuntime) -> Result<(), Fail> {
+    for (rest, at, why) in refused::MODULES {
+        let input = module(rt.alloc(), rest)?;
+        check_refused(&rt, &input, at, why);
+    }
+    for (input, at, why) in refused::PREAMBLES {
+        check_refused(&rt, input, at, why);
+    }
+    Ok(())
+}
+
+#[test]
+fn bodies_are_refused(rt: HostRuntime) -> Result<(), Fail> {
+    for (rest, at, why) in refused::BODIES {
+        let input = function(rt.alloc(), rest)?;
+        check_refused(&rt, &input, at, why);
+    }
+    Ok(())
+}
+
+/// A copy has the module's canonical bytes.
+fn check_copied(rt: &(impl Abort + AllocGlobal), input: &[u8], want: &[u8]) -> Result<(), Fail> {
+    let copy = decode(rt.alloc(), input)?.try_clone()?;
+    let out = encode(rt.alloc(), &copy)?;
+    assert_eq!(rt; out.as_slice(), want);
+    Ok(())
+}
+
+#[test]
+fn copies_are_the_same(rt: HostRuntime) -> Result<(), Fail> {
+    for (rest, canonical) in accepted::MODULES {
+        let input = module(rt.alloc(), rest)?;
+        let want = module(rt.alloc(), canonical)?;
+        check_copied(&rt, &input, &want)?;
+    }
+    Ok(())
+}
+
+/// A front is a module itself, or ends too early.
+fn check_fronts(rt: &(impl Abort + AllocGlobal), input: &[u8]) {
+    for length in 1..input.len() {
+        if let Err(fault) = decode(rt.alloc(), &input[..length]) {
+            assert!(rt;
+                matches!(fault, BinFault::Bad { at, why: BinWhy::End | BinWhy::Counts } if at == length as u64)
+            );
+        }
+    }
+}
+
+#[test]
+fn fronts_end_early(rt: HostRuntime) -> Result<(), Fail> {
+    for (rest, _canonical) in accepted::MODULES {
+        check_fronts(&rt, &module(rt.alloc(), rest)?);
+    }
+    for (rest, _canonical) in accepted::BODIES {
+        check_fronts(&rt, &function(rt.alloc(), rest)?);
+    }
+    Ok(())
+}

@@ -1,0 +1,291 @@
+//! The rules on items, and their order.
+
+use crate::tests::building::Part;
+use crate::tests::expected::{
+    BLOCK, BRANCH, CONSTANT, DROP, END, EXPORT, FUNC, Found, I32, I64, IMPORT, IMPORT_CONSTANT,
+    IMPORT_MEMORY, IMPORT_TABLE, IMPORT_VARIABLE, LIMITS, MEMORY, READ, READ_SECOND, TABLE, TYPE,
+    VARIABLE, WRITE, expect,
+};
+use std::test::Fail;
+use wc_ast::{ExportKind, MemOp, ValType};
+use wc_check::{CheckWhy, Item};
+
+const SIZES: [(&[Part], Found); 11] = [
+    (
+        &[Part::Memory(2, Some(1))],
+        Some((Item::Memory(0), CheckWhy::Limits)),
+    ),
+    (
+        &[Part::Memory(65_537, None)],
+        Some((Item::Memory(0), CheckWhy::Limits)),
+    ),
+    (
+        &[Part::Memory(0, Some(65_537))],
+        Some((Item::Memory(0), CheckWhy::Limits)),
+    ),
+    (&[Part::Memory(65_536, Some(65_536))], None),
+    (
+        &[Part::Table(2, Some(1))],
+        Some((Item::Table(0), CheckWhy::Limits)),
+    ),
+    (&[Part::Table(1, Some(1))], None),
+    (&[Part::Table(65_537, None)], None),
+    (&[Part::ImportMemory(65_536, Some(65_536))], None),
+    (
+        &[Part::ImportMemory(65_537, None)],
+        Some((Item::Import(0), CheckWhy::Limits)),
+    ),
+    (
+        &[Part::ImportTable(2, Some(1))],
+        Some((Item::Import(0), CheckWhy::Limits)),
+    ),
+    (
+        &[MEMORY, Part::Memory(2, Some(1))],
+        Some((Item::Memory(1), CheckWhy::Limits)),
+    ),
+];
+
+#[test]
+fn sizes(rt: HostRuntime) -> Result<(), Fail> {
+    for (parts, found) in SIZES {
+        expect(&rt, rt.alloc(), parts, found)?;
+    }
+    Ok(())
+}
+
+const ONE_TABLE_AND_ONE_MEMORY: [(&[Part], Found); 8] = [
+    (&[TABLE, MEMORY], None),
+    (
+        &[MEMORY, MEMORY],
+        Some((Item::Memory(1), CheckWhy::Several)),
+    ),
+    (&[TABLE, TABLE], Some((Item::Table(1), CheckWhy::Several))),
+    (&[IMPORT_TABLE, MEMORY], None),
+    (
+        &[IMPORT_MEMORY, MEMORY],
+        Some((Item::Memory(1), CheckWhy::Several)),
+    ),
+    (
+        &[IMPORT_TABLE, TABLE],
+        Some((Item::Table(1), CheckWhy::Several)),
+    ),
+    (
+        &[IMPORT_TABLE, IMPORT_MEMORY, IMPORT_TABLE],
+        Some((Item::Import(2), CheckWhy::Several)),
+    ),
+    (
+        &[IMPORT_MEMORY, IMPORT_TABLE, IMPORT_MEMORY],
+        Some((Item::Import(2), CheckWhy::Several)),
+    ),
+];
+
+#[test]
+fn one_table_and_one_memory(rt: HostRuntime) -> Result<(), Fail> {
+    for (parts, found) in ONE_TABLE_AND_ONE_MEMORY {
+        expect(&rt, rt.alloc(), parts, found)?;
+    }
+    Ok(())
+}
+
+const CONSTANTS: [(&[Part], Found); 15] = [
+    (&[I32, CONSTANT], None),
+    (
+        &[I64, CONSTANT],
+        Some((Item::Global(0), CheckWhy::Constant)),
+    ),
+    (&[CONSTANT], Some((Item::Global(0), CheckWhy::Constant))),
+    (
+        &[I32, I32, CONSTANT],
+        Some((Item::Global(0), CheckWhy::Constant)),
+    ),
+    (
+        &[BLOCK, END, CONSTANT],
+        Some((Item::Global(0), CheckWhy::Constant)),
+    ),
+    (&[IMPORT_CONSTANT, READ, CONSTANT], None),
+    (
+        &[IMPORT_VARIABLE, READ, CONSTANT],
+        Some((Item::Global(1), CheckWhy::Constant)),
+    ),
+    (
+        &[IMPORT_CONSTANT, READ, Part::Global(ValType::I64, false)],
+        Some((Item::Global(1), CheckWhy::Constant)),
+    ),
+    (
+        &[I32, CONSTANT, READ, CONSTANT],
+        Some((Item::Global(1), CheckWhy::Constant)),
+    ),
+    (
+        &[READ_SECOND, CONSTANT, I32, CONSTANT],
+        Some((Item::Global(0), CheckWhy::Constant)),
+    ),
+    (&[MEMORY, I32, CONSTANT, READ, Part::Data(0)], None),
+    (
+        &[MEMORY, I32, CONSTANT, READ_SECOND, Part::Data(0)],
+        Some((Item::Data(0), CheckWhy::Constant)),
+    ),
+    (
+        &[MEMORY, I64, Part::Data(0)],
+        Some((Item::Data(0), CheckWhy::Constant)),
+    ),
+    (
+        &[IMPORT_VARIABLE, READ, Part::Elem(0, 0)],
+        Some((Item::Elem(0), CheckWhy::Constant)),
+    ),
+    (
+        &[I64, Part::Elem(0, 0)],
+        Some((Item::Elem(0), CheckWhy::Constant)),
+    ),
+];
+
+#[test]
+fn constants(rt: HostRuntime) -> Result<(), Fail> {
+    for (parts, found) in CONSTANTS {
+        expect(&rt, rt.alloc(), parts, found)?;
+    }
+    Ok(())
+}
+
+const GLOBALS_NAMES_AND_START: [(&[Part], Found); 12] = [
+    (
+        &[TYPE, I32, CONSTANT, I32, WRITE, FUNC],
+        Some((Item::Instr { func: 0, number: 1 }, CheckWhy::Immutable)),
+    ),
+    (&[TYPE, I32, VARIABLE, I32, WRITE, FUNC], None),
+    (
+        &[TYPE, IMPORT_CONSTANT, I32, WRITE, FUNC],
+        Some((Item::Instr { func: 0, number: 1 }, CheckWhy::Immutable)),
+    ),
+    (
+        &[TYPE, IMPORT_VARIABLE, I32, CONSTANT, I32, WRITE, FUNC],
+        None,
+    ),
+    (
+        &[
+            TYPE,
+            FUNC,
+            EXPORT,
+            MEMORY,
+            Part::Export('a', ExportKind::Memory, 0),
+        ],
+        Some((Item::Export(1), CheckWhy::ExportName)),
+    ),
+    (
+        &[TYPE, FUNC, EXPORT, Part::Export('b', ExportKind::Func, 0)],
+        None,
+    ),
+    (
+        &[TYPE, IMPORT, EXPORT, EXPORT],
+        Some((Item::Export(1), CheckWhy::ExportName)),
+    ),
+    (&[TYPE, FUNC, Part::Start(0)], None),
+    (
+        &[Part::Type(1, 0), FUNC, Part::Start(0)],
+        Some((Item::Start, CheckWhy::StartType)),
+    ),
+    (
+        &[Part::Type(0, 1), FUNC, Part::Start(0)],
+        Some((Item::Start, CheckWhy::StartType)),
+    ),
+    (
+        &[
+            TYPE,
+            Part::Type(1, 0),
+            Part::ImportFunc(1),
+            FUNC,
+            Part::Start(0),
+        ],
+        Some((Item::Start, CheckWhy::StartType)),
+    ),
+    (
+        &[
+            TYPE,
+            Part::Type(1, 0),
+            Part::ImportFunc(1),
+            FUNC,
+            Part::Start(1),
+        ],
+        None,
+    ),
+];
+
+#[test]
+fn globals_names_and_start(rt: HostRuntime) -> Result<(), Fail> {
+    for (parts, found) in GLOBALS_NAMES_AND_START {
+        expect(&rt, rt.alloc(), parts, found)?;
+    }
+    Ok(())
+}
+
+const THE_FIRST_ITEM: [(&[Part], Found); 14] = [
+    (
+        &[LIMITS, TYPE, Part::Func(1, 0)],
+        Some((Item::Func(0), CheckWhy::TypeIndex)),
+    ),
+    (
+        &[LIMITS, TYPE, DROP, BLOCK, END, BRANCH, FUNC],
+        Some((Item::Instr { func: 0, number: 2 }, CheckWhy::Label)),
+    ),
+    (
+        &[LIMITS, Part::Table(2, Some(1))],
+        Some((Item::Table(0), CheckWhy::Limits)),
+    ),
+    (
+        &[VARIABLE, LIMITS],
+        Some((Item::Memory(0), CheckWhy::Limits)),
+    ),
+    (
+        &[EXPORT, VARIABLE],
+        Some((Item::Global(0), CheckWhy::Constant)),
+    ),
+    (
+        &[Part::Start(0), EXPORT],
+        Some((Item::Export(0), CheckWhy::Index)),
+    ),
+    (
+        &[Part::Elem(0, 0), Part::Start(0)],
+        Some((Item::Start, CheckWhy::Index)),
+    ),
+    (
+        &[Part::Data(0), Part::Elem(0, 0)],
+        Some((Item::Elem(0), CheckWhy::Constant)),
+    ),
+    (
+        &[Part::ImportTable(2, Some(1)), FUNC],
+        Some((Item::Import(0), CheckWhy::Limits)),
+    ),
+    (
+        &[TABLE, TABLE, LIMITS],
+        Some((Item::Table(1), CheckWhy::Several)),
+    ),
+    (
+        &[TYPE, IMPORT_CONSTANT, WRITE, READ_SECOND, FUNC],
+        Some((Item::Instr { func: 0, number: 0 }, CheckWhy::Immutable)),
+    ),
+    (
+        &[TYPE, MEMORY, Part::Access(MemOp::I32Load, 3), BRANCH, FUNC],
+        Some((Item::Instr { func: 0, number: 0 }, CheckWhy::Align)),
+    ),
+    (
+        &[
+            TYPE,
+            FUNC,
+            EXPORT,
+            EXPORT,
+            Part::Export('b', ExportKind::Table, 0),
+        ],
+        Some((Item::Export(1), CheckWhy::ExportName)),
+    ),
+    (
+        &[Part::Type(1, 0), FUNC, Part::Start(0), Part::Elem(0, 0)],
+        Some((Item::Start, CheckWhy::StartType)),
+    ),
+];
+
+#[test]
+fn the_first_item(rt: HostRuntime) -> Result<(), Fail> {
+    for (parts, found) in THE_FIRST_ITEM {
+        expect(&rt, rt.alloc(), parts, found)?;
+    }
+    Ok(())
+}
