@@ -22,7 +22,8 @@ pub mod op_law;
 pub mod op_of_byte;
 pub mod op_of_name;
 pub mod op_row;
-pub mod segment;pub mod try_clone;
+pub mod segment;
+pub mod try_clone;
 pub mod val_type;
 
 pub use crate::body::{Body, NESTING_LIMIT};
