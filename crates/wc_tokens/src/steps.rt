@@ -1,8 +1,9 @@
 //! What stands at the front of a text: a gap, a token, or a fault.
 
-ghost use Rattle.std.specs.Prelude.{◌≡◌, ℕ, List, ◌∷◌, MatchOption, true};
+ghost use Rattle.std.specs.Prelude.{◌≡◌, ◌≤◌, ℕ, List, ◌∷◌, length, take, MatchOption, true};
+ghost use Rattle.std.specs.List.{AllByRecursion};
 ghost use Rattle.wc_tokens.specs.Gaps.{Inside};
-ghost use Rattle.wc_tokens.specs.Lexemes.{is_idchar};
+ghost use Rattle.wc_tokens.specs.Lexemes.{is_idchar, IsIdchar};
 ghost use Rattle.wc_tokens.specs.Steps.{BlanksEnd, LineEnds, RunEnds, StepsTo, MayStep};
 
 use crate::bytes::behind;
@@ -69,22 +70,32 @@ fn after_comment(text: &[u8]) -> Option<&[u8]>
     None
 }
 
+/// How many idchars stand at the front, looked at two a round: a last byte of the text without a second isn't looked at.
+#[inline(always)]
+fn count_in_pairs(text: &[u8]) -> usize
+    ensures within { result ≤ length text.now }
+    ensures idchars { AllByRecursion IsIdchar (take result text.now) }
+{
+    let mut at = 0;
+    while at + 1 < text.len() {
+        if !is_idchar(text[at]) {
+            return at;
+        }
+        if !is_idchar(text[at + 1]) {
+            return at + 1;
+        }
+        at += 2;
+    }
+    at
+}
+
 /// What follows a run of idchars.
 #[inline(always)]
 fn after_run(text: &[u8]) -> &[u8]
     ensures { RunEnds text.now result.now }
 {
     // Most bytes of a text pass here, so a round takes two.
-    let mut at = 0;
-    while at + 1 < text.len() {
-        if !is_idchar(text[at]) {
-            return &text[at..];
-        }
-        if !is_idchar(text[at + 1]) {
-            return &text[at + 1..];
-        }
-        at += 2;
-    }
+    let mut at = count_in_pairs(text);
     while at < text.len() && is_idchar(text[at]) {
         at += 1;
     }

@@ -8,9 +8,3 @@ invariant-loop-at l = (l.at ≤ length l.text) × AllByRecursion IsIdchar (take 
 
 abbrev pub decreases-loop-at : goal.decreases-loop-at
 decreases-loop-at l = length l.text - l.at
-
-abbrev pub invariant-loop-at-2 : goal.invariant-loop-at-2
-invariant-loop-at-2 l = (l.at ≤ length l.text) × AllByRecursion IsIdchar (take l.at l.text)
-
-abbrev pub decreases-loop-at-2 : goal.decreases-loop-at-2
-decreases-loop-at-2 l = length l.text - l.at
