@@ -31,6 +31,11 @@ pub if-error : {V E : Type 0} (r : Result V E) (e : E) (P : E → Type 0) → Is
 if-error (Ok v) e P h p = absurd h
 if-error (Err f) e P h p = subst P (sym h) p
 
+pub match-error : {V E : Type 0} (r : Result V E) (e : E) (P : V → Type 0) (Q : E → Type 0) → IsErrAnd r (λ f. f ≡ e)
+    → Q e → MatchResult r P Q
+match-error (Ok v) e P Q h q = absurd h
+match-error (Err f) e P Q h q = subst Q (sym h) q
+
 -- ---- a module
 
 pub keeps-rules : (m : Module) → broken m ≡ [] → KeepsRules m

@@ -7,8 +7,8 @@ ghost use Rattle.wc_canon.specs.Input.{Means, HasAnswer, HasFault, IsRefused};
 
 use crate::canonical::canonical_bytes;
 use crate::fault::Refusal;
+use crate::spelled::spelled_module;
 use std::alloc::Global;
-use wc_binary::{BinFault, decode};
 
 /// The canonical bytes of the module that the input denotes, to its last byte, or else the one first fault of the
 /// input.
@@ -34,12 +34,6 @@ pub fn normalise(alloc: Global, input: &[u8]) -> Result<Vec<u8>, Refusal>
     // An input is its own answer, or longer than it.
     ensures shortest { IfOk result (λ b. IsOrLonger input.now b.items) }
 {
-    match decode(alloc, input) {
-        Ok(module) => canonical_bytes(alloc, &module),
-        Err(fault) => match fault {
-            BinFault::Bad { at, why } => Err(Refusal::Binary { at, why }),
-            BinFault::Memory => Err(Refusal::Memory),
-            BinFault::Read { .. } => unreachable!(),
-        },
-    }
+    let module = spelled_module(alloc, input)?;
+    canonical_bytes(alloc, &module)
 }

@@ -15,6 +15,7 @@ mod parsing;
 mod reading;
 mod rendering;
 mod running;
+mod spelled;
 mod words;
 
 pub use acting::act;
