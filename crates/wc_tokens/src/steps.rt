@@ -1,9 +1,9 @@
 //! What stands at the front of a text: a gap, a token, or a fault.
 
-ghost use Rattle.std.specs.Prelude.{◌≡◌, ◌≤◌, ℕ, List, ◌∷◌, length, take, MatchOption, true};
+ghost use Rattle.std.specs.Prelude.{◌≡◌, ◌≤◌, ◌+◌, ◌⊎◌, ℕ, List, ◌∷◌, length, take, drop, MatchOption, true};
 ghost use Rattle.std.specs.List.{AllByRecursion};
 ghost use Rattle.wc_tokens.specs.Gaps.{Inside};
-ghost use Rattle.wc_tokens.specs.Lexemes.{is_idchar, IsIdchar};
+ghost use Rattle.wc_tokens.specs.Lexemes.{is_idchar, IsIdchar, BeginsNoIdchar};
 ghost use Rattle.wc_tokens.specs.Steps.{BlanksEnd, LineEnds, RunEnds, StepsTo, MayStep};
 
 use crate::bytes::behind;
@@ -70,11 +70,12 @@ fn after_comment(text: &[u8]) -> Option<&[u8]>
     None
 }
 
-/// How many idchars stand at the front, looked at two a round: a last byte of the text without a second isn't looked at.
+/// How many idchars stand at the front, looked at two a round: a last byte without a second isn't looked at.
 #[inline(always)]
 fn count_in_pairs(text: &[u8]) -> usize
     ensures within { result ≤ length text.now }
     ensures idchars { AllByRecursion IsIdchar (take result text.now) }
+    ensures ended { (length text.now ≤ result + 1) ⊎ BeginsNoIdchar (drop result text.now) }
 {
     let mut at = 0;
     while at + 1 < text.len() {
