@@ -13,7 +13,8 @@ use Rattle.wc_ast.specs.declared.builder.Part.TheVariants.{Other}
 use Rattle.wc_ast.specs.declared.builder.BuildFault.{BuildFault}
 use Rattle.wc_ast.specs.declared.builder.BuildFault.TheVariants as BuildFaults
 use Rattle.wc_ast.specs.Nested.{nesting_limit, Code, empty, Mark}
-use Rattle.wc_ast.specs.Draft.{Frame, in_region, in_then, in_else, in_first_part, turned, Draft, whole, step, begins, adds, takes, is_otherwise, so_far, with_mark}
+use Rattle.wc_ast.specs.Draft.{Frame, in_region, in_then, in_else, in_first_part, turned, Draft, whole, step, begins}
+use Rattle.wc_ast.specs.Draft.{adds, takes, is_otherwise, so_far, with_mark}
 use Rattle.wc_ast.specs.NestedLaws.{steps-append}
 use Rattle.wc_ast.specs.Entries.{begin_of, mark, marks, drafted}
 use Rattle.wc_ast.specs.Building.{outermost, IsBuilding}

@@ -1,9 +1,13 @@
 -- One more mark of what is being built, and what a builder keeps then.
-use Rattle.std.proofs.Common.{◌≡◌, ℕ, zero, suc, ◌+◌, ◌≤◌, ◌<◌, Bool, true, false, List, [], ◌∷◌, ◌++◌, length, get_or, set, take, map, refl, sym, ap, ◌∙◌, arith}
+use Rattle.std.proofs.Common.{◌≡◌, ℕ, zero, suc, ◌+◌, ◌≤◌, ◌<◌, Bool, true, false, List, [], ◌∷◌, ◌++◌, length, get_or}
+use Rattle.std.proofs.Common.{set, take, map, refl, sym, ap, ◌∙◌, arith}
 use Rattle.std.proofs.lemmas.List.{length-append}
 use Rattle.std.proofs.Math.Seq.{set-append_seam, take-append_seam}
-use Rattle.wc_ast.specs.Nested.{nesting_limit, Code, empty, op, region, choice, Mark, plain, begin, begin_if, otherwise, close, ◌⧺◌, flat}
-use Rattle.wc_ast.specs.Draft.{Frame, in_region, in_then, in_else, Draft, draft, whole, step, steps, built, closed, turned, takes, begins, adds, ends, in_first_part, is_open, is_otherwise, ended, AddsAll, front, upto, so_far, with_mark}
+use Rattle.wc_ast.specs.Nested.{nesting_limit, Code, empty, op, region, choice, Mark, plain, begin, begin_if, otherwise}
+use Rattle.wc_ast.specs.Nested.{close, ◌⧺◌, flat}
+use Rattle.wc_ast.specs.Draft.{Frame, in_region, in_then, in_else, Draft, draft, whole, step, steps, built, closed}
+use Rattle.wc_ast.specs.Draft.{turned, takes, begins, adds, ends, in_first_part, is_open, is_otherwise, ended, AddsAll}
+use Rattle.wc_ast.specs.Draft.{front, upto, so_far, with_mark}
 use Rattle.wc_ast.specs.NestedLaws.{steps-append, AddsAll-append, AddsAll-flat, step-reach, upto-built, built_upto}
 use Rattle.wc_ast.specs.Building.{outermost, IsBuilding, IsWhole}
 

@@ -1,7 +1,8 @@
 -- A walk that writes pieces writes those of the instructions.
 use Rattle.std.proofs.Common.{◌≡◌, ◌≢◌, ◌⊎◌, List, [], ◌∷◌, ◌++◌, refl, sym, ap, ◌∙◌, append_assoc, inl, inr}
 use Rattle.std.proofs.lemmas.List.{append-nil}
-use Rattle.wc_ast.specs.Nested.{Region, Code, empty, op, region, choice, Mark, plain, begin, begin_if, otherwise, close, else_mark, flat, flatten}
+use Rattle.wc_ast.specs.Nested.{Region, Code, empty, op, region, choice, Mark, plain, begin, begin_if, otherwise, close}
+use Rattle.wc_ast.specs.Nested.{else_mark, flat, flatten}
 use Rattle.wc_ast.specs.Grammar.{Grammar, Spells}
 use Rattle.wc_ast.specs.Parts.{AllParts}
 use Rattle.wc_ast.specs.Pieces.{Pieces, emitted, else_piece}

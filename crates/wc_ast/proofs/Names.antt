@@ -1,9 +1,11 @@
 -- Names tell instructions apart. An instruction is found among those whose names are as long as its own.
-use Rattle.std.proofs.Common.{◌≡◌, ℕ, ◌==◌, Bool, true, false, List, [], ◌∷◌, length, Option, Some, None, if◌then◌else◌, refl, sym, ap, ◌∙◌}
+use Rattle.std.proofs.Common.{◌≡◌, ℕ, ◌==◌, Bool, true, false, List, [], ◌∷◌, length, Option, Some, None, if◌then◌else◌}
+use Rattle.std.proofs.Common.{refl, sym, ap, ◌∙◌}
 use Rattle.std.specs.Str.{bytes_eq}
 use Rattle.std.proofs.lemmas.Slice.Eq.{bytes_eq-Decides}
 use Rattle.wc_ast.specs.declared.op.Op.{Op}
-use Rattle.wc_ast.specs.declared.op.Op.TheVariants.{Simple, Index, Mem, BrTable, CallIndirect, I32Const, I64Const, Block, Loop, If}
+use Rattle.wc_ast.specs.declared.op.Op.TheVariants.{Simple, Index, Mem, BrTable, CallIndirect, I32Const, I64Const}
+use Rattle.wc_ast.specs.declared.op.Op.TheVariants.{Block, Loop, If}
 use Rattle.wc_ast.specs.declared.op.SimpleOp.{SimpleOp}
 use Rattle.wc_ast.specs.declared.op.SimpleOp.TheVariants as simple
 use Rattle.wc_ast.specs.declared.op.IndexOp.{IndexOp}
@@ -160,8 +162,10 @@ if-none (op ∷ rest) w goal k = λ h. if-none rest w goal (λ e. k (go h e (byt
     go h e false t = rw t e
 
 none-named : (w : List ℕ) → named w ≡ None → IsNamed w None
-none-named w k = λ o. ((λ s. absurd cc), (λ e. let f = found o in let g : named (row o).name ≡ named w = ap named e in absurd cc))
+none-named w k =
+    λ o. ((λ s. absurd cc), (λ e. let f = found o in let g : named (row o).name ≡ named w = ap named e in absurd cc))
 
 -- a word of that length that is no instruction's name
 pub none_is : (n : ℕ) (w : List ℕ) → length w ≡ n → IfNone (of_length n) w (IsNamed w None)
-none_is n w l = if-none (of_length n) w (IsNamed w None) (λ e. none-named w (ap (λ (m : ℕ). find_named (of_length m) w) l ∙ e))
+none_is n w l =
+    if-none (of_length n) w (IsNamed w None) (λ e. none-named w (ap (λ (m : ℕ). find_named (of_length m) w) l ∙ e))

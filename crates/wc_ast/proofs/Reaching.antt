@@ -1,6 +1,8 @@
 -- What is spelled is reached by marks, and reading by marks ends in one way.
-use Rattle.std.proofs.Common.{◌≡◌, ℕ, ◌+◌, ◌≤◌, ◌<◌, max, true, List, [], ◌∷◌, ◌++◌, length, refl, sym, ap, ◌∙◌, append_assoc, arith, inl, inr}
-use Rattle.wc_ast.specs.Nested.{Code, empty, op, region, choice, Mark, plain, begin, begin_if, otherwise, close, ◌⧺◌, nesting}
+use Rattle.std.proofs.Common.{◌≡◌, ℕ, ◌+◌, ◌≤◌, ◌<◌, max, true, List, [], ◌∷◌, ◌++◌, length, refl, sym, ap, ◌∙◌}
+use Rattle.std.proofs.Common.{append_assoc, arith, inl, inr}
+use Rattle.wc_ast.specs.Nested.{Code, empty, op, region, choice, Mark, plain, begin, begin_if, otherwise, close, ◌⧺◌}
+use Rattle.wc_ast.specs.Nested.{nesting}
 use Rattle.wc_ast.specs.Draft.{Frame, in_region, in_then, in_else, Draft, draft, whole, step, begins, reach}
 use Rattle.wc_ast.specs.NestedLaws.{append-empty, append-assoc}
 use Rattle.wc_ast.specs.Grammar.{Grammar, Spells, Opens, SpellsDraft, SpellsMark}

@@ -2,7 +2,8 @@
 use Rattle.std.proofs.Common.{◌≡◌, ◌≢◌, true, List, [], ◌∷◌, ◌++◌, refl, sym, ap, ◌∙◌, append_assoc, inl, inr}
 use Rattle.std.proofs.lemmas.List.{append-nil}
 use Rattle.wc_ast.specs.Nested.{Code, empty, op, region, choice, Mark, plain, begin, begin_if, otherwise, close, ◌⧺◌}
-use Rattle.wc_ast.specs.Draft.{Frame, in_region, in_then, in_else, Draft, draft, whole, step, closed, turned, adds, ends}
+use Rattle.wc_ast.specs.Draft.{Frame, in_region, in_then, in_else, Draft, draft, whole, step, closed, turned, adds}
+use Rattle.wc_ast.specs.Draft.{ends}
 use Rattle.wc_ast.specs.Grammar.{Grammar, Spells, SpellsDraft, ElseIn, EndIn, SpellsMark}
 
 module _ {A P H : Type 0} (g : Grammar A P H) where

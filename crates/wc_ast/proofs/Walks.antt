@@ -1,10 +1,12 @@
 -- A walk over the marks, which knows what encloses it, meets the instructions as they are placed.
-use Rattle.std.proofs.Common.{◌≡◌, ℕ, ◌+◌, ◌-◌, ◌≤◌, List, [], ◌∷◌, ◌++◌, refl, sym, ap, ◌∙◌, append_assoc, arith, Bool, true, position, suc, ◌<◌, length, get_or, drop}
+use Rattle.std.proofs.Common.{◌≡◌, ℕ, ◌+◌, ◌-◌, ◌≤◌, List, [], ◌∷◌, ◌++◌, refl, sym, ap, ◌∙◌, append_assoc, arith, Bool}
+use Rattle.std.proofs.Common.{true, position, suc, ◌<◌, length, get_or, drop}
 use Rattle.std.specs.List.{position_from}
 use Rattle.std.proofs.lemmas.Iterator.Adapters.{position_from-zero}
 use Rattle.std.proofs.Math.Seq.{drop-cons}
 use Rattle.std.proofs.lemmas.List.{append-nil}
-use Rattle.wc_ast.specs.Nested.{Code, empty, op, region, choice, Mark, plain, begin, begin_if, otherwise, close, else_mark, flat, flatten, nesting, ◌⧺◌}
+use Rattle.wc_ast.specs.Nested.{Code, empty, op, region, choice, Mark, plain, begin, begin_if, otherwise, close}
+use Rattle.wc_ast.specs.Nested.{else_mark, flat, flatten, nesting, ◌⧺◌}
 use Rattle.wc_ast.specs.Draft.{Frame, in_region, in_then, in_else, Draft, draft, whole, step, adds, begins}
 use Rattle.wc_ast.specs.NestedLaws.{append-empty, append-assoc}
 use Rattle.wc_ast.specs.Placed.{placed, mapped, deeper}

@@ -1,6 +1,7 @@
 -- Instructions that are being built: which blocks, loops and ifs are open, and what each of them has so far.
 use Rattle.std.specs.Prelude.{◌++◌, ℕ, ◌+◌, ◌≡◌, max, Bool, true, false, cond, List, [], ◌∷◌}
-use Rattle.wc_ast.specs.Nested.{Region, Code, empty, op, region, choice, Mark, plain, begin, begin_if, otherwise, close, ◌⧺◌, flat, nesting}
+use Rattle.wc_ast.specs.Nested.{Region, Code, empty, op, region, choice, Mark, plain, begin, begin_if, otherwise, close}
+use Rattle.wc_ast.specs.Nested.{◌⧺◌, flat, nesting}
 
 -- one that is open: what stood before it and its head, and for an if in its else part the first part
 pub data Frame (P H : Type 0) : Type 0 where

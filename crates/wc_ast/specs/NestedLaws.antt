@@ -1,8 +1,10 @@
 -- Laws of nested instructions, their marks and drafts.
 use Rattle.std.proofs.Common.{◌≡◌, ℕ, ◌+◌, ◌≤◌, ◌<◌, max, true, List, [], ◌∷◌, ◌++◌, length, refl, sym, ap, ◌∙◌, arith}
 use Rattle.std.proofs.lemmas.List.{append-nil}
-use Rattle.wc_ast.specs.Nested.{Code, empty, op, region, choice, Mark, plain, begin, begin_if, otherwise, close, ◌⧺◌, else_mark, flat, flatten, nesting}
-use Rattle.wc_ast.specs.Draft.{Frame, in_region, in_then, in_else, Draft, draft, whole, step, steps, built, closed, turned, begins, adds, ends, in_first_part, AddsAll, front, upto, reach}
+use Rattle.wc_ast.specs.Nested.{Code, empty, op, region, choice, Mark, plain, begin, begin_if, otherwise, close, ◌⧺◌}
+use Rattle.wc_ast.specs.Nested.{else_mark, flat, flatten, nesting}
+use Rattle.wc_ast.specs.Draft.{Frame, in_region, in_then, in_else, Draft, draft, whole, step, steps, built, closed}
+use Rattle.wc_ast.specs.Draft.{turned, begins, adds, ends, in_first_part, AddsAll, front, upto, reach}
 
 module _ {P H : Type 0} where
   pub append-empty : (is : Code P H) → is ⧺ empty ≡ is

@@ -15,7 +15,8 @@ use Rattle.wc_binary.specs.Contents.{global, elem_segment, data_segment, func, c
 use Rattle.wc_binary.specs.Written.{vector_bytes, global_type_bytes, sized_bytes, Anything, Fits32, FitsVector}
 use Rattle.wc_binary.specs.WrittenCode.{expr_bytes, FitsExpr}
 use Rattle.wc_binary.specs.WrittenLocals.{locals_bytes, FitsLocals}
-use Rattle.wc_binary.specs.WrittenContents.{global_bytes, elem_bytes, data_bytes, func_bytes, code_bytes, FitsGlobal, FitsElem, FitsData, FitsFunc, FitsCode}
+use Rattle.wc_binary.specs.WrittenContents.{global_bytes, elem_bytes, data_bytes, func_bytes, code_bytes, FitsGlobal}
+use Rattle.wc_binary.specs.WrittenContents.{FitsElem, FitsData, FitsFunc, FitsCode}
 use Rattle.wc_binary.proofs.Judging.{HasBytes}
 use Rattle.wc_binary.proofs.Spelling.{of, writes-as, u32-writes, then-writes, seen-writes, vector-writes, sized-writes}
 use Rattle.wc_binary.proofs.TypeSpelling.{global_type-writes}
@@ -62,7 +63,9 @@ bytes-writes = record {
 }
 
 abbrev elem_fits : Elem → Type 0
-elem_fits e = Fits32 e.table × (FitsExpr e.offset × (FitsVector Fits32 e.funcs × (e ≡ record { table = e.table; offset = e.offset; funcs = e.funcs })))
+elem_fits e =
+    Fits32 e.table ×
+    (FitsExpr e.offset × (FitsVector Fits32 e.funcs × (e ≡ record { table = e.table; offset = e.offset; funcs = e.funcs })))
 
 pub elem-writes : HasBytes (of elem_segment) FitsElem elem_bytes
 unfolding elem_segment
@@ -86,7 +89,9 @@ elem-writes =
     (λ e h. (h.0, (h.1.0, h.1.1.0))) (λ e h. (h.0, (h.1.0, (h.1.1, refl)))) (λ e. refl)
 
 abbrev data_fits : Data → Type 0
-data_fits d = Fits32 d.memory × (FitsExpr d.offset × (FitsBytes d.bytes × (d ≡ record { memory = d.memory; offset = d.offset; bytes = d.bytes })))
+data_fits d =
+    Fits32 d.memory ×
+    (FitsExpr d.offset × (FitsBytes d.bytes × (d ≡ record { memory = d.memory; offset = d.offset; bytes = d.bytes })))
 
 pub data-writes : HasBytes (of data_segment) FitsData data_bytes
 unfolding data_segment

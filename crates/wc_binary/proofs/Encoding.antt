@@ -1,5 +1,6 @@
 -- How the encoder's answers follow.
-use Rattle.std.proofs.Common.{◌≡◌, ℕ, zero, suc, ◌<◌, List, [], ◌∷◌, ◌++◌, length, map, get_or, Result, Ok, Err, refl, sym, ap, subst, ◌∙◌, append_assoc, arith}
+use Rattle.std.proofs.Common.{◌≡◌, ℕ, zero, suc, ◌<◌, List, [], ◌∷◌, ◌++◌, length, map, get_or, Result, Ok, Err, refl}
+use Rattle.std.proofs.Common.{sym, ap, subst, ◌∙◌, append_assoc, arith}
 use Rattle.std.proofs.lemmas.List.{append-nil}
 use Rattle.std.specs.List.{AllByRecursion}
 use Rattle.wc_ast.specs.declared.module.Module.{Module}
@@ -12,11 +13,13 @@ use Rattle.wc_binary.specs.Encoding.{Writes, EncodesModule}
 use Rattle.wc_binary.proofs.Modules.{canon-written, shortest-and-only, bin-longer}
 
 -- where a part doesn't fit, nothing that has it does
-pub part-fails : (F G : Type 0) → (G → F) → (mid new bytes old last whole : List ℕ) (e : EncFault) → Writes F mid new bytes (Err e) → Writes G old last whole (Err e)
+pub part-fails : (F G : Type 0) → (G → F) → (mid new bytes old last whole : List ℕ) (e : EncFault)
+    → Writes F mid new bytes (Err e) → Writes G old last whole (Err e)
 part-fails F G part mid new bytes old last whole Oversize h = λ f. h (part f)
 part-fails F G part mid new bytes old last whole Memory h = tt
 
-pub fits-at : {A : Type 0} (Fits : A → Type 0) (vs : List A) (i : ℕ) (d : A) → i < length vs → AllByRecursion Fits vs → Fits (get_or vs i d)
+pub fits-at : {A : Type 0} (Fits : A → Type 0) (vs : List A) (i : ℕ) (d : A) → i < length vs → AllByRecursion Fits vs
+    → Fits (get_or vs i d)
 fits-at Fits [] i d lt h = absurd (omega arith)
 fits-at Fits (v ∷ vs) zero d lt h = h.0
 fits-at Fits (v ∷ vs) (suc i) d lt h = fits-at Fits vs i d (omega arith) h.1
@@ -28,12 +31,15 @@ get_or-any (v ∷ vs) zero d e lt = refl
 get_or-any (v ∷ vs) (suc i) d e lt = get_or-any vs i d e (omega arith)
 
 -- where an item doesn't fit, no vector that has it does
-pub item-fails : {A : Type 0} (Fits : A → Type 0) (items : List A) (i : ℕ) (v : A) → v ≡ get_or items i v → i < length items → (mid new bytes old last whole : List ℕ) (e : EncFault)
+pub item-fails : {A : Type 0} (Fits : A → Type 0) (items : List A) (i : ℕ) (v : A) → v ≡ get_or items i v
+    → i < length items → (mid new bytes old last whole : List ℕ) (e : EncFault)
     → Writes (Fits v) mid new bytes (Err e) → Writes (FitsVector Fits items) old last whole (Err e)
 item-fails Fits items i v is lt mid new bytes old last whole e h =
-    part-fails (Fits v) (FitsVector Fits items) (λ f. subst Fits (sym is) (fits-at Fits items i v lt f.1)) mid new bytes old last whole e h
+    part-fails (Fits v) (FitsVector Fits items)
+    (λ f. subst Fits (sym is) (fits-at Fits items i v lt f.1)) mid new bytes old last whole e h
 
-pub module-fails : (m : Module) (old new : List ℕ) (e : EncFault) → Writes (FitsSections (parts_of m)) old new (sections_bytes (parts_of m)) (Err e) → EncodesModule m (Err e)
+pub module-fails : (m : Module) (old new : List ℕ) (e : EncFault)
+    → Writes (FitsSections (parts_of m)) old new (sections_bytes (parts_of m)) (Err e) → EncodesModule m (Err e)
 module-fails m old new Oversize h = λ b k. h (bin-longer b m k).0
 module-fails m old new Memory h = tt
 
@@ -42,26 +48,32 @@ module-written m fits b is =
     let c : Canon b m = rw is (canon-written m fits) in
     (c, shortest-and-only b m c)
 
-mapped-at : {A B : Type 0} (f : A → B) (Fits : B → Type 0) (vs : List A) (i : ℕ) (d : A) → i < length vs → AllByRecursion Fits (map f vs) → Fits (f (get_or vs i d))
+mapped-at : {A B : Type 0} (f : A → B) (Fits : B → Type 0) (vs : List A) (i : ℕ) (d : A) → i < length vs
+    → AllByRecursion Fits (map f vs) → Fits (f (get_or vs i d))
 mapped-at f Fits [] i d lt h = absurd (omega arith)
 mapped-at f Fits (v ∷ vs) zero d lt h = h.0
 mapped-at f Fits (v ∷ vs) (suc i) d lt h = mapped-at f Fits vs i d (omega arith) h.1
 
 -- where the code of a function doesn't fit, no vector that has it does
-pub mapped-fails : {A B : Type 0} (f : A → B) (Fits : B → Type 0) (items : List A) (i : ℕ) (v : A) → v ≡ get_or items i v → i < length items → (mid new bytes old last whole : List ℕ) (e : EncFault)
+pub mapped-fails : {A B : Type 0} (f : A → B) (Fits : B → Type 0) (items : List A) (i : ℕ) (v : A)
+    → v ≡ get_or items i v → i < length items → (mid new bytes old last whole : List ℕ) (e : EncFault)
     → Writes (Fits (f v)) mid new bytes (Err e) → Writes (FitsVector Fits (map f items)) old last whole (Err e)
 mapped-fails f Fits items i v is lt mid new bytes old last whole e h =
-    part-fails (Fits (f v)) (FitsVector Fits (map f items)) (λ g. subst (λ x. Fits (f x)) (sym is) (mapped-at f Fits items i v lt g.1)) mid new bytes old last whole e h
+    part-fails (Fits (f v)) (FitsVector Fits (map f items))
+    (λ g. subst (λ x. Fits (f x)) (sym is) (mapped-at f Fits items i v lt g.1)) mid new bytes old last whole e h
 
 -- ---- sections one after the other
 
 -- one that fits and was written, and then what is behind it
-pub section-before : (F G : Type 0) (old mid new bytes rest : List ℕ) (r : Result (Unit {0}) EncFault) → F × (mid ≡ old ++ bytes) → Writes G mid new rest r → Writes (F × G) old new (bytes ++ rest) r
-section-before F G old mid new bytes rest (Ok u) h k = ((h.0, k.0), k.1 ∙ ap (λ (x : List ℕ). x ++ rest) h.1 ∙ append_assoc old bytes rest)
+pub section-before : (F G : Type 0) (old mid new bytes rest : List ℕ) (r : Result (Unit {0}) EncFault)
+    → F × (mid ≡ old ++ bytes) → Writes G mid new rest r → Writes (F × G) old new (bytes ++ rest) r
+section-before F G old mid new bytes rest (Ok u) h k =
+    ((h.0, k.0), k.1 ∙ ap (λ (x : List ℕ). x ++ rest) h.1 ∙ append_assoc old bytes rest)
 section-before F G old mid new bytes rest (Err Oversize) h k = λ f. k f.1
 section-before F G old mid new bytes rest (Err Memory) h k = tt
 
-pub section-last : (F : Type 0) (old new bytes : List ℕ) (r : Result (Unit {0}) EncFault) → Writes F old new bytes r → Writes (F × Unit {0}) old new (bytes ++ []) r
+pub section-last : (F : Type 0) (old new bytes : List ℕ) (r : Result (Unit {0}) EncFault) → Writes F old new bytes r
+    → Writes (F × Unit {0}) old new (bytes ++ []) r
 section-last F old new bytes (Ok u) k = ((k.0, tt), k.1 ∙ ap (λ (x : List ℕ). old ++ x) (sym (append-nil bytes)))
 section-last F old new bytes (Err Oversize) k = λ f. k f.0
 section-last F old new bytes (Err Memory) k = tt

@@ -1,5 +1,6 @@
 -- The bytes of a row of entries are those of the instructions that it stands for, and fit where these do.
-use Rattle.std.proofs.Common.{◌≡◌, ℕ, ◌<◌, ◌≤◌, List, [], ◌∷◌, ◌++◌, length, take, get_or, Err, refl, sym, ap, subst, ◌∙◌, append_assoc}
+use Rattle.std.proofs.Common.{◌≡◌, ℕ, ◌<◌, ◌≤◌, List, [], ◌∷◌, ◌++◌, length, take, get_or, Err, refl, sym, ap, subst}
+use Rattle.std.proofs.Common.{◌∙◌, append_assoc}
 use Rattle.std.proofs.lemmas.List.{take_all}
 use Rattle.std.specs.List.{AllByRecursion, flat_map}
 use Rattle.wc_ast.specs.declared.entry.Kind.TheVariants.{Block, Loop, If}
@@ -14,7 +15,8 @@ use Rattle.wc_ast.proofs.PartLemmas.{flat-AllMarks, AllMarks-flatten}
 use Rattle.wc_ast.proofs.Emitting.{emits, emits-flatten}
 use Rattle.wc_binary.specs.declared.fault.EncFault.{EncFault}
 use Rattle.wc_binary.specs.Encoding.{Writes}
-use Rattle.wc_binary.specs.WrittenCode.{entry_bytes, code_pieces, code_bytes, expr_bytes, FitsInstr, FitsBlockType, FitsEntry, FitsExpr}
+use Rattle.wc_binary.specs.WrittenCode.{entry_bytes, code_pieces, code_bytes, expr_bytes, FitsInstr, FitsBlockType}
+use Rattle.wc_binary.specs.WrittenCode.{FitsEntry, FitsExpr}
 use Rattle.wc_binary.proofs.Encoding.{part-fails, fits-at}
 
 -- these entries are those of this body

@@ -1,5 +1,6 @@
 -- The canonical bytes of names, imports and exports.
-use Rattle.std.proofs.Common.{◌≡◌, ℕ, zero, suc, Bool, true, false, nat_eq, List, [], ◌∷◌, ◌++◌, length, Option, None, Result, Ok, refl, sym, ap}
+use Rattle.std.proofs.Common.{◌≡◌, ℕ, zero, suc, Bool, true, false, nat_eq, List, [], ◌∷◌, ◌++◌, length, Option, None}
+use Rattle.std.proofs.Common.{Result, Ok, refl, sym, ap}
 use Rattle.std.specs.Str.{IsUtf8, is_utf8}
 use Rattle.std.proofs.lemmas.Str.{IsUtf8-from_is_utf8, is_utf8-from_IsUtf8}
 use Rattle.std.proofs.lemmas.List.{append-nil}
@@ -19,7 +20,9 @@ use Rattle.wc_binary.specs.Phrase.{gives, ◌>>=◌, SpellsBy}
 use Rattle.wc_binary.specs.Values.{u32, times, any_byte, name, utf8_fault}
 use Rattle.wc_binary.specs.Types.{limits, table_type, global_type}
 use Rattle.wc_binary.specs.Externals.{kind, kind_of, desc, desc_of, import, export}
-use Rattle.wc_binary.specs.Written.{limits_bytes, table_type_bytes, global_type_bytes, name_bytes, kind_bytes, desc_bytes, import_bytes, export_bytes, Fits32, FitsLimits, FitsName, FitsDesc, FitsImport, FitsExport, Anything}
+use Rattle.wc_binary.specs.Written.{limits_bytes, table_type_bytes, global_type_bytes, name_bytes, kind_bytes}
+use Rattle.wc_binary.specs.Written.{desc_bytes, import_bytes, export_bytes, Fits32, FitsLimits, FitsName, FitsDesc}
+use Rattle.wc_binary.specs.Written.{FitsImport, FitsExport, Anything}
 use Rattle.wc_binary.proofs.Judging.{HasBytes}
 use Rattle.wc_binary.proofs.Spelling.{of, writes-as, u32-writes, byte-writes, then-writes, seen-writes, made-writes}
 use Rattle.wc_binary.proofs.TypeSpelling.{limits-writes, table_type-writes, global_type-writes}
@@ -29,9 +32,11 @@ use Rattle.wc_binary.proofs.TypeSpelling.{limits-writes, table_type-writes, glob
 pub raw-written : (bytes : List ℕ) → SpellsBy canonical (times (length bytes) any_byte) bytes bytes
 unfolding any_byte
 raw-written [] = (refl, refl)
-raw-written (x ∷ bytes) = (x ∷ [], bytes, x, refl, (x, refl, refl), (bytes, [], bytes, sym (append-nil bytes), raw-written bytes, (refl, refl)))
+raw-written (x ∷ bytes) =
+    (x ∷ [], bytes, x, refl, (x, refl, refl), (bytes, [], bytes, sym (append-nil bytes), raw-written bytes, (refl, refl)))
 
-pub raw-told : (s : Style) (n : ℕ) (b bytes : List ℕ) → SpellsBy s (times n any_byte) b bytes → (n ≡ length bytes) × (b ≡ bytes)
+pub raw-told : (s : Style) (n : ℕ) (b bytes : List ℕ) → SpellsBy s (times n any_byte) b bytes
+    → (n ≡ length bytes) × (b ≡ bytes)
 unfolding any_byte
 raw-told s zero b bytes h = let is = h.1 in rw is (refl, h.0)
 raw-told s (suc n) b bytes h =
@@ -55,7 +60,10 @@ good-utf8 bytes h = go (is_utf8 bytes) refl
 pub name-writes : HasBytes (of name) FitsName name_bytes
 unfolding name
 name-writes = record {
-  written = λ v h. let good = is_utf8-from_IsUtf8 v h.1 in (unsigned_bytes (length v), v, length v, refl, u32-writes.written (length v) h.0, (raw-written v, rw good refl));
+  written =
+      λ v h. let good = is_utf8-from_IsUtf8 v h.1
+      in
+      (unsigned_bytes (length v), v, length v, refl, u32-writes.written (length v) h.0, (raw-written v, rw good refl));
   told = λ s V j b v h.
       let n = u32-writes.told s V j h.0 h.2 h.4 in
       let r = raw-told s h.2 h.1 v h.5.0 in
@@ -74,10 +82,18 @@ kind-only : (x : ℕ) (v : ExportKind) → kind_of x ≡ Ok v → x ∷ [] ≡ k
 kind-only x v h = go (nat_eq x 0) (nat_eq x 1) (nat_eq x 2) (nat_eq x 3) refl refl refl refl
   where
     go : (a b c d : Bool) → nat_eq x 0 ≡ a → nat_eq x 1 ≡ b → nat_eq x 2 ≡ c → nat_eq x 3 ≡ d → x ∷ [] ≡ kind_bytes v
-    go true b c d p q r s = let e : ok_kind kinds.Func ≡ Ok v = rw p at h in let f : kinds.Func ≡ v = cc in rw (← f) (ap (λ (y : ℕ). y ∷ []) (eqb-true x 0 p))
-    go false true c d p q r s = let e : ok_kind kinds.Table ≡ Ok v = rw (p, q) at h in let f : kinds.Table ≡ v = cc in rw (← f) (ap (λ (y : ℕ). y ∷ []) (eqb-true x 1 q))
-    go false false true d p q r s = let e : ok_kind kinds.Memory ≡ Ok v = rw (p, q, r) at h in let f : kinds.Memory ≡ v = cc in rw (← f) (ap (λ (y : ℕ). y ∷ []) (eqb-true x 2 r))
-    go false false false true p q r s = let e : ok_kind kinds.Global ≡ Ok v = rw (p, q, r, s) at h in let f : kinds.Global ≡ v = cc in rw (← f) (ap (λ (y : ℕ). y ∷ []) (eqb-true x 3 s))
+    go true b c d p q r s =
+        let e : ok_kind kinds.Func ≡ Ok v = rw p at h in
+        let f : kinds.Func ≡ v = cc in rw (← f) (ap (λ (y : ℕ). y ∷ []) (eqb-true x 0 p))
+    go false true c d p q r s =
+        let e : ok_kind kinds.Table ≡ Ok v = rw (p, q) at h in
+        let f : kinds.Table ≡ v = cc in rw (← f) (ap (λ (y : ℕ). y ∷ []) (eqb-true x 1 q))
+    go false false true d p q r s =
+        let e : ok_kind kinds.Memory ≡ Ok v = rw (p, q, r) at h in
+        let f : kinds.Memory ≡ v = cc in rw (← f) (ap (λ (y : ℕ). y ∷ []) (eqb-true x 2 r))
+    go false false false true p q r s =
+        let e : ok_kind kinds.Global ≡ Ok v = rw (p, q, r, s) at h in
+        let f : kinds.Global ≡ v = cc in rw (← f) (ap (λ (y : ℕ). y ∷ []) (eqb-true x 3 s))
     go false false false false p q r s = let e = rw (p, q, r, s) at h in absurd cc
 
 pub kind-writes : HasBytes (of kind) Anything kind_bytes
@@ -128,10 +144,18 @@ global-back (descs.Memory l) h = let e = h.0 in absurd cc
 global-back (descs.Global g) h = (g, refl, tt)
 
 desc_of-writes : (k : ExportKind) → HasBytes (of (desc_of k)) (FitsKind k) behind_kind
-desc_of-writes kinds.Func = made-writes u32 Fits32 unsigned_bytes (λ n. descs.Func n) (FitsKind kinds.Func) behind_kind u32-writes (λ n f. (refl, f)) (λ n. refl) func-back
-desc_of-writes kinds.Table = made-writes table_type FitsLimits table_type_bytes (λ l. descs.Table l) (FitsKind kinds.Table) behind_kind table_type-writes (λ l f. (refl, f)) (λ l. refl) table-back
-desc_of-writes kinds.Memory = made-writes limits FitsLimits limits_bytes (λ l. descs.Memory l) (FitsKind kinds.Memory) behind_kind limits-writes (λ l f. (refl, f)) (λ l. refl) memory-back
-desc_of-writes kinds.Global = made-writes global_type Anything global_type_bytes (λ g. descs.Global g) (FitsKind kinds.Global) behind_kind global_type-writes (λ g f. (refl, tt)) (λ g. refl) global-back
+desc_of-writes kinds.Func =
+    made-writes u32 Fits32 unsigned_bytes (λ n. descs.Func n) (FitsKind kinds.Func) behind_kind u32-writes
+    (λ n f. (refl, f)) (λ n. refl) func-back
+desc_of-writes kinds.Table =
+    made-writes table_type FitsLimits table_type_bytes (λ l. descs.Table l)
+    (FitsKind kinds.Table) behind_kind table_type-writes (λ l f. (refl, f)) (λ l. refl) table-back
+desc_of-writes kinds.Memory =
+    made-writes limits FitsLimits limits_bytes (λ l. descs.Memory l) (FitsKind kinds.Memory) behind_kind limits-writes
+    (λ l f. (refl, f)) (λ l. refl) memory-back
+desc_of-writes kinds.Global =
+    made-writes global_type Anything global_type_bytes (λ g. descs.Global g)
+    (FitsKind kinds.Global) behind_kind global_type-writes (λ g f. (refl, tt)) (λ g. refl) global-back
 
 desc_bytes-split : (d : Desc) → kind_bytes (desc_kind d) ++ behind_kind d ≡ desc_bytes d
 desc_bytes-split (descs.Func n) = refl
@@ -142,7 +166,8 @@ desc_bytes-split (descs.Global g) = refl
 pub desc-writes : HasBytes (of desc) FitsDesc desc_bytes
 unfolding desc
 desc-writes =
-    writes-as (of desc) (λ d. Unit {0} × FitsKind (desc_kind d) d) FitsDesc (λ d. kind_bytes (desc_kind d) ++ behind_kind d) desc_bytes
+    writes-as (of desc) (λ d. Unit {0} × FitsKind (desc_kind d) d) FitsDesc
+    (λ d. kind_bytes (desc_kind d) ++ behind_kind d) desc_bytes
     (then-writes kind desc_of Anything kind_bytes FitsKind (λ k d. behind_kind d) desc_kind kind-writes desc_of-writes kind-is)
     (λ d h. h.1.1) (λ d h. (tt, (refl, h))) desc_bytes-split
   where
@@ -153,7 +178,9 @@ desc-writes =
     kind-is s kinds.Global b v h = let is : v ≡ descs.Global h.2 = h.5.1 in rw is refl
 
 abbrev import_fits : Import → Type 0
-import_fits i = FitsName i.«module» × (FitsName i.name × (FitsDesc i.desc × (i ≡ record { «module» = i.«module»; name = i.name; desc = i.desc })))
+import_fits i =
+    FitsName i.«module» ×
+    (FitsName i.name × (FitsDesc i.desc × (i ≡ record { «module» = i.«module»; name = i.name; desc = i.desc })))
 
 pub import-writes : HasBytes (of import) FitsImport import_bytes
 unfolding import
@@ -177,7 +204,8 @@ import-writes =
     (λ i h. (h.0, (h.1.0, h.1.1.0))) (λ i h. (h.0, (h.1.0, (h.1.1, refl)))) (λ i. refl)
 
 abbrev export_fits : Export → Type 0
-export_fits e = FitsName e.name × (Unit {0} × (Fits32 e.index × (e ≡ record { name = e.name; kind = e.kind; index = e.index })))
+export_fits e =
+    FitsName e.name × (Unit {0} × (Fits32 e.index × (e ≡ record { name = e.name; kind = e.kind; index = e.index })))
 
 pub export-writes : HasBytes (of export) FitsExport export_bytes
 unfolding export

@@ -1,5 +1,6 @@
 -- Reading goes forward.
-use Rattle.std.proofs.Common.{◌≡◌, ℕ, zero, suc, ◌+◌, ◌-◌, ◌≤◌, List, length, Bool, true, false, Ok, refl, sym, ap, ◌∙◌, arith}
+use Rattle.std.proofs.Common.{◌≡◌, ℕ, zero, suc, ◌+◌, ◌-◌, ◌≤◌, List, length, Bool, true, false, Ok, refl, sym, ap, ◌∙◌}
+use Rattle.std.proofs.Common.{arith}
 use Rattle.std.specs.Prelude.{IsUtf8}
 use Rattle.std.specs.Str.{is_utf8}
 use Rattle.std.specs.Str.Lossy.{utf8_valid_len}
@@ -15,7 +16,8 @@ use Rattle.wc_binary.specs.Source.{Input, Fails, Gave}
 use Rattle.wc_binary.proofs.Going.{GoesOn-trans, ReadFailed-behind}
 use Rattle.wc_binary.proofs.Laws.{read-told}
 
-pub read_forward : {A : Type 0} (p : Phrase A) (o : ℕ) (x : List ℕ) (v : A) (q : ℕ) (y : List ℕ) → read p o x ≡ got v q y → o ≤ q
+pub read_forward : {A : Type 0} (p : Phrase A) (o : ℕ) (x : List ℕ) (v : A) (q : ℕ) (y : List ℕ)
+    → read p o x ≡ got v q y → o ≤ q
 read_forward {A} p o x v q y h = let t = rw h at (read-told {A = A} p o x) in omega (arith, t.3)
 
 raw-spelled : (n : ℕ) (a bytes : List ℕ) → Spells (times n any_byte) a bytes → a ≡ bytes
@@ -28,7 +30,8 @@ raw-spelled (suc n) a bytes h =
     let rest : h.1 ≡ k.2 = rw (k.3, k.5.0, append-nil) ih in
     rw (h.3, h.4.1, head, rest, k.5.1) refl
 
-pub raw-read : (n o : ℕ) (x bytes : List ℕ) (q : ℕ) (y : List ℕ) → read (times n any_byte) o x ≡ got bytes q y → q ≡ o + length bytes
+pub raw-read : (n o : ℕ) (x bytes : List ℕ) (q : ℕ) (y : List ℕ) → read (times n any_byte) o x ≡ got bytes q y
+    → q ≡ o + length bytes
 raw-read n o x bytes q y h =
     let t = rw h at (read-told {A = List ℕ} (times n any_byte) o x) in
     let e = raw-spelled n t.0 bytes t.2 in
@@ -42,21 +45,26 @@ not-utf8 bytes bars = go (is_utf8 bytes) refl
     go false e = e
 
 -- a fault in a name's count, and one in its bytes
-pub name-count : (old new : Input) (e : BinFault) → Fails old new e (read u32 old.place old.left) → Fails old new e (read name old.place old.left)
+pub name-count : (old new : Input) (e : BinFault) → Fails old new e (read u32 old.place old.left)
+    → Fails old new e (read name old.place old.left)
 unfolding name
 name-count old new Memory h = h
 name-count old new (Read at) h = h
 name-count old new (Bad at why) h = (h.0, λ w. rw (h.1 w) refl)
 
-pub name-bytes : (old mid new : Input) (n : ℕ) → Gave old mid (Ok n) (read u32 old.place old.left) → (e : BinFault) → Fails mid new e (read (times n any_byte) mid.place mid.left)
+pub name-bytes : (old mid new : Input) (n : ℕ) → Gave old mid (Ok n) (read u32 old.place old.left) → (e : BinFault)
+    → Fails mid new e (read (times n any_byte) mid.place mid.left)
     → Fails old new e (read name old.place old.left)
 unfolding name
 name-bytes old mid new n k Memory h = GoesOn-trans old mid new k.0 h
 name-bytes old mid new n k (Read at) h = ReadFailed-behind old mid new at k.0 h
-name-bytes old mid new n k (Bad at why) h = (GoesOn-trans old mid new k.0 h.0, λ w. let s = k.1 w in rw (s.1, h.1 s.0) refl)
+name-bytes old mid new n k (Bad at why) h =
+    (GoesOn-trans old mid new k.0 h.0, λ w. let s = k.1 w in rw (s.1, h.1 s.0) refl)
 
-module _ (o n p q : ℕ) (x y z bytes : List ℕ) (count : read u32 o x ≡ got n p y) (raw : read (times n any_byte) p y ≡ got bytes q z) where
-  pub name-bad : (at : ℕ) → (IsUtf8 bytes → ⊥) → at ≡ q - (length bytes - utf8_valid_len bytes) → read name o x ≡ fault at NotUtf8 q
+module _ (o n p q : ℕ) (x y z bytes : List ℕ) (count : read u32 o x ≡ got n p y)
+    (raw : read (times n any_byte) p y ≡ got bytes q z) where
+  pub name-bad : (at : ℕ) → (IsUtf8 bytes → ⊥) → at ≡ q - (length bytes - utf8_valid_len bytes)
+      → read name o x ≡ fault at NotUtf8 q
   unfolding name
   name-bad at bars e =
       let long = raw-read n p y bytes q z raw in

@@ -7,7 +7,8 @@ use Rattle.wc_binary.specs.declared.fault.BinWhy.{BinWhy}
 use Rattle.wc_binary.specs.Expression.{Begun, letters}
 use Rattle.wc_binary.specs.declared.fault.BinWhy.TheVariants.{SectionSize}
 use Rattle.wc_binary.specs.Style.{free, canonical}
-use Rattle.wc_binary.specs.Phrase.{Phrase, gives, byte, unsigned, signed, ◌>>=◌, judged, measured, byte_or_signed, neat, expression, SpellsBy}
+use Rattle.wc_binary.specs.Phrase.{Phrase, gives, byte, unsigned, signed, ◌>>=◌, judged, measured, byte_or_signed, neat}
+use Rattle.wc_binary.specs.Phrase.{expression, SpellsBy}
 use Rattle.wc_binary.specs.declared.parts.Parts.{Parts}
 use Rattle.wc_binary.specs.Values.{u32, vector, sized}
 use Rattle.wc_binary.specs.Types.{func_type, limits, table_type}
@@ -17,8 +18,10 @@ use Rattle.wc_binary.specs.Sections.{start}
 use Rattle.wc_binary.specs.Module.{preamble, parts_of, AreCustoms, Customs, IsSection, Then, Bin, Canon}
 use Rattle.wc_binary.proofs.Froms.{From1, From2, From3, From4, From5, From6, From7, From8, From9, From10, From11}
 
-freed-code : {A P H : Type 0} (k l : Grammar A P H) → ((b : List A) (p : P) → k.Plain b p → l.Plain b p) → ((b : List A) (r : Region) (t : H) → k.Begin b r t → l.Begin b r t)
-    → ((b : List A) (t : H) → k.BeginIf b t → l.BeginIf b t) → ((b : List A) (t : H) → k.Else b t → l.Else b t) → ((b : List A) (t : H) → k.End b t → l.End b t) → ((Q : Type 0) → l.Neat Q)
+freed-code : {A P H : Type 0} (k l : Grammar A P H) → ((b : List A) (p : P) → k.Plain b p → l.Plain b p)
+    → ((b : List A) (r : Region) (t : H) → k.Begin b r t → l.Begin b r t)
+    → ((b : List A) (t : H) → k.BeginIf b t → l.BeginIf b t) → ((b : List A) (t : H) → k.Else b t → l.Else b t)
+    → ((b : List A) (t : H) → k.End b t → l.End b t) → ((Q : Type 0) → l.Neat Q)
     → (b : List A) (code : Code P H) → Spells k b code → Spells l b code
 freed-code k l plains regions ifs elses ends liberties b empty s = s
 freed-code k l plains regions ifs elses ends liberties b (op p next) s =
@@ -51,8 +54,10 @@ freed-code k l plains regions ifs elses ends liberties b (choice t first second 
   freed-code k l plains regions ifs elses ends liberties s.4 next s.10,
 )
 
-freed-expression : {O P H : Type 0} (table : ℕ → Result (Begun O) BinWhy) (f : O → Phrase P) (h : Phrase H) → ((u : O) (c : List ℕ) (p : P) → SpellsBy canonical (f u) c p → SpellsBy free (f u) c p)
-    → ((c : List ℕ) (t : H) → SpellsBy canonical h c t → SpellsBy free h c t) → (b : List ℕ) (code : Code P H) → SpellsBy canonical (expression table f h) b code → SpellsBy free (expression table f h) b code
+freed-expression : {O P H : Type 0} (table : ℕ → Result (Begun O) BinWhy) (f : O → Phrase P) (h : Phrase H)
+    → ((u : O) (c : List ℕ) (p : P) → SpellsBy canonical (f u) c p → SpellsBy free (f u) c p)
+    → ((c : List ℕ) (t : H) → SpellsBy canonical h c t → SpellsBy free h c t) → (b : List ℕ) (code : Code P H)
+    → SpellsBy canonical (expression table f h) b code → SpellsBy free (expression table f h) b code
 freed-expression table f h plains heads b code s =
     let k = letters canonical.Neat table (λ u c p. SpellsBy canonical (f u) c p) (λ c t. SpellsBy canonical h c t) in
     let l = letters free.Neat table (λ u c p. SpellsBy free (f u) c p) (λ c t. SpellsBy free h c t) in
@@ -84,12 +89,15 @@ freed-customs b h = go h.0 h.1
     go zero h = (0, h)
     go (suc n) h = absurd h.4
 
-freed-section : {A : Type 0} (id : ℕ) (p : Phrase A) (none v : A) (b : List ℕ) → IsSection canonical id p none v b → IsSection free id p none v b
+freed-section : {A : Type 0} (id : ℕ) (p : Phrase A) (none v : A) (b : List ℕ) → IsSection canonical id p none v b
+    → IsSection free id p none v b
 freed-section id p none v b (inl h) = inl h
 freed-section id p none v b (inr h) = inr (h.0, h.1, freed (sized SectionSize p) h.0 v h.2, tt)
 
-freed-then : {A : Type 0} (id : ℕ) (p : Phrase A) (none v : A) (R S : List ℕ → Type 0) → ((d : List ℕ) → R d → S d) → (b : List ℕ) → Then canonical id p none v R b → Then free id p none v S b
-freed-then id p none v R S rest b h = (h.0, h.1, h.2, h.3, freed-customs h.0 h.4, freed-section id p none v h.1 h.5, rest h.2 h.6)
+freed-then : {A : Type 0} (id : ℕ) (p : Phrase A) (none v : A) (R S : List ℕ → Type 0) → ((d : List ℕ) → R d → S d)
+    → (b : List ℕ) → Then canonical id p none v R b → Then free id p none v S b
+freed-then id p none v R S rest b h =
+    (h.0, h.1, h.2, h.3, freed-customs h.0 h.4, freed-section id p none v h.1 h.5, rest h.2 h.6)
 
 module _ (p : Parts) where
   freed11 : (b : List ℕ) → From11 canonical p b → From11 free p b

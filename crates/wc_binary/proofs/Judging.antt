@@ -13,7 +13,8 @@ use Rattle.wc_binary.specs.Style.{Style, free, canonical, IsShortest}
 use Rattle.wc_binary.specs.Module.{IsOrLonger}
 
 pub shortest-only : (N : ℕ) (b : List ℕ) (n : ℕ) → IsShortest U N b n → b ≡ unsigned_bytes n
-shortest-only N b n h = unsigned_bytes-only N n b h.0 (h.1 (unsigned_bytes n) (unsigned_bytes-spelled N n (spelled-below N b n h.0)))
+shortest-only N b n h =
+    unsigned_bytes-only N n b h.0 (h.1 (unsigned_bytes n) (unsigned_bytes-spelled N n (spelled-below N b n h.0)))
 
 pub shortest-signed-only : (N : ℕ) (b : List ℕ) (z : ℤ) → IsShortest S N b z → b ≡ signed_bytes z
 shortest-signed-only N b z h =
@@ -26,7 +27,8 @@ pub record Judges (s : Style) (V : List ℕ → List ℕ → Type 0) : Type 1 wh
   pub integer : (b : List ℕ) (n : ℕ) → s.Integer 32 b n → (n < 2 ^ 32) × V b (unsigned_bytes n)
   pub signed : (N : ℕ) (b : List ℕ) (z : ℤ) → s.Signed N b z → HoldsSigned N z × V b (signed_bytes z)
   -- content and its size before it
-  pub size : (a c x : List ℕ) → s.Integer 32 a (length c) → V c x → (length x < 2 ^ 32) × V (a ++ c) (unsigned_bytes (length x) ++ x)
+  pub size : (a c x : List ℕ) → s.Integer 32 a (length c) → V c x
+      → (length x < 2 ^ 32) × V (a ++ c) (unsigned_bytes (length x) ++ x)
   -- a liberty that is taken, and makes the bytes longer
   pub liberty : (P : Type 0) (c b : List ℕ) → s.Neat P → (P → ⊥) → length b < length c → V c b
   pub equal : (c b : List ℕ) → c ≡ b → V c b
@@ -60,7 +62,8 @@ shorter-join a c x y (inl e) (inr g) = inr (omega (arith, ap length e, length-ap
 shorter-join a c x y (inr g) k = let l = or-longer c y k in inr (omega (arith, length-append a c, length-append x y))
 
 -- a size is never shorter for longer content
-shorter-size : (a c x : List ℕ) → U 32 a (length c) → IsOrLonger c x → (length x < 2 ^ 32) × IsOrLonger (a ++ c) (unsigned_bytes (length x) ++ x)
+shorter-size : (a c x : List ℕ) → U 32 a (length c) → IsOrLonger c x
+    → (length x < 2 ^ 32) × IsOrLonger (a ++ c) (unsigned_bytes (length x) ++ x)
 shorter-size a c x h (inl e) =
     let n = shorter-number a (length c) h in
     let l = ap length e in
@@ -86,4 +89,5 @@ no_shorter = record {
 -- The canonical bytes `w v` of each `v` that is `fit`, for what R relates to it in each style
 pub record HasBytes {A : Type 0} (R : Style → List ℕ → A → Type 0) (Fits : A → Type 0) (w : A → List ℕ) : Type 1 where
   pub written : (v : A) → Fits v → R canonical (w v) v
-  pub told : (s : Style) (V : List ℕ → List ℕ → Type 0) → Judges s V → (b : List ℕ) (v : A) → R s b v → Fits v × V b (w v)
+  pub told : (s : Style) (V : List ℕ → List ℕ → Type 0) → Judges s V → (b : List ℕ) (v : A) → R s b v
+      → Fits v × V b (w v)

@@ -2,7 +2,8 @@
 use Rattle.std.proofs.Common.{◌≡◌, ℕ, Bool, true, false, nat_eq, List, [], ◌∷◌, Option, Some, None, refl, sym, ap, ◌∙◌}
 use Rattle.std.proofs.lemmas.Bool.{eqb-true}
 use Rattle.wc_ast.specs.declared.op.Op.{Op}
-use Rattle.wc_ast.specs.declared.op.Op.TheVariants.{Simple, Index, Mem, BrTable, CallIndirect, I32Const, I64Const, Block, Loop, If}
+use Rattle.wc_ast.specs.declared.op.Op.TheVariants.{Simple, Index, Mem, BrTable, CallIndirect, I32Const, I64Const}
+use Rattle.wc_ast.specs.declared.op.Op.TheVariants.{Block, Loop, If}
 use Rattle.wc_ast.specs.declared.op.OpByte.{OpByte}
 use Rattle.wc_ast.specs.declared.op.OpByte.TheVariants.{Known, Float, Unknown}
 use Rattle.wc_ast.specs.declared.op.SimpleOp.{SimpleOp}

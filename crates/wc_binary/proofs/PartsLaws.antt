@@ -41,7 +41,8 @@ module-known m n e =
     ap (λ (p : Parts). with p m.funcs) e ∙ ap (with (parts_of n)) funcs
 
 -- functions of these types and codes
-funcs-of : (types : List ℕ) (codes : List FuncCode) → length types ≡ length codes → (fs : List Func) × (map type_of fs ≡ types) × (map code_of fs ≡ codes)
+funcs-of : (types : List ℕ) (codes : List FuncCode) → length types ≡ length codes
+    → (fs : List Func) × (map type_of fs ≡ types) × (map code_of fs ≡ codes)
 funcs-of [] [] e = ([], refl, refl)
 funcs-of [] (c ∷ codes) e = absurd (omega arith)
 funcs-of (t ∷ types) [] e = absurd (omega arith)

@@ -1,5 +1,6 @@
 -- Of each section: its id, its phrase, and its place in a module.
-use Rattle.std.proofs.Common.{◌≡◌, ◌≢◌, ℕ, ◌<◌, Bool, true, false, nat_eq, if◌then◌else◌, List, [], Option, Some, None, Ok, ◌++◌, inl, inr, refl, sym, ap, ◌∙◌, arith}
+use Rattle.std.proofs.Common.{◌≡◌, ◌≢◌, ℕ, ◌<◌, Bool, true, false, nat_eq, if◌then◌else◌, List, [], Option, Some, None}
+use Rattle.std.proofs.Common.{Ok, ◌++◌, inl, inr, refl, sym, ap, ◌∙◌, arith}
 use Rattle.std.proofs.lemmas.Bool.{eqb-true, eqb-false, ne_eqb, cases_lt, lt-ltb, le-ltb}
 use Rattle.std.proofs.lemmas.List.{append-nil}
 use Rattle.wc_binary.specs.declared.parts.Parts.{Parts}
@@ -39,11 +40,14 @@ abbrev no_kind : Option SectionKind
 no_kind = None
 
 -- a table of ids, from its first row
-row-number : (x n : ℕ) (j k : SectionKind) (rest : Option SectionKind) → number_of j ≡ n → (rest ≡ Some k → number_of k ≡ x) → (if nat_eq x n then Some j else rest) ≡ Some k → number_of k ≡ x
+row-number : (x n : ℕ) (j k : SectionKind) (rest : Option SectionKind) → number_of j ≡ n
+    → (rest ≡ Some k → number_of k ≡ x) → (if nat_eq x n then Some j else rest) ≡ Some k → number_of k ≡ x
 row-number x n j k rest is others h = go (nat_eq x n) refl
   where
     go : (b : Bool) → nat_eq x n ≡ b → number_of k ≡ x
-    go true e = let f : some_kind j ≡ Some k = rw e at h in let g : j ≡ k = cc in ap number_of (sym g) ∙ is ∙ sym (eqb-true x n e)
+    go true e =
+        let f : some_kind j ≡ Some k = rw e at h in
+        let g : j ≡ k = cc in ap number_of (sym g) ∙ is ∙ sym (eqb-true x n e)
     go false e = others (rw e at h)
 
 kind-number : (x : ℕ) (k : SectionKind) → kind_of x ≡ Some k → number_of k ≡ x
@@ -62,7 +66,8 @@ kind-number x k h =
     row-number x 11 kinds.Data k _ refl (λ h11. absurd cc) h10) h9) h8) h7) h6) h5) h4) h3) h2) h1) h0) h
 
 -- no row of a table of ids has this one
-row-other : (x n : ℕ) (j : SectionKind) (rest : Option SectionKind) → n < x → rest ≡ None → (if nat_eq x n then Some j else rest) ≡ no_kind
+row-other : (x n : ℕ) (j : SectionKind) (rest : Option SectionKind) → n < x → rest ≡ None
+    → (if nat_eq x n then Some j else rest) ≡ no_kind
 row-other x n j rest lt h = rw (ne_eqb x n (λ e. absurd (omega (arith, e)))) h
 
 -- there is no id above the last one
@@ -91,13 +96,16 @@ pub id-told : (last x : ℕ) (k : SectionKind) → id_of last x ≡ Ok k → IsI
 id-told last x k h = go (kind_of x) refl
   where
     told : (j : SectionKind) → kind_of x ≡ Some j → j ≡ k → (x ≢ 0 → last < x) → IsId last x k
-    told j e same rises = let f : kind_of x ≡ Some k = rw same at e in record { kind_is = f; number_is = kind-number x k f; rises = rises }
+    told j e same rises =
+        let f : kind_of x ≡ Some k = rw same at e in
+        record { kind_is = f; number_is = kind-number x k f; rises = rises }
 
     known : (j : SectionKind) → kind_of x ≡ Some j → ordered last x (Some j) ≡ Ok k → IsId last x k
     known j e g = by_zero (nat_eq x 0) refl
       where
         by_zero : (b : Bool) → nat_eq x 0 ≡ b → IsId last x k
-        by_zero true z = let f = rw z at g in told j e (let same : j ≡ k = cc in same) (λ ne. absurd (ne (eqb-true x 0 z)))
+        by_zero true z =
+            let f = rw z at g in told j e (let same : j ≡ k = cc in same) (λ ne. absurd (ne (eqb-true x 0 z)))
         by_zero false z =
             elim (cases_lt last x) [
               | inl lt ↦ let l = lt-ltb last x lt in let f = rw (z, l) at g in told j e (let same : j ≡ k = cc in same) (λ ne. lt)
@@ -120,10 +128,13 @@ id-stands last x k e rises = rw e (go (nat_eq x 0) refl)
 
 module _ (s : Style) where
   -- what is read of a phrase, and what is made of it
-  pub made : {A : Type 0} (p : Phrase A) (make : A → Section) (a : List ℕ) (v : Section) → SpellsBy s (p >>= λ u. gives (make u)) a v → (u : A) × (v ≡ make u) × SpellsBy s p a u
-  made p make a v h = let e : a ≡ h.0 = h.3 ∙ ap (λ (x : List ℕ). h.0 ++ x) h.5.0 ∙ append-nil h.0 in (h.2, h.5.1, rw e h.4)
+  pub made : {A : Type 0} (p : Phrase A) (make : A → Section) (a : List ℕ) (v : Section)
+      → SpellsBy s (p >>= λ u. gives (make u)) a v → (u : A) × (v ≡ make u) × SpellsBy s p a u
+  made p make a v h =
+      let e : a ≡ h.0 = h.3 ∙ ap (λ (x : List ℕ). h.0 ++ x) h.5.0 ∙ append-nil h.0 in (h.2, h.5.1, rw e h.4)
 
-  pub content-number : (k : SectionKind) (a : List ℕ) (v : Section) → SpellsBy s (content k) a v → number v ≡ number_of k
+  pub content-number : (k : SectionKind) (a : List ℕ) (v : Section) → SpellsBy s (content k) a v
+      → number v ≡ number_of k
   unfolding content
   content-number kinds.Custom a v h = ap number h.5.1
   content-number kinds.Type a v h = ap number h.5.1
@@ -142,12 +153,15 @@ module _ (s : Style) where
   unfolding content
   custom-content a h = (a, [], tt, sym (append-nil a), h, (refl, refl))
 
-  pub content-custom : (a : List ℕ) (v : Section) → SpellsBy s (content kinds.Custom) a v → (v ≡ sections.Custom) × SpellsBy s custom a tt
+  pub content-custom : (a : List ℕ) (v : Section) → SpellsBy s (content kinds.Custom) a v
+      → (v ≡ sections.Custom) × SpellsBy s custom a tt
   unfolding content
-  content-custom a v h = let e : a ≡ h.0 = h.3 ∙ ap (λ (x : List ℕ). h.0 ++ x) h.5.0 ∙ append-nil h.0 in (h.5.1, rw e h.4)
+  content-custom a v h =
+      let e : a ≡ h.0 = h.3 ∙ ap (λ (x : List ℕ). h.0 ++ x) h.5.0 ∙ append-nil h.0 in (h.5.1, rw e h.4)
 
 -- a section that isn't custom: what is read behind its id, and where a module has it
-pub record IsPlaced {A : Type 0} (k : SectionKind) (id : ℕ) (p : Phrase A) (none : A) (make : A → Section) (get : Parts → A) : Type 1 where
+pub record IsPlaced {A : Type 0} (k : SectionKind) (id : ℕ) (p : Phrase A) (none : A) (make : A → Section)
+    (get : Parts → A) : Type 1 where
   pub kind_is : kind_of id ≡ Some k
   pub content_is : content k ≡ (sized SectionSize p >>= λ v. gives (make v))
   pub numbered : (v : A) → number (make v) ≡ id
@@ -162,7 +176,8 @@ types-kept p _ ne = refl
 
 pub types-placed : IsPlaced kinds.Type 1 (vector func_type) [] (λ v. sections.Types v) (λ p. p.types)
 unfolding content
-types-placed = record { kind_is = refl; content_is = refl; numbered = λ v. refl; stands = λ v. refl; got = λ p v. refl; kept = types-kept }
+types-placed =
+    record { kind_is = refl; content_is = refl; numbered = λ v. refl; stands = λ v. refl; got = λ p v. refl; kept = types-kept }
 
 imports-kept : (p : Parts) (v : Section) → number v ≢ 2 → (put p v).imports ≡ p.imports
 imports-kept p (sections.Imports v) ne = absurd (ne refl)
@@ -170,7 +185,8 @@ imports-kept p _ ne = refl
 
 pub imports-placed : IsPlaced kinds.Import 2 (vector import) [] (λ v. sections.Imports v) (λ p. p.imports)
 unfolding content
-imports-placed = record { kind_is = refl; content_is = refl; numbered = λ v. refl; stands = λ v. refl; got = λ p v. refl; kept = imports-kept }
+imports-placed =
+    record { kind_is = refl; content_is = refl; numbered = λ v. refl; stands = λ v. refl; got = λ p v. refl; kept = imports-kept }
 
 func_types-kept : (p : Parts) (v : Section) → number v ≢ 3 → (put p v).func_types ≡ p.func_types
 func_types-kept p (sections.FuncTypes v) ne = absurd (ne refl)
@@ -178,7 +194,8 @@ func_types-kept p _ ne = refl
 
 pub func_types-placed : IsPlaced kinds.Function 3 (vector u32) [] (λ v. sections.FuncTypes v) (λ p. p.func_types)
 unfolding content
-func_types-placed = record { kind_is = refl; content_is = refl; numbered = λ v. refl; stands = λ v. refl; got = λ p v. refl; kept = func_types-kept }
+func_types-placed =
+    record { kind_is = refl; content_is = refl; numbered = λ v. refl; stands = λ v. refl; got = λ p v. refl; kept = func_types-kept }
 
 tables-kept : (p : Parts) (v : Section) → number v ≢ 4 → (put p v).tables ≡ p.tables
 tables-kept p (sections.Tables v) ne = absurd (ne refl)
@@ -186,7 +203,8 @@ tables-kept p _ ne = refl
 
 pub tables-placed : IsPlaced kinds.Table 4 (vector table_type) [] (λ v. sections.Tables v) (λ p. p.tables)
 unfolding content
-tables-placed = record { kind_is = refl; content_is = refl; numbered = λ v. refl; stands = λ v. refl; got = λ p v. refl; kept = tables-kept }
+tables-placed =
+    record { kind_is = refl; content_is = refl; numbered = λ v. refl; stands = λ v. refl; got = λ p v. refl; kept = tables-kept }
 
 mems-kept : (p : Parts) (v : Section) → number v ≢ 5 → (put p v).mems ≡ p.mems
 mems-kept p (sections.Mems v) ne = absurd (ne refl)
@@ -194,7 +212,8 @@ mems-kept p _ ne = refl
 
 pub mems-placed : IsPlaced kinds.Memory 5 (vector limits) [] (λ v. sections.Mems v) (λ p. p.mems)
 unfolding content
-mems-placed = record { kind_is = refl; content_is = refl; numbered = λ v. refl; stands = λ v. refl; got = λ p v. refl; kept = mems-kept }
+mems-placed =
+    record { kind_is = refl; content_is = refl; numbered = λ v. refl; stands = λ v. refl; got = λ p v. refl; kept = mems-kept }
 
 globals-kept : (p : Parts) (v : Section) → number v ≢ 6 → (put p v).globals ≡ p.globals
 globals-kept p (sections.Globals v) ne = absurd (ne refl)
@@ -202,7 +221,8 @@ globals-kept p _ ne = refl
 
 pub globals-placed : IsPlaced kinds.Global 6 (vector global) [] (λ v. sections.Globals v) (λ p. p.globals)
 unfolding content
-globals-placed = record { kind_is = refl; content_is = refl; numbered = λ v. refl; stands = λ v. refl; got = λ p v. refl; kept = globals-kept }
+globals-placed =
+    record { kind_is = refl; content_is = refl; numbered = λ v. refl; stands = λ v. refl; got = λ p v. refl; kept = globals-kept }
 
 exports-kept : (p : Parts) (v : Section) → number v ≢ 7 → (put p v).exports ≡ p.exports
 exports-kept p (sections.Exports v) ne = absurd (ne refl)
@@ -210,7 +230,8 @@ exports-kept p _ ne = refl
 
 pub exports-placed : IsPlaced kinds.Export 7 (vector export) [] (λ v. sections.Exports v) (λ p. p.exports)
 unfolding content
-exports-placed = record { kind_is = refl; content_is = refl; numbered = λ v. refl; stands = λ v. refl; got = λ p v. refl; kept = exports-kept }
+exports-placed =
+    record { kind_is = refl; content_is = refl; numbered = λ v. refl; stands = λ v. refl; got = λ p v. refl; kept = exports-kept }
 
 start-kept : (p : Parts) (v : Section) → number v ≢ 8 → (put p v).start ≡ p.start
 start-kept p (sections.Start v) ne = absurd (ne refl)
@@ -218,7 +239,8 @@ start-kept p _ ne = refl
 
 pub start-placed : IsPlaced kinds.Start 8 start None (λ v. sections.Start v) (λ p. p.start)
 unfolding content
-start-placed = record { kind_is = refl; content_is = refl; numbered = λ v. refl; stands = λ v. refl; got = λ p v. refl; kept = start-kept }
+start-placed =
+    record { kind_is = refl; content_is = refl; numbered = λ v. refl; stands = λ v. refl; got = λ p v. refl; kept = start-kept }
 
 elems-kept : (p : Parts) (v : Section) → number v ≢ 9 → (put p v).elems ≡ p.elems
 elems-kept p (sections.Elems v) ne = absurd (ne refl)
@@ -226,7 +248,8 @@ elems-kept p _ ne = refl
 
 pub elems-placed : IsPlaced kinds.Element 9 (vector elem_segment) [] (λ v. sections.Elems v) (λ p. p.elems)
 unfolding content
-elems-placed = record { kind_is = refl; content_is = refl; numbered = λ v. refl; stands = λ v. refl; got = λ p v. refl; kept = elems-kept }
+elems-placed =
+    record { kind_is = refl; content_is = refl; numbered = λ v. refl; stands = λ v. refl; got = λ p v. refl; kept = elems-kept }
 
 codes-kept : (p : Parts) (v : Section) → number v ≢ 10 → (put p v).codes ≡ p.codes
 codes-kept p (sections.Codes v) ne = absurd (ne refl)
@@ -234,7 +257,8 @@ codes-kept p _ ne = refl
 
 pub codes-placed : IsPlaced kinds.Code 10 (vector code) [] (λ v. sections.Codes v) (λ p. p.codes)
 unfolding content
-codes-placed = record { kind_is = refl; content_is = refl; numbered = λ v. refl; stands = λ v. refl; got = λ p v. refl; kept = codes-kept }
+codes-placed =
+    record { kind_is = refl; content_is = refl; numbered = λ v. refl; stands = λ v. refl; got = λ p v. refl; kept = codes-kept }
 
 datas-kept : (p : Parts) (v : Section) → number v ≢ 11 → (put p v).datas ≡ p.datas
 datas-kept p (sections.Datas v) ne = absurd (ne refl)
@@ -242,4 +266,5 @@ datas-kept p _ ne = refl
 
 pub datas-placed : IsPlaced kinds.Data 11 (vector data_segment) [] (λ v. sections.Datas v) (λ p. p.datas)
 unfolding content
-datas-placed = record { kind_is = refl; content_is = refl; numbered = λ v. refl; stands = λ v. refl; got = λ p v. refl; kept = datas-kept }
+datas-placed =
+    record { kind_is = refl; content_is = refl; numbered = λ v. refl; stands = λ v. refl; got = λ p v. refl; kept = datas-kept }

@@ -1,5 +1,6 @@
 -- A section in its place, and sections whose ids rise.
-use Rattle.std.proofs.Common.{◌≡◌, ◌≢◌, ℕ, zero, suc, max, ◌<◌, ◌≤◌, Bool, true, false, nat_eq, List, [], ◌∷◌, ◌++◌, Option, Some, None, ◌⊎◌, inl, inr, refl, sym, ap, subst, ◌∙◌, append_assoc, arith}
+use Rattle.std.proofs.Common.{◌≡◌, ◌≢◌, ℕ, zero, suc, max, ◌<◌, ◌≤◌, Bool, true, false, nat_eq, List, [], ◌∷◌, ◌++◌}
+use Rattle.std.proofs.Common.{Option, Some, None, ◌⊎◌, inl, inr, refl, sym, ap, subst, ◌∙◌, append_assoc, arith}
 use Rattle.std.proofs.lemmas.List.{append-nil}
 use Rattle.std.proofs.lemmas.Bool.{eqb-true, eqb-false, cases_lt}
 use Rattle.wc_binary.specs.declared.parts.Parts.{Parts}
@@ -13,7 +14,8 @@ use Rattle.wc_binary.specs.Phrase.{Phrase, SpellsBy}
 use Rattle.wc_binary.specs.Values.{sized}
 use Rattle.wc_binary.specs.Sections.{kind_of, content, number, put, Stands}
 use Rattle.wc_binary.specs.Module.{AreCustoms, Customs, IsSection, Then, AreSections, put_all}
-use Rattle.wc_binary.proofs.Places.{IsId, id-told, id-stands, made, content-number, custom-content, content-custom, IsPlaced}
+use Rattle.wc_binary.proofs.Places.{IsId, id-told, id-stands, made, content-number, custom-content, content-custom}
+use Rattle.wc_binary.proofs.Places.{IsPlaced}
 
 -- sections with ids above `last` lead from some parts to others
 abbrev pub Runs : Style → ℕ → List ℕ → Parts → Parts → Type 0
@@ -21,12 +23,14 @@ Runs s last b m n = (vs : List Section) × AreSections s last vs b × (put_all m
 
 module _ (s : Style) where
   -- custom sections in front leave everything as it is
-  pub behind-customs : (n last : ℕ) (b c : List ℕ) (m r : Parts) → AreCustoms s n b → Runs s last c m r → Runs s last (b ++ c) m r
+  pub behind-customs : (n last : ℕ) (b c : List ℕ) (m r : Parts) → AreCustoms s n b → Runs s last c m r
+      → Runs s last (b ++ c) m r
   behind-customs zero last b c m r h k = let e = h in rw e k
   behind-customs (suc n) last b c m r h k =
       let rest = behind-customs n last h.1 c m r h.5 k in
       let same : last ≡ max last 0 = omega arith in
-      let split : b ++ c ≡ 0 ∷ (h.0 ++ (h.1 ++ c)) = ap (λ (x : List ℕ). x ++ c) h.2 ∙ ap (λ (x : List ℕ). 0 ∷ x) (append_assoc h.0 h.1 c) in (
+      let split : b ++ c ≡ 0 ∷ (h.0 ++ (h.1 ++ c)) =
+      ap (λ (x : List ℕ). x ++ c) h.2 ∙ ap (λ (x : List ℕ). 0 ∷ x) (append_assoc h.0 h.1 c) in (
         sections.Custom ∷ rest.0,
         (
           0,
@@ -59,16 +63,22 @@ module _ (s : Style) where
         lower vs (max lo (number v)) (max hi (number v)) h.3 higher h.8,
       )
 
-module _ (s : Style) {A : Type 0} (k : SectionKind) (id : ℕ) (p : Phrase A) (none : A) (make : A → Section) (get : Parts → A) (is : IsPlaced k id p none make get) where
+module _ (s : Style) {A : Type 0} (k : SectionKind) (id : ℕ) (p : Phrase A) (none : A) (make : A → Section)
+    (get : Parts → A) (is : IsPlaced k id p none make get) where
   made-content : (a : List ℕ) (v : A) → SpellsBy s (sized SectionSize p) a v → SpellsBy s (content k) a (make v)
-  made-content a v h = subst (λ (q : Phrase Section). SpellsBy s q a (make v)) (sym is.content_is) (a, [], v, sym (append-nil a), h, (refl, refl))
+  made-content a v h =
+      subst (λ (q : Phrase Section). SpellsBy s q a (make v)) (sym is.content_is)
+      (a, [], v, sym (append-nil a), h, (refl, refl))
 
-  module _ (last : ℕ) (base n : Parts) (v : A) (Rest : List ℕ → Type 0) (lt : last < id) (empty : put base (make none) ≡ base) where
-    section-rises : (c d : List ℕ) → IsSection s id p none v c → Runs s id d (put base (make v)) n → Runs s last (c ++ d) base n
+  module _ (last : ℕ) (base n : Parts) (v : A) (Rest : List ℕ → Type 0) (lt : last < id)
+      (empty : put base (make none) ≡ base) where
+    section-rises : (c d : List ℕ) → IsSection s id p none v c → Runs s id d (put base (make v)) n
+        → Runs s last (c ++ d) base n
     section-rises c d (inl e) r =
         let nothing-here = e.0 in
         let same : put base (make v) ≡ base = ap (λ (x : A). put base (make x)) e.1 ∙ empty in
-        rw nothing-here (r.0, lower s r.0 last id d (omega arith) r.1, ap (λ (x : Parts). put_all x r.0) (sym same) ∙ r.2)
+        rw nothing-here
+        (r.0, lower s r.0 last id d (omega arith) r.1, ap (λ (x : Parts). put_all x r.0) (sym same) ∙ r.2)
     section-rises c d (inr e) r =
         let reaches : id ≡ max last (number (make v)) = omega (arith, is.numbered v) in (
           make v ∷ r.0,
@@ -86,7 +96,8 @@ module _ (s : Style) {A : Type 0} (k : SectionKind) (id : ℕ) (p : Phrase A) (n
           r.2,
         )
 
-    pub step-rises : ((d : List ℕ) → Rest d → Runs s id d (put base (make v)) n) → (b : List ℕ) → Then s id p none v Rest b → Runs s last b base n
+    pub step-rises : ((d : List ℕ) → Rest d → Runs s id d (put base (make v)) n) → (b : List ℕ)
+        → Then s id p none v Rest b → Runs s last b base n
     step-rises rest b h =
         let split = h.3 in
         rw split (behind-customs s h.4.0 last h.0 (h.1 ++ h.2) base n h.4.1 (section-rises h.1 h.2 h.5 (rest h.2 h.6)))
@@ -103,7 +114,8 @@ module _ (s : Style) {A : Type 0} (k : SectionKind) (id : ℕ) (p : Phrase A) (n
   abbrev some_kind : SectionKind → Option SectionKind
   some_kind j = Some j
 
-  module _ (last : ℕ) (lt : last < id) (v : Section) (vs : List Section) (b : List ℕ) (h : AreSections s last (v ∷ vs) b) where
+  module _ (last : ℕ) (lt : last < id) (v : Section) (vs : List Section) (b : List ℕ)
+      (h : AreSections s last (v ∷ vs) b) where
     first : IsId last h.0 h.1
     first = id-told last h.0 h.1 h.5
 
@@ -124,7 +136,8 @@ module _ (s : Style) {A : Type 0} (k : SectionKind) (id : ℕ) (p : Phrase A) (n
           | inr rest ↦
               let front : b ≡ 0 ∷ (h.2 ++ h.3) = h.4 ∙ ap (λ (x : ℕ). x ∷ (h.2 ++ h.3)) z in
               let split : b ≡ (0 ∷ (h.2 ++ rest.0)) ++ ((id ∷ rest.1) ++ rest.2) =
-              front ∙ ap (λ (x : List ℕ). 0 ∷ (h.2 ++ x)) rest.5 ∙ ap (λ (x : List ℕ). 0 ∷ x) (sym (append_assoc h.2 rest.0 ((id ∷ rest.1) ++ rest.2))) in
+              front ∙ ap (λ (x : List ℕ). 0 ∷ (h.2 ++ x)) rest.5
+              ∙ ap (λ (x : List ℕ). 0 ∷ x) (sym (append_assoc h.2 rest.0 ((id ∷ rest.1) ++ rest.2))) in
               inr (
                 0 ∷ (h.2 ++ rest.0),
                 rest.1,
@@ -145,7 +158,8 @@ module _ (s : Style) {A : Type 0} (k : SectionKind) (id : ℕ) (p : Phrase A) (n
         let e : some_kind k ≡ Some h.1 = sym is.kind_is ∙ ap kind_of (sym z) ∙ first.kind_is in
         let kind-is : h.1 ≡ k = cc in
         let of-kind : SpellsBy s (content k) h.2 v = rw kind-is at h.6 in
-        let t = made s (sized SectionSize p) make h.2 v (subst (λ (q : Phrase Section). SpellsBy s q h.2 v) is.content_is of-kind) in
+        let t = made s (sized SectionSize p) make h.2 v
+        (subst (λ (q : Phrase Section). SpellsBy s q h.2 v) is.content_is of-kind) in
         let v-is = t.1 in
         let neat : s.Neat (Stands (make t.0)) = rw v-is at h.7 in
         let same : max last (number v) ≡ id = omega (arith, number-is, z) in
@@ -170,9 +184,12 @@ module _ (s : Style) {A : Type 0} (k : SectionKind) (id : ℕ) (p : Phrase A) (n
 
     -- no section has an id between
     not-between : ((x : ℕ) → last < x → x < id → kind_of x ≡ None) → h.0 ≢ 0 → h.0 < id → ⊥
-    not-between gap ne less = let e = gap h.0 (first.rises ne) less ∙ refl in let f = first.kind_is in let g : some_kind h.1 ≡ None = sym f ∙ e in cc
+    not-between gap ne less =
+        let e = gap h.0 (first.rises ne) less ∙ refl in
+        let f = first.kind_is in let g : some_kind h.1 ≡ None = sym f ∙ e in cc
 
-  splits : (last : ℕ) → last < id → ((x : ℕ) → last < x → x < id → kind_of x ≡ None) → (vs : List Section) (b : List ℕ) → AreSections s last vs b → Splits vs b
+  splits : (last : ℕ) → last < id → ((x : ℕ) → last < x → x < id → kind_of x ≡ None) → (vs : List Section) (b : List ℕ)
+      → AreSections s last vs b → Splits vs b
   splits last lt gap [] b h = inl h
   splits last lt gap (v ∷ vs) b h = by_zero (nat_eq h.0 0) refl (λ c. splits last lt gap vs h.3 c)
     where
@@ -192,17 +209,21 @@ module _ (s : Style) {A : Type 0} (k : SectionKind) (id : ℕ) (p : Phrase A) (n
           ]
 
   -- sections above this id leave its place as it was
-  kept-all : 0 < id → (vs : List Section) (last : ℕ) (b : List ℕ) (m : Parts) → id ≤ last → AreSections s last vs b → get (put_all m vs) ≡ get m
+  kept-all : 0 < id → (vs : List Section) (last : ℕ) (b : List ℕ) (m : Parts) → id ≤ last → AreSections s last vs b
+      → get (put_all m vs) ≡ get m
   kept-all some [] last b m le h = refl
   kept-all some (v ∷ vs) last b m le h =
       let i = id-told last h.0 h.1 h.5 in
       let num : number v ≡ h.0 = content-number s h.1 h.2 v h.6 ∙ i.number_is in
-      let other : number v ≢ id = λ e. let up = i.rises (λ z. absurd (omega (arith, num, e, z))) in absurd (omega (arith, num, e)) in
+      let other : number v ≢ id = λ e. let up = i.rises (λ z. absurd (omega (arith, num, e, z)))
+      in absurd (omega (arith, num, e)) in
       kept-all some vs (max last (number v)) h.3 (put m v) (omega arith) h.8 ∙ is.kept m v other
 
-  pub step-bin : (last : ℕ) → 0 < id → last < id → ((x : ℕ) → last < x → x < id → kind_of x ≡ None) → (base n : Parts) → put base (make none) ≡ base → get base ≡ none
+  pub step-bin : (last : ℕ) → 0 < id → last < id → ((x : ℕ) → last < x → x < id → kind_of x ≡ None) → (base n : Parts)
+      → put base (make none) ≡ base → get base ≡ none
       → (vs : List Section) (b : List ℕ) → AreSections s last vs b → put_all base vs ≡ n → (Rest : List ℕ → Type 0)
-      → ((ws : List Section) (d : List ℕ) → AreSections s id ws d → put_all (put base (make (get n))) ws ≡ n → Rest d) → Then s id p none (get n) Rest b
+      → ((ws : List Section) (d : List ℕ) → AreSections s id ws d → put_all (put base (make (get n))) ws ≡ n → Rest d)
+      → Then s id p none (get n) Rest b
   step-bin last some lt gap base n empty clear vs b h e Rest rest =
       elim (splits last lt gap vs b h) [
         | inl r ↦
@@ -210,7 +231,8 @@ module _ (s : Style) {A : Type 0} (k : SectionKind) (id : ℕ) (p : Phrase A) (n
             let same : put base (make (get n)) ≡ base = ap (λ (x : A). put base (make x)) none-is ∙ empty in
             ([], [], b, refl, (0, refl), inl (refl, none-is), rest vs b r (ap (λ (x : Parts). put_all x vs) same ∙ e))
         | inr r ↦
-            let v-is : get n ≡ r.3 = ap get (sym e ∙ r.10 base) ∙ kept-all some r.4 id r.2 (put base (make r.3)) (omega arith) r.9 ∙ is.got base r.3 in
+            let v-is : get n ≡ r.3 = ap get (sym e ∙ r.10 base)
+            ∙ kept-all some r.4 id r.2 (put base (make r.3)) (omega arith) r.9 ∙ is.got base r.3 in
             let spelled = subst (λ (x : A). SpellsBy s (sized SectionSize p) r.1 x) (sym v-is) r.7 in
             let neat = subst (λ (x : A). s.Neat (x ≢ none)) (sym v-is) r.8 in
             (r.0, id ∷ r.1, r.2, r.5, r.6, inr (r.1, refl, spelled, neat), rest r.4 r.2 r.9 (ap (λ (x : A). put_all (put base (make x)) r.4) v-is ∙ sym (r.10 base) ∙ e))
@@ -220,7 +242,8 @@ abbrev some_kind_of : SectionKind → Option SectionKind
 some_kind_of j = Some j
 
 -- behind the last id stand custom sections alone
-pub only-customs : (s : Style) (last : ℕ) → ((x : ℕ) → last < x → kind_of x ≡ None) → (vs : List Section) (b : List ℕ) → AreSections s last vs b → Customs s b
+pub only-customs : (s : Style) (last : ℕ) → ((x : ℕ) → last < x → kind_of x ≡ None) → (vs : List Section) (b : List ℕ)
+    → AreSections s last vs b → Customs s b
 only-customs s last none [] b h = (0, h)
 only-customs s last none (v ∷ vs) b h = go (nat_eq h.0 0) refl (λ k. only-customs s last none vs h.3 k)
   where

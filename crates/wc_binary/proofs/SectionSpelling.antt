@@ -7,7 +7,8 @@ use Rattle.wc_binary.specs.Phrase.{Phrase}
 use Rattle.wc_binary.specs.Values.{u32, vector, sized}
 use Rattle.wc_binary.specs.Sections.{start}
 use Rattle.wc_binary.specs.Module.{AreCustoms, Customs, IsSection, Then}
-use Rattle.wc_binary.specs.Written.{vector_bytes, sized_bytes, section_bytes, start_bytes, Fits32, FitsVector, FitsSized, FitsSection, FitsStart}
+use Rattle.wc_binary.specs.Written.{vector_bytes, sized_bytes, section_bytes, start_bytes, Fits32, FitsVector}
+use Rattle.wc_binary.specs.Written.{FitsSized, FitsSection, FitsStart}
 use Rattle.wc_binary.proofs.Judging.{Judges, HasBytes}
 use Rattle.wc_binary.proofs.Spelling.{of, made-writes, u32-writes, sized-writes, vector-writes}
 
@@ -22,26 +23,33 @@ customs-told s V j b h = go h.0 b h.1
     go (suc n) b h = let split = h.2 in j.liberty ⊥ b [] h.4 (λ e. e) (rw split (omega arith))
 
 -- a section of a vector: an empty one that stands is a liberty
-module _ {A : Type 0} (id : ℕ) (p : Phrase A) (Fits : A → Type 0) (w : A → List ℕ) (writes : HasBytes (of p) Fits w) where
-  vector_writes : HasBytes (of (sized SectionSize (vector p))) (FitsSized (vector_bytes w) (FitsVector Fits)) (λ vs. sized_bytes (vector_bytes w vs))
+module _ {A : Type 0} (id : ℕ) (p : Phrase A) (Fits : A → Type 0) (w : A → List ℕ)
+    (writes : HasBytes (of p) Fits w) where
+  vector_writes : HasBytes (of (sized SectionSize (vector p))) (FitsSized (vector_bytes w) (FitsVector Fits))
+      (λ vs. sized_bytes (vector_bytes w vs))
   vector_writes = sized-writes (vector p) (FitsVector Fits) (vector_bytes w) (vector-writes p Fits w writes) SectionSize
 
   module _ (s : Style) (V : List ℕ → List ℕ → Type 0) (j : Judges s V) where
-    standing : (a : List ℕ) (vs : List A) → FitsSized (vector_bytes w) (FitsVector Fits) vs → V a (sized_bytes (vector_bytes w vs)) → s.Neat (vs ≢ [])
+    standing : (a : List ℕ) (vs : List A) → FitsSized (vector_bytes w) (FitsVector Fits) vs
+        → V a (sized_bytes (vector_bytes w vs)) → s.Neat (vs ≢ [])
         → FitsSection w Fits vs × V (id ∷ a) (section_bytes id w vs)
     standing a [] fits v neat = (tt, j.liberty (◌≢◌ {A = List A} [] []) (id ∷ a) [] neat (λ ne. ne refl) (omega arith))
-    standing a (x ∷ vs) fits v neat = (fits, j.join (id ∷ []) a (id ∷ []) (sized_bytes (vector_bytes w (x ∷ vs))) (j.same (id ∷ [])) v)
+    standing a (x ∷ vs) fits v neat =
+        (fits, j.join (id ∷ []) a (id ∷ []) (sized_bytes (vector_bytes w (x ∷ vs))) (j.same (id ∷ [])) v)
 
-    section-told : (b : List ℕ) (vs : List A) → IsSection s id (vector p) [] vs b → FitsSection w Fits vs × V b (section_bytes id w vs)
+    section-told : (b : List ℕ) (vs : List A) → IsSection s id (vector p) [] vs b
+        → FitsSection w Fits vs × V b (section_bytes id w vs)
     section-told b vs (inl h) = let empty = h.0 in let none = h.1 in rw (none, empty) (tt, j.same [])
     section-told b vs (inr h) =
         let t = vector_writes.told s V j h.0 vs h.2 in
         let split = h.1 in
         rw split (standing h.0 vs t.0 t.1 h.3)
 
-  section-written : (vs : List A) → FitsSection w Fits vs → IsSection canonical id (vector p) [] vs (section_bytes id w vs)
+  section-written : (vs : List A) → FitsSection w Fits vs
+      → IsSection canonical id (vector p) [] vs (section_bytes id w vs)
   section-written [] fits = inl (refl, refl)
-  section-written (v ∷ vs) fits = inr (sized_bytes (vector_bytes w (v ∷ vs)), refl, vector_writes.written (v ∷ vs) fits, λ e. absurd cc)
+  section-written (v ∷ vs) fits =
+      inr (sized_bytes (vector_bytes w (v ∷ vs)), refl, vector_writes.written (v ∷ vs) fits, λ e. absurd cc)
 
   pub section-writes : HasBytes (section id (vector p) []) (FitsSection w Fits) (section_bytes id w)
   section-writes = record { written = section-written; told = section-told }
@@ -60,16 +68,19 @@ index-back : (v : Option ℕ) → FitsIndex v → (n : ℕ) × (v ≡ Some n) ×
 index-back None h = absurd h
 index-back (Some n) h = (n, refl, h)
 
-start_writes : HasBytes (of (sized SectionSize start)) (FitsSized index_bytes FitsIndex) (λ v. sized_bytes (index_bytes v))
+start_writes : HasBytes (of (sized SectionSize start)) (FitsSized index_bytes FitsIndex)
+    (λ v. sized_bytes (index_bytes v))
 unfolding start
 start_writes =
     sized-writes start FitsIndex index_bytes
     (made-writes u32 Fits32 unsigned_bytes (λ n. Some n) FitsIndex index_bytes u32-writes (λ n f. f) (λ n. refl) index-back) SectionSize
 
 module _ (id : ℕ) (s : Style) (V : List ℕ → List ℕ → Type 0) (j : Judges s V) where
-  start-stands : (a : List ℕ) (v : Option ℕ) → FitsSized index_bytes FitsIndex v → V a (sized_bytes (index_bytes v)) → FitsStart v × V (id ∷ a) (start_bytes id v)
+  start-stands : (a : List ℕ) (v : Option ℕ) → FitsSized index_bytes FitsIndex v → V a (sized_bytes (index_bytes v))
+      → FitsStart v × V (id ∷ a) (start_bytes id v)
   start-stands a None fits v = absurd fits.1
-  start-stands a (Some index) fits v = (fits, j.join (id ∷ []) a (id ∷ []) (sized_bytes (unsigned_bytes index)) (j.same (id ∷ [])) v)
+  start-stands a (Some index) fits v =
+      (fits, j.join (id ∷ []) a (id ∷ []) (sized_bytes (unsigned_bytes index)) (j.same (id ∷ [])) v)
 
   start-told : (b : List ℕ) (v : Option ℕ) → IsSection s id start None v b → FitsStart v × V b (start_bytes id v)
   start-told b v (inl h) = let empty = h.0 in let none = h.1 in rw (none, empty) (tt, j.same [])
@@ -80,23 +91,28 @@ module _ (id : ℕ) (s : Style) (V : List ℕ → List ℕ → Type 0) (j : Judg
 
 start-written : (id : ℕ) (v : Option ℕ) → FitsStart v → IsSection canonical id start None v (start_bytes id v)
 start-written id None fits = inl (refl, refl)
-start-written id (Some index) fits = inr (sized_bytes (unsigned_bytes index), refl, start_writes.written (Some index) fits, λ e. absurd cc)
+start-written id (Some index) fits =
+    inr (sized_bytes (unsigned_bytes index), refl, start_writes.written (Some index) fits, λ e. absurd cc)
 
 pub start-writes : (id : ℕ) → HasBytes (section id start None) FitsStart (start_bytes id)
 start-writes id = record { written = start-written id; told = start-told id }
 
 -- ---- custom sections, a section, and what comes behind it
 
-module _ {A : Type 0} (id : ℕ) (p : Phrase A) (none : A) (Fits : A → Type 0) (w : A → List ℕ) (writes : HasBytes (section id p none) Fits w) (v : A) where
-  pub then-told : (s : Style) (V : List ℕ → List ℕ → Type 0) → Judges s V → (F : Type 0) (Rest : List ℕ → Type 0) (rest : List ℕ) → ((d : List ℕ) → Rest d → F × V d rest)
+module _ {A : Type 0} (id : ℕ) (p : Phrase A) (none : A) (Fits : A → Type 0) (w : A → List ℕ)
+    (writes : HasBytes (section id p none) Fits w) (v : A) where
+  pub then-told : (s : Style) (V : List ℕ → List ℕ → Type 0) → Judges s V
+      → (F : Type 0) (Rest : List ℕ → Type 0) (rest : List ℕ) → ((d : List ℕ) → Rest d → F × V d rest)
       → (b : List ℕ) → Then s id p none v Rest b → (Fits v × F) × V b (w v ++ rest)
   then-told s V j F Rest rest told b h =
       let sec = writes.told s V j h.1 v h.5 in
       let behind = told h.2 h.6 in
       let split = h.3 in (
         (sec.0, behind.0),
-        rw split (j.join h.0 (h.1 ++ h.2) [] (w v ++ rest) (customs-told s V j h.0 h.4) (j.join h.1 h.2 (w v) rest sec.1 behind.1)),
+        rw split
+            (j.join h.0 (h.1 ++ h.2) [] (w v ++ rest) (customs-told s V j h.0 h.4) (j.join h.1 h.2 (w v) rest sec.1 behind.1)),
       )
 
-  pub then-written : (Rest : List ℕ → Type 0) (rest : List ℕ) → Rest rest → Fits v → Then canonical id p none v Rest (w v ++ rest)
+  pub then-written : (Rest : List ℕ → Type 0) (rest : List ℕ) → Rest rest → Fits v
+      → Then canonical id p none v Rest (w v ++ rest)
   then-written Rest rest r fits = ([], w v, rest, refl, (0, refl), writes.written v fits, r)

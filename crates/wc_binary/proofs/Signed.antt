@@ -1,5 +1,6 @@
 -- Reading a signed integer.
-use Rattle.std.proofs.Common.{◌≡◌, ℕ, ◌+◌, ◌-◌, ◌^◌, ◌<◌, ◌≤◌, List, [], ◌∷◌, ◌++◌, length, Result, Ok, Err, ◌⊎◌, inl, inr, refl, sym, ap, ◌∙◌, add-zero, arith}
+use Rattle.std.proofs.Common.{◌≡◌, ℕ, ◌+◌, ◌-◌, ◌^◌, ◌<◌, ◌≤◌, List, [], ◌∷◌, ◌++◌, length, Result, Ok, Err, ◌⊎◌, inl}
+use Rattle.std.proofs.Common.{inr, refl, sym, ap, ◌∙◌, add-zero, arith}
 use Rattle.std.specs.Prelude.{ℤ, pos, ◌+ℤ◌, ◌-ℤ◌, ◌*ℤ◌}
 use Rattle.std.proofs.lemmas.Bool.{cases_lt, lt-ltb, le-ltb}
 use Rattle.wc_leb128.specs.Integers.{S, Begins, IsUnfinished}
@@ -28,22 +29,29 @@ module _ (N o b : ℕ) (x : List ℕ) where
   high_past : 64 ≤ b → b < 128 → b + 2 ^ (N - 1) < 128 → signed_at N o (b ∷ x) ≡ fault o Integer (o + 1)
   high_past le lt few = rw (le-ltb b 64 le, lt-ltb b 128 lt, lt-ltb (b + 2 ^ (N - 1)) 128 few) refl
 
-  on : 128 ≤ b → b < 256 → 7 < N → signed_at N o (b ∷ x) ≡ (signed_at (N - 7) (o + 1) x and_then λ m. got (more_of b m.value) m.place m.left)
-  on le lt more = let up : 64 ≤ b = omega arith in rw (le-ltb b 64 up, le-ltb b 128 le, lt-ltb b 256 lt, lt-ltb 7 N more) refl
+  on : 128 ≤ b → b < 256 → 7 < N
+      → signed_at N o (b ∷ x) ≡ (signed_at (N - 7) (o + 1) x and_then λ m. got (more_of b m.value) m.place m.left)
+  on le lt more =
+      let up : 64 ≤ b = omega arith in rw (le-ltb b 64 up, le-ltb b 128 le, lt-ltb b 256 lt, lt-ltb 7 N more) refl
 
   long : 128 ≤ b → b < 256 → N ≤ 7 → signed_at N o (b ∷ x) ≡ fault o Integer (o + 1)
-  long le lt few = let up : 64 ≤ b = omega arith in rw (le-ltb b 64 up, le-ltb b 128 le, lt-ltb b 256 lt, le-ltb 7 N few) refl
+  long le lt few =
+      let up : 64 ≤ b = omega arith in rw (le-ltb b 64 up, le-ltb b 128 le, lt-ltb b 256 lt, le-ltb 7 N few) refl
 
   wide : 256 ≤ b → signed_at N o (b ∷ x) ≡ fault o Integer (o + 1)
-  wide le = let up : 64 ≤ b = omega arith in let more : 128 ≤ b = omega arith in rw (le-ltb b 64 up, le-ltb b 128 more, le-ltb b 256 le) refl
+  wide le =
+      let up : 64 ≤ b = omega arith in
+      let more : 128 ≤ b = omega arith in rw (le-ltb b 64 up, le-ltb b 128 more, le-ltb b 256 le) refl
 
   -- a byte that no spelling has there
   barred : (Begins (S N) (b ∷ []) → ⊥) → StopsInteger (S N) o (b ∷ x) (halt o Integer (o + 1))
-  barred bars = ([], b ∷ x, refl, continues.nothing-unfinished N, inr (b, x, refl, bars, ap (λ (p : ℕ). halt p Integer (p + 1)) (sym (add-zero o))))
+  barred bars =
+      ([], b ∷ x, refl, continues.nothing-unfinished N, inr (b, x, refl, bars, ap (λ (p : ℕ). halt p Integer (p + 1)) (sym (add-zero o))))
 
   on-told : 128 ≤ b → b < 256 → 7 < N → (r : Result (Got ℤ) Halt) → IsTold (signed (N - 7)) (o + 1) x r
       → IsTold (signed N) o (b ∷ x) (r and_then λ m. got (more_of b m.value) m.place m.left)
-  on-told le lt more (Ok g) h = (b ∷ h.0, ap (λ (y : List ℕ). b ∷ y) h.1, inr (inr (le, lt, more, g.value, h.2, refl)), omega (arith, h.3))
+  on-told le lt more (Ok g) h =
+      (b ∷ h.0, ap (λ (y : List ℕ). b ∷ y) h.1, inr (inr (le, lt, more, g.value, h.2, refl)), omega (arith, h.3))
   on-told le lt more (Err f) h =
       let place : o + 1 + length h.0 ≡ o + length (b ∷ h.0) = omega arith in (
         b ∷ h.0,
@@ -61,19 +69,24 @@ abbrev Bars : ℕ → ℕ → Type 0
 Bars N b = Begins (S N) (b ∷ []) → ⊥
 
 bars-low : (N b : ℕ) → b < 64 → 2 ^ (N - 1) ≤ b → Bars N b
-bars-low N b lt le h = elim h.2 [ inl s ↦ omega (arith, s.1) | inr t ↦ elim t [ inl s ↦ omega (arith, s.0) | inr s ↦ omega (arith, s.0) ] ]
+bars-low N b lt le h =
+    elim h.2 [ inl s ↦ omega (arith, s.1) | inr t ↦ elim t [ inl s ↦ omega (arith, s.0) | inr s ↦ omega (arith, s.0) ] ]
 
 bars-high : (N b : ℕ) → 64 ≤ b → b < 128 → b + 2 ^ (N - 1) < 128 → Bars N b
-bars-high N b le lt few h = elim h.2 [ inl s ↦ omega (arith, s.0) | inr t ↦ elim t [ inl s ↦ omega (arith, s.2) | inr s ↦ omega (arith, s.0) ] ]
+bars-high N b le lt few h =
+    elim h.2 [ inl s ↦ omega (arith, s.0) | inr t ↦ elim t [ inl s ↦ omega (arith, s.2) | inr s ↦ omega (arith, s.0) ] ]
 
 bars-long : (N b : ℕ) → 128 ≤ b → N ≤ 7 → Bars N b
-bars-long N b le few h = elim h.2 [ inl s ↦ omega (arith, s.0) | inr t ↦ elim t [ inl s ↦ omega (arith, s.1) | inr s ↦ omega (arith, s.2) ] ]
+bars-long N b le few h =
+    elim h.2 [ inl s ↦ omega (arith, s.0) | inr t ↦ elim t [ inl s ↦ omega (arith, s.1) | inr s ↦ omega (arith, s.2) ] ]
 
 bars-wide : (N b : ℕ) → 256 ≤ b → Bars N b
-bars-wide N b le h = elim h.2 [ inl s ↦ omega (arith, s.0) | inr t ↦ elim t [ inl s ↦ omega (arith, s.1) | inr s ↦ omega (arith, s.1) ] ]
+bars-wide N b le h =
+    elim h.2 [ inl s ↦ omega (arith, s.0) | inr t ↦ elim t [ inl s ↦ omega (arith, s.1) | inr s ↦ omega (arith, s.1) ] ]
 
 pub signed-told : (N o : ℕ) (x : List ℕ) → IsTold (signed N) o x (signed_at N o x)
-signed-told N o [] = ([], [], refl, continues.nothing-unfinished N, inl (refl, ap (λ (p : ℕ). halt p End p) (sym (add-zero o))))
+signed-told N o [] =
+    ([], [], refl, continues.nothing-unfinished N, inl (refl, ap (λ (p : ℕ). halt p End p) (sym (add-zero o))))
 signed-told N o (b ∷ x) =
     let ih = signed-told (N - 7) (o + 1) x in
     elim (cases_lt b 64) [
@@ -117,7 +130,8 @@ stands-high : (N b : ℕ) → 64 ≤ b → b < 128 → 128 ≤ b + 2 ^ (N - 1) �
 stands-high N b le lt fits = ([], pos b -ℤ pos 128, inr (inl (le, lt, fits, refl, refl)))
 
 stands-more : (N b : ℕ) → 128 ≤ b → b < 256 → 7 < N → Begins (S N) (b ∷ [])
-stands-more N b le lt more = continues.tail-begins N b [] le lt more (unfinished-begins ℤ (S (N - 7)) [] (continues.nothing-unfinished (N - 7)))
+stands-more N b le lt more =
+    continues.tail-begins N b [] le lt more (unfinished-begins ℤ (S (N - 7)) [] (continues.nothing-unfinished (N - 7)))
 
 stops_here : (N o : ℕ) (b : ℕ) (z : List ℕ) → Bars N b → signed_at N o (b ∷ z) ≡ fault o Integer (o + 1)
 stops_here N o b z bars =
@@ -143,9 +157,12 @@ stops_here N o b z bars =
 
 -- what stands behind an unfinished spelling
 abbrev pub StopsBehind : ℕ → ℕ → List ℕ → List ℕ → Halt → Type 0
-StopsBehind N p a y f = ((y ≡ []) × (f ≡ halt p End p)) ⊎ ((b : ℕ) × (z : List ℕ) × (y ≡ b ∷ z) × (Begins (S N) (a ++ b ∷ []) → ⊥) × (f ≡ halt p Integer (p + 1)))
+StopsBehind N p a y f =
+    ((y ≡ []) × (f ≡ halt p End p)) ⊎
+    ((b : ℕ) × (z : List ℕ) × (y ≡ b ∷ z) × (Begins (S N) (a ++ b ∷ []) → ⊥) × (f ≡ halt p Integer (p + 1)))
 
-pub signed-stopped-at : (N o : ℕ) (a y : List ℕ) (f : Halt) → IsUnfinished (S N) a → StopsBehind N (o + length a) a y f → signed_at N o (a ++ y) ≡ Err f
+pub signed-stopped-at : (N o : ℕ) (a y : List ℕ) (f : Halt) → IsUnfinished (S N) a → StopsBehind N (o + length a) a y f
+    → signed_at N o (a ++ y) ≡ Err f
 signed-stopped-at N o [] y f h k =
     elim k [
       | inl s ↦ rw (s.0, s.1, add-zero) refl

@@ -1,5 +1,6 @@
 -- A signed integer in the making.
-use Rattle.std.proofs.Common.{◌≡◌, ℕ, ◌+◌, List, [], ◌∷◌, ◌++◌, length, Some, None, Result, Ok, Err, inl, inr, refl, sym, ap, ◌∙◌, append_assoc, arith}
+use Rattle.std.proofs.Common.{◌≡◌, ℕ, ◌+◌, List, [], ◌∷◌, ◌++◌, length, Some, None, Result, Ok, Err, inl, inr, refl}
+use Rattle.std.proofs.Common.{sym, ap, ◌∙◌, append_assoc, arith}
 use Rattle.std.specs.Prelude.{IsTrue, ℤ}
 use Rattle.std.proofs.lemmas.List.{length-append}
 use Rattle.wc_leb128.specs.Integers.{S, Begins, IsUnfinished}
@@ -21,7 +22,8 @@ pub record Held (a : List ℕ) (start first : ℕ) (old now : Input) (at byte : 
 pub held-first : (start first : ℕ) (old : Input) → old.place ≡ start + 1 → Held [] start first old old start first
 held-first start first old e = record { going = GoesOn-refl old; behind = e; bytes = λ k. (k, refl, omega arith) }
 
-module _ (N : ℕ) (a : List ℕ) (start first : ℕ) (old now : Input) (at byte : ℕ) (h : Held a start first old now at byte) where
+module _ (N : ℕ) (a : List ℕ) (start first : ℕ) (old now : Input) (at byte : ℕ)
+    (h : Held a start first old now at byte) where
   pub held-done : (v : ℤ) → S N (a ++ byte ∷ []) v → Gave old now (Ok v) (signed_at N start (first ∷ old.left))
   held-done v s = (
     h.going,

@@ -1,5 +1,6 @@
 -- Ways of building, and the canonical bytes of what they build.
-use Rattle.std.proofs.Common.{◌≡◌, ℕ, zero, suc, ◌^◌, ◌<◌, Bool, true, false, nat_eq, List, [], ◌∷◌, ◌++◌, length, Option, Some, None, Result, Ok, if◌then◌else◌, refl, sym, ap, subst, ◌∙◌, eq-eqb}
+use Rattle.std.proofs.Common.{◌≡◌, ℕ, zero, suc, ◌^◌, ◌<◌, Bool, true, false, nat_eq, List, [], ◌∷◌, ◌++◌, length}
+use Rattle.std.proofs.Common.{Option, Some, None, Result, Ok, if◌then◌else◌, refl, sym, ap, subst, ◌∙◌, eq-eqb}
 use Rattle.std.specs.List.{AllByRecursion, flat_map}
 use Rattle.std.proofs.lemmas.List.{append-nil}
 use Rattle.std.proofs.lemmas.Bool.{eqb-true}
@@ -20,7 +21,8 @@ abbrev pub of : {A : Type 0} → Phrase A → Style → List ℕ → A → Type 
 of {A} p s b v = SpellsBy s {A = A} p b v
 
 -- the same in other words
-pub writes-as : {A : Type 0} (R : Style → List ℕ → A → Type 0) (fit fit2 : A → Type 0) (w w2 : A → List ℕ) → HasBytes R fit w
+pub writes-as : {A : Type 0} (R : Style → List ℕ → A → Type 0) (fit fit2 : A → Type 0) (w w2 : A → List ℕ)
+    → HasBytes R fit w
     → ((v : A) → fit v → fit2 v) → ((v : A) → fit2 v → fit v) → ((v : A) → w v ≡ w2 v) → HasBytes R fit2 w2
 writes-as R fit fit2 w w2 h to back same = record {
   written = λ v f. subst (λ (b : List ℕ). R canonical b v) (same v) (h.written v (back v f));
@@ -47,11 +49,14 @@ gives-writes u = record {
 }
 
 -- a part, and one that may depend on its value, which the whole's value tells
-module _ {A B : Type 0} (p : Phrase A) (f : A → Phrase B) (fit : A → Type 0) (w : A → List ℕ) (fits : A → B → Type 0) (ws : A → B → List ℕ) (back : B → A)
-    (first : HasBytes (of p) fit w) (second : (u : A) → HasBytes (of (f u)) (fits u) (ws u)) (back-is : (s : Style) (u : A) (b : List ℕ) (v : B) → SpellsBy s (f u) b v → u ≡ back v) where
+module _ {A B : Type 0} (p : Phrase A) (f : A → Phrase B) (fit : A → Type 0) (w : A → List ℕ) (fits : A → B → Type 0)
+    (ws : A → B → List ℕ) (back : B → A)
+    (first : HasBytes (of p) fit w) (second : (u : A) → HasBytes (of (f u)) (fits u) (ws u))
+    (back-is : (s : Style) (u : A) (b : List ℕ) (v : B) → SpellsBy s (f u) b v → u ≡ back v) where
   pub then-writes : HasBytes (of (p >>= f)) (λ v. fit (back v) × fits (back v) v) (λ v. w (back v) ++ ws (back v) v)
   then-writes = record {
-    written = λ v h. (w (back v), ws (back v) v, back v, refl, first.written (back v) h.0, (second (back v)).written v h.1);
+    written =
+        λ v h. (w (back v), ws (back v) v, back v, refl, first.written (back v) h.0, (second (back v)).written v h.1);
     told = λ s V j b v h.
         let e = back-is s h.2 h.1 v h.5 in
         let x = first.told s V j h.0 h.2 h.4 in
@@ -63,7 +68,8 @@ module _ {A B : Type 0} (p : Phrase A) (f : A → Phrase B) (fit : A → Type 0)
 
 module _ {A : Type 0} (p : Phrase A) (fit : A → Type 0) (w : A → List ℕ) (writes : HasBytes (of p) fit w) where
   -- a part, and another way to see its value
-  pub seen-writes : {B : Type 0} (make : A → B) (back : B → A) → ((u : A) → back (make u) ≡ u) → HasBytes (of (p >>= λ u. gives (make u))) (λ v. fit (back v) × (v ≡ make (back v))) (λ v. w (back v))
+  pub seen-writes : {B : Type 0} (make : A → B) (back : B → A) → ((u : A) → back (make u) ≡ u)
+      → HasBytes (of (p >>= λ u. gives (make u))) (λ v. fit (back v) × (v ≡ make (back v))) (λ v. w (back v))
   seen-writes {B} make back same = record {
     written = λ v h. (w (back v), [], back v, sym (append-nil (w (back v))), writes.written (back v) h.0, (refl, h.1));
     told = λ s V j b v h.
@@ -76,9 +82,11 @@ module _ {A : Type 0} (p : Phrase A) (fit : A → Type 0) (w : A → List ℕ) (
 
   times-written : (vs : List A) → AllByRecursion fit vs → SpellsBy canonical (times (length vs) p) (flat_map w vs) vs
   times-written [] h = (refl, refl)
-  times-written (v ∷ vs) h = (w v, flat_map w vs, v, refl, writes.written v h.0, (flat_map w vs, [], vs, sym (append-nil (flat_map w vs)), times-written vs h.1, (refl, refl)))
+  times-written (v ∷ vs) h =
+      (w v, flat_map w vs, v, refl, writes.written v h.0, (flat_map w vs, [], vs, sym (append-nil (flat_map w vs)), times-written vs h.1, (refl, refl)))
 
-  times-told : (s : Style) (V : List ℕ → List ℕ → Type 0) → Judges s V → (n : ℕ) (b : List ℕ) (vs : List A) → SpellsBy s (times n p) b vs → (n ≡ length vs) × AllByRecursion fit vs × V b (flat_map w vs)
+  times-told : (s : Style) (V : List ℕ → List ℕ → Type 0) → Judges s V → (n : ℕ) (b : List ℕ) (vs : List A)
+      → SpellsBy s (times n p) b vs → (n ≡ length vs) × AllByRecursion fit vs × V b (flat_map w vs)
   times-told s V j zero b vs h = let e = h.1 in rw (e, h.0) (refl, tt, j.same [])
   times-told s V j (suc n) b vs h =
       let first = writes.told s V j h.0 h.2 h.4 in
@@ -91,7 +99,9 @@ module _ {A : Type 0} (p : Phrase A) (fit : A → Type 0) (w : A → List ℕ) (
   pub vector-writes : HasBytes (of (vector p)) (FitsVector fit) (vector_bytes w)
   unfolding vector
   vector-writes = record {
-    written = λ vs h. (unsigned_bytes (length vs), flat_map w vs, length vs, refl, u32-writes.written (length vs) h.0, times-written vs h.1);
+    written =
+        λ vs h.
+        (unsigned_bytes (length vs), flat_map w vs, length vs, refl, u32-writes.written (length vs) h.0, times-written vs h.1);
     told = λ s V j b vs h.
         let n = u32-writes.told s V j h.0 h.2 h.4 in
         let t = times-told s V j h.2 h.1 vs h.5 in
@@ -111,13 +121,15 @@ equal-sizes m n why h = go (nat_eq m n) refl
     go false e = let f = rw e at h in absurd cc
 
 -- a size, and content of that size
-module _ {A : Type 0} (p : Phrase A) (fit : A → Type 0) (w : A → List ℕ) (writes : HasBytes (of p) fit w) (why : BinWhy) where
+module _ {A : Type 0} (p : Phrase A) (fit : A → Type 0) (w : A → List ℕ) (writes : HasBytes (of p) fit w)
+    (why : BinWhy) where
   pub sized-writes : HasBytes (of (sized why p)) (FitsSized w fit) (λ v. sized_bytes (w v))
   unfolding sized u32
   sized-writes = record {
     written = λ v h.
         let b = w v in
-        let size : (if nat_eq (length b) (length b) then None else Some (0, why)) ≡ no_fault = rw (eq-eqb (length b) (length b) refl) refl in (
+        let size : (if nat_eq (length b) (length b) then None else Some (0, why)) ≡ no_fault =
+        rw (eq-eqb (length b) (length b) refl) refl in (
           unsigned_bytes (length b) ++ b,
           [],
           (length b, (length b, v)),
@@ -134,7 +146,8 @@ module _ {A : Type 0} (p : Phrase A) (fit : A → Type 0) (w : A → List ℕ) (
         let u-is : h.2 ≡ (inner.2, k.2) = k.5.1 in
         let m-is : k.2 ≡ (length k.0, m.0) = m.2 in
         let value : v ≡ m.0 = h.5.1 ∙ ap (λ (u : ℕ × (ℕ × A)). u.1.1) u-is ∙ ap (λ (u : ℕ × A). u.1) m-is in
-        let n-is : inner.2 ≡ length k.0 = sym (ap (λ (u : ℕ × (ℕ × A)). u.0) u-is) ∙ sym size ∙ ap (λ (u : ℕ × (ℕ × A)). u.1.0) u-is ∙ ap (λ (u : ℕ × A). u.0) m-is in
+        let n-is : inner.2 ≡ length k.0 = sym (ap (λ (u : ℕ × (ℕ × A)). u.0) u-is) ∙ sym size
+        ∙ ap (λ (u : ℕ × (ℕ × A)). u.1.0) u-is ∙ ap (λ (u : ℕ × A). u.0) m-is in
         let z = j.size inner.0 k.0 (w m.0) (rw n-is at inner.4) c.1 in
         let whole : b ≡ inner.0 ++ k.0 = rw (h.3, h.5.0, append-nil, inner.3, k.3, k.5.0, append-nil) refl in
         rw (value, whole) ((z.0, c.0), z.1);
@@ -154,7 +167,8 @@ only-writes x why = record {
 }
 
 -- one byte of a table
-pub byte-writes : {A : Type 0} (table : ℕ → Result A BinWhy) (w : A → List ℕ) → ((v : A) → SpellsBy canonical (byte table) (w v) v) → ((x : ℕ) (v : A) → table x ≡ Ok v → x ∷ [] ≡ w v)
+pub byte-writes : {A : Type 0} (table : ℕ → Result A BinWhy) (w : A → List ℕ)
+    → ((v : A) → SpellsBy canonical (byte table) (w v) v) → ((x : ℕ) (v : A) → table x ≡ Ok v → x ∷ [] ≡ w v)
     → HasBytes (of (byte table)) Anything w
 byte-writes table w there back = record {
   written = λ v h. there v;
@@ -162,7 +176,8 @@ byte-writes table w there back = record {
 }
 
 -- a part, and the value that is made of it
-module _ {A B : Type 0} (p : Phrase A) (fit : A → Type 0) (w : A → List ℕ) (make : A → B) (Fits : B → Type 0) (bytes : B → List ℕ) (writes : HasBytes (of p) fit w) (fits : (u : A) → fit u → Fits (make u))
+module _ {A B : Type 0} (p : Phrase A) (fit : A → Type 0) (w : A → List ℕ) (make : A → B) (Fits : B → Type 0)
+    (bytes : B → List ℕ) (writes : HasBytes (of p) fit w) (fits : (u : A) → fit u → Fits (make u))
     (same : (u : A) → bytes (make u) ≡ w u) (back : (v : B) → Fits v → (u : A) × (v ≡ make u) × fit u) where
   pub made-writes : HasBytes (of (p >>= λ u. gives (make u))) Fits bytes
   made-writes = record {

@@ -1,5 +1,6 @@
 -- Each input is a module or stops.
-use Rattle.std.proofs.Common.{◌≡◌, ◌≢◌, Bool, true, false, nat_eq, ℕ, zero, suc, ◌+◌, ◌<◌, List, [], ◌∷◌, ◌++◌, length, Result, Ok, Err, ◌⊎◌, inl, inr, refl, sym, ap, subst, ◌∙◌, append_assoc, add-zero, arith}
+use Rattle.std.proofs.Common.{◌≡◌, ◌≢◌, Bool, true, false, nat_eq, ℕ, zero, suc, ◌+◌, ◌<◌, List, [], ◌∷◌, ◌++◌, length}
+use Rattle.std.proofs.Common.{Result, Ok, Err, ◌⊎◌, inl, inr, refl, sym, ap, subst, ◌∙◌, append_assoc, add-zero, arith}
 use Rattle.std.proofs.lemmas.List.{length-append}
 use Rattle.std.proofs.lemmas.Bool.{eqb-true, eqb-false}
 use Rattle.wc_binary.specs.declared.fault.BinWhy.{BinWhy}
@@ -21,7 +22,8 @@ abbrev Judged : ℕ → ℕ → List ℕ → Type 0
 Judged last o x = ((ss : List Section) × AreSections free last ss x) ⊎ ((f : Halt) × StopsSections last o x f)
 
 module _ (last o b : ℕ) (id : SectionKind) (x : List ℕ) (i : id_of last b ≡ Ok id) where
-  behind : (g : Got Section) → IsTold (content id) (o + 1) x (Ok g) → Judged (after last g.value) g.place g.left → Judged last o (b ∷ x)
+  behind : (g : Got Section) → IsTold (content id) (o + 1) x (Ok g) → Judged (after last g.value) g.place g.left
+      → Judged last o (b ∷ x)
   behind g h (inl k) = inl (g.value ∷ k.0, (b, id, h.0, g.left, ap (λ (z : List ℕ). b ∷ z) h.1, i, h.2, tt, k.1))
   behind g h (inr k) =
       let s = k.1 in
@@ -39,7 +41,9 @@ module _ (last o b : ℕ) (id : SectionKind) (x : List ℕ) (i : id_of last b �
         ),
       )
 
-  section-judged : (r : Result (Got Section) Halt) → IsTold (content id) (o + 1) x r → ((g : Got Section) → length g.left < length (b ∷ x) → Judged (after last g.value) g.place g.left) → Judged last o (b ∷ x)
+  section-judged : (r : Result (Got Section) Halt) → IsTold (content id) (o + 1) x r
+      → ((g : Got Section) → length g.left < length (b ∷ x) → Judged (after last g.value) g.place g.left)
+      → Judged last o (b ∷ x)
   section-judged (Ok g) h k = behind g h (k g (omega (arith, ap length h.1, length-append h.0 g.left)))
   section-judged (Err f) h k =
       let place : o + 1 ≡ o + 0 + 1 = omega arith in
@@ -50,9 +54,14 @@ sections-judged zero last o x lt = absurd (omega arith)
 sections-judged (suc n) last o [] lt = inl ([], refl)
 sections-judged (suc n) last o (b ∷ x) lt = go (id_of last b) refl (λ v p y l. sections-judged n (after last v) p y l)
   where
-    go : (r : Result SectionKind BinWhy) → id_of last b ≡ r → ((v : Section) (p : ℕ) (y : List ℕ) → length y < n → Judged (after last v) p y) → Judged last o (b ∷ x)
-    go (Err r) e ih = inr (halt o r (o + 1), ([], [], x, b, refl, refl, inl (r, e, ap (λ (q : ℕ). halt q r (q + 1)) (sym (add-zero o)))))
-    go (Ok id) e ih = section-judged last o b id x e (read (content id) (o + 1) x) (read-told {A = Section} (content id) (o + 1) x) (λ g l. ih g.value g.place g.left (omega arith))
+    go : (r : Result SectionKind BinWhy) → id_of last b ≡ r
+        → ((v : Section) (p : ℕ) (y : List ℕ) → length y < n → Judged (after last v) p y) → Judged last o (b ∷ x)
+    go (Err r) e ih =
+        inr
+        (halt o r (o + 1), ([], [], x, b, refl, refl, inl (r, e, ap (λ (q : ℕ). halt q r (q + 1)) (sym (add-zero o)))))
+    go (Ok id) e ih =
+        section-judged last o b id x e (read (content id) (o + 1) x) (read-told {A = Section} (content id) (o + 1) x)
+        (λ g l. ih g.value g.place g.left (omega arith))
 
 nat-cases : (m n : ℕ) → (m ≡ n) ⊎ (m ≢ n)
 nat-cases m n = go (nat_eq m n) refl
@@ -64,7 +73,8 @@ nat-cases m n = go (nat_eq m n) refl
 rises-judged : (x : List ℕ) → ((m : Module) × RisesBy free x m) ⊎ ((f : Halt) × StopB x f)
 rises-judged x = go (read preamble 0 x) (read-told {A = Unit {0}} preamble 0 x)
   where
-    go : (r : Result (Got (Unit {0})) Halt) → IsTold preamble 0 x r → ((m : Module) × RisesBy free x m) ⊎ ((f : Halt) × StopB x f)
+    go : (r : Result (Got (Unit {0})) Halt) → IsTold preamble 0 x r
+        → ((m : Module) × RisesBy free x m) ⊎ ((f : Halt) × StopB x f)
     go (Err f) h = inr (f, inl h)
     go (Ok g) h =
         elim (sections-judged (suc (length g.left)) 0 (length h.0) g.left (omega arith)) [

@@ -1,5 +1,6 @@
 -- The canonical bytes of types.
-use Rattle.std.proofs.Common.{◌≡◌, ℕ, Bool, true, false, nat_eq, List, [], ◌∷◌, ◌++◌, Option, Some, None, Result, Ok, refl, sym, ap}
+use Rattle.std.proofs.Common.{◌≡◌, ℕ, Bool, true, false, nat_eq, List, [], ◌∷◌, ◌++◌, Option, Some, None, Result, Ok}
+use Rattle.std.proofs.Common.{refl, sym, ap}
 use Rattle.std.specs.Option.{is_some}
 use Rattle.std.proofs.lemmas.Bool.{eqb-true}
 use Rattle.wc_leb128.specs.Shortest.{unsigned_bytes}
@@ -13,10 +14,14 @@ use Rattle.wc_binary.specs.declared.fault.BinWhy.TheVariants.{WrongType}
 use Rattle.wc_binary.specs.Style.{Style, canonical}
 use Rattle.wc_binary.specs.Phrase.{gives, byte, ◌>>=◌, SpellsBy}
 use Rattle.wc_binary.specs.Values.{u32, vector, only}
-use Rattle.wc_binary.specs.Types.{value_type, value_type_of, func_type, flag, flag_of, maximum, limits, table_type, global_type}
-use Rattle.wc_binary.specs.Written.{vector_bytes, value_type_bytes, func_type_bytes, flag_bytes, maximum_bytes, limits_bytes, table_type_bytes, global_type_bytes, Fits32, FitsVector, FitsFuncType, FitsMaximum, FitsLimits, Anything}
+use Rattle.wc_binary.specs.Types.{value_type, value_type_of, func_type, flag, flag_of, maximum, limits, table_type}
+use Rattle.wc_binary.specs.Types.{global_type}
+use Rattle.wc_binary.specs.Written.{vector_bytes, value_type_bytes, func_type_bytes, flag_bytes, maximum_bytes}
+use Rattle.wc_binary.specs.Written.{limits_bytes, table_type_bytes, global_type_bytes, Fits32, FitsVector, FitsFuncType}
+use Rattle.wc_binary.specs.Written.{FitsMaximum, FitsLimits, Anything}
 use Rattle.wc_binary.proofs.Judging.{HasBytes}
-use Rattle.wc_binary.proofs.Spelling.{of, writes-as, u32-writes, byte-writes, only-writes, then-writes, seen-writes, made-writes, vector-writes}
+use Rattle.wc_binary.proofs.Spelling.{of, writes-as, u32-writes, byte-writes, only-writes, then-writes, seen-writes}
+use Rattle.wc_binary.proofs.Spelling.{made-writes, vector-writes}
 
 abbrev ok_type : ValType → Result ValType BinWhy
 ok_type v = Ok v
@@ -24,16 +29,22 @@ ok_type v = Ok v
 value_type-only : (x : ℕ) (v : ValType) → value_type_of x ≡ Ok v → x ∷ [] ≡ value_type_bytes v
 value_type-only x v h = go (nat_eq x 0x7F) (nat_eq x 0x7E) (nat_eq x 0x7D) (nat_eq x 0x7C) refl refl refl refl
   where
-    go : (a b c d : Bool) → nat_eq x 0x7F ≡ a → nat_eq x 0x7E ≡ b → nat_eq x 0x7D ≡ c → nat_eq x 0x7C ≡ d → x ∷ [] ≡ value_type_bytes v
-    go true b c d p q r s = let e : ok_type I32 ≡ Ok v = rw p at h in let f : I32 ≡ v = cc in rw (← f) (ap (λ (y : ℕ). y ∷ []) (eqb-true x 0x7F p))
-    go false true c d p q r s = let e : ok_type I64 ≡ Ok v = rw (p, q) at h in let f : I64 ≡ v = cc in rw (← f) (ap (λ (y : ℕ). y ∷ []) (eqb-true x 0x7E q))
+    go : (a b c d : Bool) → nat_eq x 0x7F ≡ a → nat_eq x 0x7E ≡ b → nat_eq x 0x7D ≡ c → nat_eq x 0x7C ≡ d
+        → x ∷ [] ≡ value_type_bytes v
+    go true b c d p q r s =
+        let e : ok_type I32 ≡ Ok v = rw p at h in
+        let f : I32 ≡ v = cc in rw (← f) (ap (λ (y : ℕ). y ∷ []) (eqb-true x 0x7F p))
+    go false true c d p q r s =
+        let e : ok_type I64 ≡ Ok v = rw (p, q) at h in
+        let f : I64 ≡ v = cc in rw (← f) (ap (λ (y : ℕ). y ∷ []) (eqb-true x 0x7E q))
     go false false true d p q r s = let e = rw (p, q, r) at h in absurd cc
     go false false false true p q r s = let e = rw (p, q, r, s) at h in absurd cc
     go false false false false p q r s = let e = rw (p, q, r, s) at h in absurd cc
 
 pub value_type-writes : HasBytes (of value_type) Anything value_type_bytes
 unfolding value_type
-value_type-writes = byte-writes value_type_of value_type_bytes (elim [ I32 ↦ (0x7F, refl, refl) | I64 ↦ (0x7E, refl, refl) ]) value_type-only
+value_type-writes =
+    byte-writes value_type_of value_type_bytes (elim [ I32 ↦ (0x7F, refl, refl) | I64 ↦ (0x7E, refl, refl) ]) value_type-only
 
 pub types-writes : HasBytes (of (vector value_type)) (FitsVector Anything) (vector_bytes value_type_bytes)
 types-writes = vector-writes value_type Anything value_type_bytes value_type-writes
@@ -41,7 +52,9 @@ types-writes = vector-writes value_type Anything value_type_bytes value_type-wri
 -- ---- function types
 
 abbrev func_type_fits : FuncType → Type 0
-func_type_fits s = Unit {0} × (FitsVector Anything s.params × (FitsVector Anything s.results × (s ≡ record { params = s.params; results = s.results })))
+func_type_fits s =
+    Unit {0} ×
+    (FitsVector Anything s.params × (FitsVector Anything s.results × (s ≡ record { params = s.params; results = s.results })))
 
 pub func_type-writes : HasBytes (of func_type) FitsFuncType func_type_bytes
 unfolding func_type
@@ -73,8 +86,12 @@ flag-only : (x : ℕ) (v : Bool) → flag_of x ≡ Ok v → x ∷ [] ≡ flag_by
 flag-only x v h = go (nat_eq x 0) (nat_eq x 1) refl refl
   where
     go : (a b : Bool) → nat_eq x 0 ≡ a → nat_eq x 1 ≡ b → x ∷ [] ≡ flag_bytes v
-    go true b p q = let e : ok_flag false ≡ Ok v = rw p at h in let f : false ≡ v = cc in rw (← f) (ap (λ (y : ℕ). y ∷ []) (eqb-true x 0 p))
-    go false true p q = let e : ok_flag true ≡ Ok v = rw (p, q) at h in let f : true ≡ v = cc in rw (← f) (ap (λ (y : ℕ). y ∷ []) (eqb-true x 1 q))
+    go true b p q =
+        let e : ok_flag false ≡ Ok v = rw p at h in
+        let f : false ≡ v = cc in rw (← f) (ap (λ (y : ℕ). y ∷ []) (eqb-true x 0 p))
+    go false true p q =
+        let e : ok_flag true ≡ Ok v = rw (p, q) at h in
+        let f : true ≡ v = cc in rw (← f) (ap (λ (y : ℕ). y ∷ []) (eqb-true x 1 q))
     go false false p q = let e = rw (p, q) at h in absurd cc
 
 pub flag-writes : HasBytes (of flag) Anything flag_bytes
@@ -97,10 +114,13 @@ maximum-writes false = record {
   written = no-maximum;
   told = λ s V j b v h. let is = h.1 in rw is ((refl, tt), j.equal b [] h.0);
 }
-maximum-writes true = made-writes u32 Fits32 unsigned_bytes (λ n. Some n) (FitsBehind true) maximum_bytes u32-writes (λ n f. (refl, f)) (λ n. refl) some-back
+maximum-writes true =
+    made-writes u32 Fits32 unsigned_bytes (λ n. Some n) (FitsBehind true) maximum_bytes u32-writes (λ n f. (refl, f))
+    (λ n. refl) some-back
 
 abbrev limits_fits : Limits → Type 0
-limits_fits l = Unit {0} × (Fits32 l.min × (FitsBehind (is_some l.max) l.max × (l ≡ record { min = l.min; max = l.max })))
+limits_fits l =
+    Unit {0} × (Fits32 l.min × (FitsBehind (is_some l.max) l.max × (l ≡ record { min = l.min; max = l.max })))
 
 pub limits-writes : HasBytes (of limits) FitsLimits limits_bytes
 unfolding limits
@@ -127,7 +147,9 @@ limits-writes =
     maximum-is s false b v h = let is = h.1 in rw is refl
     maximum-is s true b v h = let is : v ≡ Some h.2 = h.5.1 in rw is refl
 
-    flag-is : (s : Style) (m : Bool) (b : List ℕ) (v : Limits) → SpellsBy s (u32 >>= λ min. maximum m >>= λ max. gives (record { min = min; max = max })) b v → m ≡ is_some v.max
+    flag-is : (s : Style) (m : Bool) (b : List ℕ) (v : Limits)
+        → SpellsBy s (u32 >>= λ min. maximum m >>= λ max. gives (record { min = min; max = max })) b v
+        → m ≡ is_some v.max
     flag-is s m b v h =
         let k = h.5 in
         let max-is : v.max ≡ k.2 = ap (λ (x : Limits). x.max) k.5.1 in
@@ -144,7 +166,9 @@ table_type-writes =
 pub global_type-writes : HasBytes (of global_type) Anything global_type_bytes
 unfolding global_type
 global_type-writes =
-    writes-as (of global_type) (λ g. Unit {0} × (Unit {0} × (g ≡ record { ty = g.ty; mutable = g.mutable }))) Anything global_type_bytes global_type_bytes
+    writes-as (of global_type)
+    (λ g. Unit {0} × (Unit {0} × (g ≡ record { ty = g.ty; mutable = g.mutable }))) Anything global_type_bytes
+    global_type_bytes
     (then-writes value_type (λ t. flag >>= λ m. gives (record { ty = t; mutable = m }))
     Anything value_type_bytes
     (λ t g. Unit {0} × (g ≡ record { ty = t; mutable = g.mutable }))

@@ -1,5 +1,6 @@
 -- Reading an integer.
-use Rattle.std.proofs.Common.{◌≡◌, ℕ, ◌+◌, ◌-◌, ◌*◌, ◌^◌, ◌<◌, ◌≤◌, List, [], ◌∷◌, ◌++◌, length, Result, Ok, Err, ◌⊎◌, inl, inr, refl, sym, ap, ◌∙◌, add-zero, arith}
+use Rattle.std.proofs.Common.{◌≡◌, ℕ, ◌+◌, ◌-◌, ◌*◌, ◌^◌, ◌<◌, ◌≤◌, List, [], ◌∷◌, ◌++◌, length, Result, Ok, Err, ◌⊎◌}
+use Rattle.std.proofs.Common.{inl, inr, refl, sym, ap, ◌∙◌, add-zero, arith}
 use Rattle.std.proofs.lemmas.Bool.{cases_lt, lt-ltb, le-ltb}
 use Rattle.wc_leb128.specs.Integers.{U, Begins, IsUnfinished}
 use Rattle.wc_leb128.proofs.Exact.{unfinished-begins}
@@ -30,7 +31,9 @@ module _ (N o b : ℕ) (x : List ℕ) where
   pub past : b < 128 → 2 ^ N ≤ b → unsigned_at N o (b ∷ x) ≡ fault o Integer (o + 1)
   past lt le = rw (lt-ltb b 128 lt, le-ltb b (2 ^ N) le) refl
 
-  pub on : 128 ≤ b → b < 256 → 7 < N → unsigned_at N o (b ∷ x) ≡ (unsigned_at (N - 7) (o + 1) x and_then λ m. got (128 * m.value + (b - 128)) m.place m.left)
+  pub on : 128 ≤ b → b < 256 → 7 < N
+      → unsigned_at N o (b ∷ x) ≡
+      (unsigned_at (N - 7) (o + 1) x and_then λ m. got (128 * m.value + (b - 128)) m.place m.left)
   on le lt more = rw (le-ltb b 128 le, lt-ltb b 256 lt, lt-ltb 7 N more) refl
 
   pub long : 128 ≤ b → b < 256 → N ≤ 7 → unsigned_at N o (b ∷ x) ≡ fault o Integer (o + 1)
@@ -41,7 +44,8 @@ module _ (N o b : ℕ) (x : List ℕ) where
 
   on-told : 128 ≤ b → b < 256 → 7 < N → (r : Result (Got ℕ) Halt) → IsTold (unsigned (N - 7)) (o + 1) x r
       → IsTold (unsigned N) o (b ∷ x) (r and_then λ m. got (128 * m.value + (b - 128)) m.place m.left)
-  on-told le lt more (Ok g) h = (b ∷ h.0, ap (λ (y : List ℕ). b ∷ y) h.1, inr (le, lt, more, g.value, h.2, refl), omega (arith, h.3))
+  on-told le lt more (Ok g) h =
+      (b ∷ h.0, ap (λ (y : List ℕ). b ∷ y) h.1, inr (le, lt, more, g.value, h.2, refl), omega (arith, h.3))
   on-told le lt more (Err f) h =
       let place : o + 1 + length h.0 ≡ o + length (b ∷ h.0) = omega arith in (
         b ∷ h.0,
@@ -55,7 +59,8 @@ module _ (N o b : ℕ) (x : List ℕ) where
       )
 
 pub unsigned-told : (N o : ℕ) (x : List ℕ) → IsTold (unsigned N) o x (unsigned_at N o x)
-unsigned-told N o [] = ([], [], refl, continues.nothing-unfinished N, inl (refl, ap (λ (p : ℕ). halt p End p) (sym (add-zero o))))
+unsigned-told N o [] =
+    ([], [], refl, continues.nothing-unfinished N, inl (refl, ap (λ (p : ℕ). halt p End p) (sym (add-zero o))))
 unsigned-told N o (b ∷ x) =
     let ih = unsigned-told (N - 7) (o + 1) x in
     elim (cases_lt b 128) [
@@ -82,7 +87,8 @@ unsigned-spelled N o (b ∷ a) y v h =
           rw (on N o b (a ++ y) s.0 s.1 s.2, unsigned-spelled (N - 7) (o + 1) a y s.3 s.4, s.5, e) refl
     ]
 
-stops_here : (N o : ℕ) (b : ℕ) (z : List ℕ) → (Begins (U N) (b ∷ []) → ⊥) → unsigned_at N o (b ∷ z) ≡ fault o Integer (o + 1)
+stops_here : (N o : ℕ) (b : ℕ) (z : List ℕ) → (Begins (U N) (b ∷ []) → ⊥)
+    → unsigned_at N o (b ∷ z) ≡ fault o Integer (o + 1)
 stops_here N o b z bars =
     elim (cases_lt b 128) [
       | inl lt ↦ elim (cases_lt b (2 ^ N)) [
@@ -100,9 +106,12 @@ stops_here N o b z bars =
 
 -- what stands behind an unfinished spelling
 abbrev pub StopsBehind : ℕ → ℕ → List ℕ → List ℕ → Halt → Type 0
-StopsBehind N p a y f = ((y ≡ []) × (f ≡ halt p End p)) ⊎ ((b : ℕ) × (z : List ℕ) × (y ≡ b ∷ z) × (Begins (U N) (a ++ b ∷ []) → ⊥) × (f ≡ halt p Integer (p + 1)))
+StopsBehind N p a y f =
+    ((y ≡ []) × (f ≡ halt p End p)) ⊎
+    ((b : ℕ) × (z : List ℕ) × (y ≡ b ∷ z) × (Begins (U N) (a ++ b ∷ []) → ⊥) × (f ≡ halt p Integer (p + 1)))
 
-pub unsigned-stopped-at : (N o : ℕ) (a y : List ℕ) (f : Halt) → IsUnfinished (U N) a → StopsBehind N (o + length a) a y f → unsigned_at N o (a ++ y) ≡ Err f
+pub unsigned-stopped-at : (N o : ℕ) (a y : List ℕ) (f : Halt) → IsUnfinished (U N) a
+    → StopsBehind N (o + length a) a y f → unsigned_at N o (a ++ y) ≡ Err f
 unsigned-stopped-at N o [] y f h k =
     elim k [
       | inl s ↦ rw (s.0, s.1, add-zero) refl

@@ -1,5 +1,6 @@
 -- An unsigned integer in the making.
-use Rattle.std.proofs.Common.{◌≡◌, ℕ, ◌+◌, List, [], ◌∷◌, ◌++◌, length, None, Ok, Err, inl, inr, refl, sym, ap, ◌∙◌, append_assoc, arith}
+use Rattle.std.proofs.Common.{◌≡◌, ℕ, ◌+◌, List, [], ◌∷◌, ◌++◌, length, None, Ok, Err, inl, inr, refl, sym, ap, ◌∙◌}
+use Rattle.std.proofs.Common.{append_assoc, arith}
 use Rattle.wc_leb128.specs.Integers.{U, Begins, IsUnfinished}
 use Rattle.std.proofs.lemmas.List.{length-append}
 use Rattle.wc_binary.specs.declared.fault.BinFault.TheVariants.{Bad}
@@ -11,7 +12,8 @@ use Rattle.wc_binary.proofs.Going.{GoesOn-trans}
 use Rattle.wc_binary.proofs.SignedTaking.{Held}
 use Rattle.wc_binary.proofs.Unsigned.{unsigned-spelled, unsigned-stopped-at}
 
-module _ (N : ℕ) (a : List ℕ) (start first : ℕ) (old now : Input) (at byte : ℕ) (h : Held a start first old now at byte) where
+module _ (N : ℕ) (a : List ℕ) (start first : ℕ) (old now : Input) (at byte : ℕ)
+    (h : Held a start first old now at byte) where
   pub unsigned-done : (v : ℕ) → U N (a ++ byte ∷ []) v → Gave old now (Ok v) (unsigned_at N start (first ∷ old.left))
   unsigned-done v s = (
     h.going,

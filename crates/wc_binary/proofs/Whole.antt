@@ -30,7 +30,8 @@ pub finds-none : (old : Input) → Finds old old 0 nothing
 finds-none old = record { going = GoesOn-refl old; bytes = λ w. (w, found-none old.place old.left) }
 
 -- a failed read
-pub finds-fails : (old now next : Input) (last : ℕ) (m : Parts) → Finds old now last m → (e : BinFault) → NextGives now next (Err e) → SectionsGive old next (Err e)
+pub finds-fails : (old now next : Input) (last : ℕ) (m : Parts) → Finds old now last m → (e : BinFault)
+    → NextGives now next (Err e) → SectionsGive old next (Err e)
 finds-fails old now next last m found (Bad at why) h = absurd h
 finds-fails old now next last m found (Read at) h = ReadFailed-behind old now next at found.going h
 finds-fails old now next last m found Memory h = absurd h
@@ -58,7 +59,8 @@ module _ (old now next : Input) (last : ℕ) (m : Parts) (found : Finds old now 
           rw place (id-stops old.place old.left now.place now.left last m b next.left (n.2 f.0).1 f.1 r i),
     )
 
-    pub content-fails : (id : SectionKind) → id_of last b ≡ Ok id → (end : Input) (e : BinFault) → Fails next end e (read (content id) next.place next.left) → SectionsGive old end (Err e)
+    pub content-fails : (id : SectionKind) → id_of last b ≡ Ok id → (end : Input) (e : BinFault)
+        → Fails next end e (read (content id) next.place next.left) → SectionsGive old end (Err e)
     content-fails id i end Memory h = GoesOn-trans old next end (GoesOn-trans old now next found.going n.0) h
     content-fails id i end (Read at) h = ReadFailed-behind old next end at (GoesOn-trans old now next found.going n.0) h
     content-fails id i end (Bad at why) h = (
@@ -67,10 +69,12 @@ module _ (old now next : Input) (last : ℕ) (m : Parts) (found : Finds old now 
           let f = found.bytes w in
           let k = n.2 f.0 in
           let place = n.1 in
-          content-stops old.place old.left now.place now.left last m b next.left k.1 f.1 id i (halt at why end.place) (rw place at (h.1 k.0)),
+          content-stops old.place old.left now.place now.left last m b next.left k.1 f.1 id i (halt at why end.place)
+          (rw place at (h.1 k.0)),
     )
 
-    pub finds-more : (id : SectionKind) → id_of last b ≡ Ok id → (s : Section) (end : Input) → Gave next end (Ok s) (read (content id) next.place next.left) → Finds old end (after last s) (put m s)
+    pub finds-more : (id : SectionKind) → id_of last b ≡ Ok id → (s : Section) (end : Input)
+        → Gave next end (Ok s) (read (content id) next.place next.left) → Finds old end (after last s) (put m s)
     finds-more id i s end h = record {
       going = GoesOn-trans old next end (GoesOn-trans old now next found.going n.0) h.0;
       bytes = λ w.
@@ -81,15 +85,18 @@ module _ (old now next : Input) (last : ℕ) (m : Parts) (found : Finds old now 
           (c.0, one-more old.place old.left now.place now.left last m b next.left k.1 f.1 id i s end.place end.left (rw place at c.1));
     }
 
-pub preamble-fails : (old end : Input) → old.place ≡ 0 → (e : BinFault) → Fails old end e (read preamble old.place old.left) → ModuleGives old end (Err e)
+pub preamble-fails : (old end : Input) → old.place ≡ 0 → (e : BinFault)
+    → Fails old end e (read preamble old.place old.left) → ModuleGives old end (Err e)
 preamble-fails old end z Memory h = h
 preamble-fails old end z (Read at) h = h
 preamble-fails old end z (Bad at why) h =
     (h.0, λ w. let k = rw z at (h.1 w) in inl (rw k at (read-told {A = Unit {0}} preamble 0 old.left)))
 
-module _ (old mid end : Input) (z : old.place ≡ 0) (u : Unit {0}) (h : Gave old mid (Ok u) (read preamble old.place old.left)) where
+module _ (old mid end : Input) (z : old.place ≡ 0) (u : Unit {0})
+    (h : Gave old mid (Ok u) (read preamble old.place old.left)) where
   -- the preamble, and what is left behind it
-  preamble-read : IsTrue old.known → IsTrue mid.known × ((a : List ℕ) × (old.left ≡ a ++ mid.left) × Spells preamble a tt × (mid.place ≡ length a))
+  preamble-read : IsTrue old.known
+      → IsTrue mid.known × ((a : List ℕ) × (old.left ≡ a ++ mid.left) × Spells preamble a tt × (mid.place ≡ length a))
   preamble-read w =
       let s = h.1 w in
       let e = rw z at s.1 in

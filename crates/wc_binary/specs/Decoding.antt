@@ -36,7 +36,8 @@ SectionsGive old new (Ok p) =
     GoesOn old new
     × (IsTrue old.known → (vs : List Section) × AreSections free 0 vs old.left × (put_all nothing vs ≡ p) × (new.place ≡ old.place + length old.left))
     × IsEnded new
-SectionsGive old new (Err (Bad at why)) = GoesOn old new × (IsTrue old.known → StopsSections 0 old.place old.left (halt at why new.place))
+SectionsGive old new (Err (Bad at why)) =
+    GoesOn old new × (IsTrue old.known → StopsSections 0 old.place old.left (halt at why new.place))
 SectionsGive old new (Err (Read at)) = ReadFailed old new at
 SectionsGive old new (Err Memory) = GoesOn old new
 

@@ -31,7 +31,8 @@ standing room first (Ok if_op) = if_room room if_op
 standing room first (Ok else_op) = if_first first else_op
 standing room first (Ok end_op) = Ok end_op
 
-module _ {O P H : Type 0} (Neat : Type 0 → Type 0) (table : ℕ → Result (Begun O) BinWhy) (Follows : O → List ℕ → P → Type 0) (Head : List ℕ → H → Type 0) where
+module _ {O P H : Type 0} (Neat : Type 0 → Type 0) (table : ℕ → Result (Begun O) BinWhy)
+    (Follows : O → List ℕ → P → Type 0) (Head : List ℕ → H → Type 0) where
   -- an opcode, and what follows it
   abbrev pub letters : Grammar ℕ P H
   letters = record {
@@ -46,4 +47,5 @@ module _ {O P H : Type 0} (Neat : Type 0 → Type 0) (table : ℕ → Result (Be
   -- instructions, nested no deeper than the limit, and the end
   abbrev pub IsExpression : List ℕ → Code P H → Type 0
   IsExpression b code =
-      (a : List ℕ) × (x : ℕ) × (b ≡ a ++ x ∷ []) × (table x ≡ Ok end_op) × Spells letters a code × (nesting code ≤ nesting_limit)
+      (a : List ℕ) × (x : ℕ) × (b ≡ a ++ x ∷ []) × (table x ≡ Ok end_op) × Spells letters a code ×
+      (nesting code ≤ nesting_limit)

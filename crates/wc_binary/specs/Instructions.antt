@@ -1,5 +1,6 @@
 -- Instructions: opcodes, and what follows each (Core 1.0, 5.4; Core 2.0 for block types and the sign extensions).
-use Rattle.std.specs.Prelude.{ℕ, ℤ, pos, negsuc, ◌==◌, nat_lt, Bool, ◌&&◌, not, List, [], ◌∷◌, Option, Some, None, Result, Ok, Err, if◌then◌else◌}
+use Rattle.std.specs.Prelude.{ℕ, ℤ, pos, negsuc, ◌==◌, nat_lt, Bool, ◌&&◌, not, List, [], ◌∷◌, Option, Some, None}
+use Rattle.std.specs.Prelude.{Result, Ok, Err, if◌then◌else◌}
 use Rattle.wc_ast.specs.declared.val_type.ValType.TheVariants.{I32, I64}
 use Rattle.wc_ast.specs.declared.op.Op.{Op}
 use Rattle.wc_ast.specs.declared.op.Op.TheVariants as ops
@@ -110,7 +111,8 @@ nothing_follows = byte (λ x. Err Opcode)
 unfoldable pub follows : Op → Phrase Instr
 follows (ops.Simple op) = follows_simple op
 follows (ops.Index op) = u32 >>= λ i. gives (instrs.Index op i)
-follows (ops.Mem op) = u32 >>= λ align. u32 >>= λ offset. gives (instrs.Mem op (record { align = align; offset = offset }))
+follows (ops.Mem op) =
+    u32 >>= λ align. u32 >>= λ offset. gives (instrs.Mem op (record { align = align; offset = offset }))
 follows ops.BrTable = vector u32 >>= λ labels. u32 >>= λ default. gives (instrs.BrTable default labels)
 follows ops.CallIndirect = u32 >>= λ ty. zero_byte >>= λ _. gives (instrs.CallIndirect ty)
 follows ops.I32Const = s32 >>= λ n. gives (instrs.I32Const n)

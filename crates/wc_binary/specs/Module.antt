@@ -32,7 +32,8 @@ Customs s b = (n : ℕ) × AreCustoms s n b
 
 -- no bytes, where there is none of it; or an id, a size and the content, which a canonical spelling has only for something
 abbrev pub IsSection : {A : Type 0} → Style → ℕ → Phrase A → A → A → List ℕ → Type 0
-IsSection s id p none v b = ((b ≡ []) × (v ≡ none)) ⊎ ((a : List ℕ) × (b ≡ id ∷ a) × SpellsBy s (sized SectionSize p) a v × s.Neat (v ≢ none))
+IsSection s id p none v b =
+    ((b ≡ []) × (v ≡ none)) ⊎ ((a : List ℕ) × (b ≡ id ∷ a) × SpellsBy s (sized SectionSize p) a v × s.Neat (v ≢ none))
 
 -- custom sections, a section, and what comes behind it
 abbrev pub Then : {A : Type 0} → Style → ℕ → Phrase A → A → A → (List ℕ → Type 0) → List ℕ → Type 0
@@ -101,7 +102,8 @@ IsShortestOf b m = (c : List ℕ) → Bin c m → IsOrLonger c b
 abbrev pub AreSections : Style → ℕ → List Section → List ℕ → Type 0
 AreSections s last [] b = b ≡ []
 AreSections s last (v ∷ vs) b =
-    (x : ℕ) × (id : SectionKind) × (a c : List ℕ) × (b ≡ x ∷ (a ++ c)) × (id_of last x ≡ Ok id) × SpellsBy s (content id) a v
+    (x : ℕ) × (id : SectionKind) × (a c : List ℕ) × (b ≡ x ∷ (a ++ c)) × (id_of last x ≡ Ok id) × SpellsBy s
+    (content id) a v
     × s.Neat (Stands v) × AreSections s (after last v) vs c
 
 abbrev pub put_all : Parts → List Section → Parts
@@ -110,7 +112,8 @@ put_all p (v ∷ vs) = put_all (put p v) vs
 
 abbrev pub RisesBy : Style → List ℕ → Module → Type 0
 RisesBy s x m =
-    (a b : List ℕ) × (vs : List Section) × (x ≡ a ++ b) × SpellsBy s preamble a tt × AreSections s 0 vs b × (put_all nothing vs ≡ parts_of m)
+    (a b : List ℕ) × (vs : List Section) × (x ≡ a ++ b) × SpellsBy s preamble a tt × AreSections s 0 vs b ×
+    (put_all nothing vs ≡ parts_of m)
 
 -- ---- the first fault
 
@@ -129,14 +132,16 @@ StopsSections last o b f =
 -- sections to the last byte, which tell other numbers of functions and of codes
 abbrev pub StopsCounts : ℕ → List ℕ → Halt → Type 0
 StopsCounts o b f =
-    (vs : List Section) × AreSections free 0 vs b × (length (put_all nothing vs).func_types ≢ length (put_all nothing vs).codes)
+    (vs : List Section) × AreSections free 0 vs b ×
+    (length (put_all nothing vs).func_types ≢ length (put_all nothing vs).codes)
     × (f ≡ halt (o + length b) Counts (o + length b))
 
 -- reading the bytes as a module stops so
 abbrev pub StopB : List ℕ → Halt → Type 0
 StopB x f =
     Stops preamble 0 x f
-    ⊎ ((a b : List ℕ) × (x ≡ a ++ b) × Spells preamble a tt × (StopsSections 0 (length a) b f ⊎ StopsCounts (length a) b f))
+    ⊎
+    ((a b : List ℕ) × (x ≡ a ++ b) × Spells preamble a tt × (StopsSections 0 (length a) b f ⊎ StopsCounts (length a) b f))
 
 -- the first fault of the bytes: its place and its reason
 abbrev pub FirstFault : List ℕ → ℕ → BinWhy → Type 0

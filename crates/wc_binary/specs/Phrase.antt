@@ -1,5 +1,6 @@
 -- How a phrase of the binary format is built (Core 1.0, 5.1), which bytes spell it, and where reading it stops.
-use Rattle.std.specs.Prelude.{◌≡◌, ℕ, ℤ, ◌+◌, ◌≤◌, nat_lt, Bool, true, false, List, [], ◌∷◌, ◌++◌, length, Option, Some, None, Result, Ok, Err, ◌⊎◌}
+use Rattle.std.specs.Prelude.{◌≡◌, ℕ, ℤ, ◌+◌, ◌≤◌, nat_lt, Bool, true, false, List, [], ◌∷◌, ◌++◌, length, Option, Some}
+use Rattle.std.specs.Prelude.{None, Result, Ok, Err, ◌⊎◌}
 use Rattle.wc_leb128.specs.Integers.{U, S, Begins, IsUnfinished}
 use Rattle.wc_ast.specs.Nested.{Code, nesting, nesting_limit}
 use Rattle.wc_ast.specs.Draft.{Draft, reach, in_first_part}
@@ -7,7 +8,8 @@ use Rattle.wc_ast.specs.Grammar.{SpellsDraft}
 use Rattle.wc_binary.specs.declared.fault.BinWhy.{BinWhy}
 use Rattle.wc_binary.specs.declared.fault.BinWhy.TheVariants.{End, Integer}
 use Rattle.wc_binary.specs.Style.{Style, free}
-use Rattle.wc_binary.specs.Expression.{Begun, plain_op, region_op, if_op, else_op, end_op, standing, letters, IsExpression}
+use Rattle.wc_binary.specs.Expression.{Begun, plain_op, region_op, if_op, else_op, end_op, standing, letters}
+use Rattle.wc_binary.specs.Expression.{IsExpression}
 
 infixl 10 ◌>>=◌
 -- The ways of building a phrase whose value is an A.
@@ -44,9 +46,11 @@ SpellsBy s (judged p judge) b v = SpellsBy s p b v × (judge v ≡ None)
 SpellsBy s (measured {A} p) b v = (u : A) × SpellsBy s p b u × (v ≡ (length b, u))
 SpellsBy s (byte_or_signed test table N make) b v =
     (x : ℕ) × (c : List ℕ) × (b ≡ x ∷ c)
-    × (((test x ≡ true) × (c ≡ []) × (table x ≡ Ok v)) ⊎ ((test x ≡ false) × (z : ℤ) × s.Signed N (x ∷ c) z × (v ≡ make z)))
+    ×
+    (((test x ≡ true) × (c ≡ []) × (table x ≡ Ok v)) ⊎ ((test x ≡ false) × (z : ℤ) × s.Signed N (x ∷ c) z × (v ≡ make z)))
 SpellsBy s (neat p Q) b v = SpellsBy s p b v × s.Neat (Q v)
-SpellsBy s (expression table f h) b v = IsExpression s.Neat table (λ u c p. SpellsBy s (f u) c p) (λ c t. SpellsBy s h c t) b v
+SpellsBy s (expression table f h) b v =
+    IsExpression s.Neat table (λ u c p. SpellsBy s (f u) c p) (λ c t. SpellsBy s h c t) b v
 
 -- these bytes spell this value
 abbrev pub Spells : {A : Type 0} → Phrase A → List ℕ → A → Type 0
@@ -76,7 +80,8 @@ StopsInteger Spelled o x f =
 abbrev pub StopsEither : {A : Type 0} → (ℕ → Bool) → (ℕ → Result A BinWhy) → ℕ → ℕ → List ℕ → Halt → Type 0
 StopsEither test table N o [] f = f ≡ halt o End o
 StopsEither test table N o (b ∷ x) f =
-    ((test b ≡ true) × (r : BinWhy) × (table b ≡ Err r) × (f ≡ halt o r (o + 1))) ⊎ ((test b ≡ false) × StopsInteger (S N) o (b ∷ x) f)
+    ((test b ≡ true) × (r : BinWhy) × (table b ≡ Err r) × (f ≡ halt o r (o + 1))) ⊎
+    ((test b ≡ false) × StopsInteger (S N) o (b ∷ x) f)
 
 -- does a block type follow the opcode
 abbrev pub opens : {O : Type 0} → Begun O → Bool
@@ -86,7 +91,8 @@ opens if_op = true
 opens else_op = false
 opens end_op = false
 
-module _ {O : Type 0} (table : ℕ → Result (Begun O) BinWhy) (StopsPlain : O → ℕ → List ℕ → Halt → Type 0) (StopsHead : ℕ → List ℕ → Halt → Type 0) where
+module _ {O : Type 0} (table : ℕ → Result (Begun O) BinWhy) (StopsPlain : O → ℕ → List ℕ → Halt → Type 0)
+    (StopsHead : ℕ → List ℕ → Halt → Type 0) where
   -- an opcode is wanted: none may stand there, or what follows it stops
   abbrev pub StopsNext : Bool → Bool → ℕ → List ℕ → Halt → Type 0
   StopsNext room first o [] f = f ≡ halt o End o
@@ -114,4 +120,5 @@ Stops (expression {O} {P} {H} table p h) o x f =
     (d : Draft P H) × (a y : List ℕ) × (x ≡ a ++ y)
     × SpellsDraft (letters free.Neat table (λ u c v. Spells (p u) c v) (λ c t. Spells h c t)) a d
     × (reach d.around (nesting d.last) ≤ nesting_limit)
-    × StopsNext table (λ u q c e. Stops (p u) q c e) (λ q c e. Stops h q c e) (nat_lt (length d.around) nesting_limit) (in_first_part d.around) (o + length a) y f
+    × StopsNext table (λ u q c e. Stops (p u) q c e) (λ q c e. Stops h q c e) (nat_lt (length d.around) nesting_limit)
+    (in_first_part d.around) (o + length a) y f

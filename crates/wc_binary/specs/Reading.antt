@@ -1,11 +1,13 @@
 -- Reading from the front to the first fault, computed: what `Spells` and `Stops` come to. Contracts of private readers speak of it.
-use Rattle.std.specs.Prelude.{ℕ, ℤ, pos, ◌+ℤ◌, ◌-ℤ◌, ◌*ℤ◌, Bool, false, cond, not, length, zero, suc, ◌+◌, ◌-◌, ◌*◌, ◌^◌, nat_lt, List, [], ◌∷◌, Option, Some, None, Result, Ok, Err, if◌then◌else◌}
+use Rattle.std.specs.Prelude.{ℕ, ℤ, pos, ◌+ℤ◌, ◌-ℤ◌, ◌*ℤ◌, Bool, false, cond, not, length, zero, suc, ◌+◌, ◌-◌, ◌*◌}
+use Rattle.std.specs.Prelude.{◌^◌, nat_lt, List, [], ◌∷◌, Option, Some, None, Result, Ok, Err, if◌then◌else◌}
 use Rattle.wc_binary.specs.declared.fault.BinWhy.{BinWhy}
 use Rattle.wc_binary.specs.declared.fault.BinWhy.TheVariants.{End, Integer}
 use Rattle.wc_ast.specs.Nested.{Code, empty, Mark, plain, begin, begin_if, otherwise, close, nesting_limit}
 use Rattle.wc_ast.specs.Draft.{Draft, whole, step, in_first_part, is_open}
 use Rattle.wc_binary.specs.Expression.{Begun, plain_op, region_op, if_op, else_op, end_op, standing}
-use Rattle.wc_binary.specs.Phrase.{Halt, halt, Phrase, gives, byte, unsigned, signed, ◌>>=◌, judged, measured, byte_or_signed, neat, expression}
+use Rattle.wc_binary.specs.Phrase.{Halt, halt, Phrase, gives, byte, unsigned, signed, ◌>>=◌, judged, measured}
+use Rattle.wc_binary.specs.Phrase.{byte_or_signed, neat, expression}
 
 -- a value, the place behind it, and what is left there
 pub record Got (A : Type 0) : Type 0 where
@@ -67,7 +69,8 @@ is_last d otherwise = false
 is_last d close = not (is_open d.around)
 
 -- what is read of a plain instruction behind its opcode, and of a block type
-module _ {O P H : Type 0} (table : ℕ → Result (Begun O) BinWhy) (follows : O → ℕ → List ℕ → Result (Got P) Halt) (head : ℕ → List ℕ → Result (Got H) Halt) where
+module _ {O P H : Type 0} (table : ℕ → Result (Begun O) BinWhy) (follows : O → ℕ → List ℕ → Result (Got P) Halt)
+    (head : ℕ → List ℕ → Result (Got H) Halt) where
   abbrev pub behind_opcode : Result (Begun O) BinWhy → ℕ → List ℕ → Result (Got (Mark P H)) Halt
   behind_opcode (Err r) o x = fault o r (o + 1)
   behind_opcode (Ok (plain_op u)) o x = follows u (o + 1) x and_then λ g. got (plain g.value) g.place g.left
@@ -90,7 +93,8 @@ module _ {O P H : Type 0} (table : ℕ → Result (Begun O) BinWhy) (follows : O
       mark_at d o x
       and_then λ g. cond (is_last d g.value) (got d.last g.place g.left) (marks_at n (step d g.value) g.place g.left)
 
-abbrev pub either_at : {A : Type 0} → (ℕ → Bool) → (ℕ → Result A BinWhy) → ℕ → (ℤ → A) → ℕ → List ℕ → Result (Got A) Halt
+abbrev pub either_at : {A : Type 0} → (ℕ → Bool) → (ℕ → Result A BinWhy) → ℕ → (ℤ → A) → ℕ → List ℕ
+    → Result (Got A) Halt
 either_at test table N make o [] = fault o End o
 either_at test table N make o (b ∷ x) =
     if test b

@@ -1,5 +1,6 @@
 -- Sections (Core 1.0, 5.5.2 to 5.5.14).
-use Rattle.std.specs.Prelude.{◌≢◌, ℕ, zero, suc, ◌-◌, max, nat_lt, ◌==◌, [], Option, Some, None, Result, Ok, Err, if◌then◌else◌}
+use Rattle.std.specs.Prelude.{◌≢◌, ℕ, zero, suc, ◌-◌, max, nat_lt, ◌==◌, [], Option, Some, None, Result, Ok, Err}
+use Rattle.std.specs.Prelude.{if◌then◌else◌}
 use Rattle.wc_binary.specs.declared.parts.Parts.{Parts}
 use Rattle.wc_binary.specs.declared.section.Section.{Section}
 use Rattle.wc_binary.specs.declared.section.Section.TheVariants as sections

@@ -4,8 +4,11 @@ use Rattle.wc_leb128.specs.Shortest.{unsigned_bytes}
 use Rattle.wc_ast.specs.declared.module.Module.{Module}
 use Rattle.wc_binary.specs.declared.parts.Parts.{Parts}
 use Rattle.wc_binary.specs.Module.{parts_of}
-use Rattle.wc_binary.specs.Written.{func_type_bytes, import_bytes, table_type_bytes, limits_bytes, export_bytes, section_bytes, start_bytes, Fits32, FitsFuncType, FitsImport, FitsLimits, FitsExport, FitsSection, FitsStart}
-use Rattle.wc_binary.specs.WrittenContents.{global_bytes, elem_bytes, code_bytes, data_bytes, FitsGlobal, FitsElem, FitsCode, FitsData}
+use Rattle.wc_binary.specs.Written.{func_type_bytes, import_bytes, table_type_bytes, limits_bytes, export_bytes}
+use Rattle.wc_binary.specs.Written.{section_bytes, start_bytes, Fits32, FitsFuncType, FitsImport, FitsLimits}
+use Rattle.wc_binary.specs.Written.{FitsExport, FitsSection, FitsStart}
+use Rattle.wc_binary.specs.WrittenContents.{global_bytes, elem_bytes, code_bytes, data_bytes, FitsGlobal, FitsElem}
+use Rattle.wc_binary.specs.WrittenContents.{FitsCode, FitsData}
 
 abbrev pub preamble_bytes : List ℕ
 preamble_bytes = 0x00 ∷ 0x61 ∷ 0x73 ∷ 0x6D ∷ 0x01 ∷ 0x00 ∷ 0x00 ∷ 0x00 ∷ []

@@ -116,7 +116,8 @@ refusal-judged bytes x m NoMemory p q = tt
 
 -- they were decoded, and the module is refused
 pub not-answered : {V : Type 0} (bytes : V → List ℕ) (a : Option (List ℕ)) (m : Module) (f : Refusal)
-    (r : Result V RunFault) → IfSome a (λ x. Bin x m) → IsModuleFault m f → IsErrAnd r (λ g. g ≡ refusing_fault f) → IfSome a (Judges bytes r)
+    (r : Result V RunFault) → IfSome a (λ x. Bin x m) → IsModuleFault m f → IsErrAnd r (λ g. g ≡ refusing_fault f)
+    → IfSome a (Judges bytes r)
 not-answered bytes None m f r p q h = tt
 not-answered bytes (Some x) m f (Ok v) p q h = absurd h
 not-answered bytes (Some x) m f (Err g) p q h =

@@ -1,5 +1,6 @@
 -- The bytes written so far, and those that are left to write.
-use Rattle.std.proofs.Common.{◌≡◌, ℕ, ◌≤◌, ◌<◌, List, [], ◌∷◌, ◌++◌, length, ap, ◌∙◌, append_assoc, length-append, arith}
+use Rattle.std.proofs.Common.{◌≡◌, ℕ, ◌≤◌, ◌<◌, List, [], ◌∷◌, ◌++◌, length, ap, ◌∙◌, append_assoc, length-append}
+use Rattle.std.proofs.Common.{arith}
 
 pub with_one : (out rest total left : List ℕ) (b : ℕ) → left ≡ b ∷ rest → out ++ left ≡ total
     → (out ++ b ∷ []) ++ rest ≡ total

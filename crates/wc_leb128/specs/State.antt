@@ -1,5 +1,6 @@
 -- What an integer in the making stands for, and what a byte makes of it.
-use Rattle.std.specs.Prelude.{◌≡◌, ℕ, zero, suc, ◌+◌, ◌*◌, ◌/◌, ◌%◌, ◌^◌, ◌<◌, ◌≤◌, Bool, true, false, List, [], ◌∷◌, ◌++◌, Option, Some, None, ℤ, pos, ◌+ℤ◌, ◌*ℤ◌}
+use Rattle.std.specs.Prelude.{◌≡◌, ℕ, zero, suc, ◌+◌, ◌*◌, ◌/◌, ◌%◌, ◌^◌, ◌<◌, ◌≤◌, Bool, true, false, List, [], ◌∷◌}
+use Rattle.std.specs.Prelude.{◌++◌, Option, Some, None, ℤ, pos, ◌+ℤ◌, ◌*ℤ◌}
 use Rattle.wc_leb128.specs.declared.step.Step.{Step}
 use Rattle.wc_leb128.specs.declared.step.Step.TheVariants.{More, Done, Bad}
 use Rattle.wc_leb128.specs.Integers.{S, Begins, IsUnfinished}

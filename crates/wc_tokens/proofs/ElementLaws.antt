@@ -1,12 +1,16 @@
 -- What is read of a string's element is an element of the standard, and each one is read.
-use Rattle.std.proofs.Common.{◌≡◌, ◌≢◌, ℕ, ◌+◌, ◌*◌, ◌^◌, ◌<◌, ◌≤◌, nat_eq, nat_le, Bool, true, false, List, [], ◌∷◌, ◌++◌, length, Option, Some, None, refl, sym, ap, subst, ◌∙◌, append_assoc, append-nil, length-append, inl, inr, arith, lit≤, if◌then◌else◌}
+use Rattle.std.proofs.Common.{◌≡◌, ◌≢◌, ℕ, ◌+◌, ◌*◌, ◌^◌, ◌<◌, ◌≤◌, nat_eq, nat_le, Bool, true, false, List, [], ◌∷◌}
+use Rattle.std.proofs.Common.{◌++◌, length, Option, Some, None, refl, sym, ap, subst, ◌∙◌, append_assoc, append-nil}
+use Rattle.std.proofs.Common.{length-append, inl, inr, arith, lit≤, if◌then◌else◌}
 use Rattle.std.specs.Prelude.{encode_utf8}
 use Rattle.std.specs.Char.{IsScalar}
 use Rattle.std.proofs.Math.Utf8.{scalar, scalar_fits}
 use Rattle.std.proofs.lemmas.Bool.{cases_lt, cases_eq}
 use Rattle.std.proofs.lemmas.Bool.Decides.{nat_tests}
 use Rattle.wc_tokens.specs.Digits.{digit_of, IsDigit, Digits, fitting, scan}
-use Rattle.wc_tokens.specs.Strings.{IsPlain, escaped, Element, plain, escape, byte, unicode, Elements, none, more, NoElement, EndsElements, IsString, Taken, Takes, read_byte, read_closed, read_number, read_unicode, read_other, read_escape, is_plain, read_element}
+use Rattle.wc_tokens.specs.Strings.{IsPlain, escaped, Element, plain, escape, byte, unicode, Elements, none, more}
+use Rattle.wc_tokens.specs.Strings.{NoElement, EndsElements, IsString, Taken, Takes, read_byte, read_closed}
+use Rattle.wc_tokens.specs.Strings.{read_number, read_unicode, read_other, read_escape, is_plain, read_element}
 use Rattle.wc_tokens.proofs.Scans.{lt-true, lt-false, eq-false, scan-other}
 use Rattle.wc_tokens.proofs.DigitLaws.{scan-Digits, Found-scan}
 use Rattle.wc_tokens.proofs.NumberLaws.{fitting-some, fitting-small}
@@ -43,7 +47,8 @@ read-plain c rest p =
     let e = le-true 32 c p.0 in
     rw (a, e, d, b)
 
-read-escape : (c : ℕ) {value : ℕ} (rest : List ℕ) → escaped c ≡ Some value → read_element (92 ∷ c ∷ rest) ≡ Some (Takes (value ∷ []) rest)
+read-escape : (c : ℕ) {value : ℕ} (rest : List ℕ) → escaped c ≡ Some value
+    → read_element (92 ∷ c ∷ rest) ≡ Some (Takes (value ∷ []) rest)
 unfolding read_element read_escape
 read-escape c rest e = rw e
 
@@ -56,7 +61,8 @@ brace-digit : 16 ≤ digit_of 125
 unfolding digit_of
 brace-digit = lit≤ tt
 
-read-digits : (high low : ℕ) (rest : List ℕ) → IsDigit 16 high → IsDigit 16 low → read_element (92 ∷ high ∷ low ∷ rest) ≡ Some (Takes ((16 * digit_of high + digit_of low) ∷ []) rest)
+read-digits : (high low : ℕ) (rest : List ℕ) → IsDigit 16 high → IsDigit 16 low
+    → read_element (92 ∷ high ∷ low ∷ rest) ≡ Some (Takes ((16 * digit_of high + digit_of low) ∷ []) rest)
 unfolding read_element read_escape read_byte
 read-digits high low rest h l =
     let a = escaped-digit high h in
@@ -65,7 +71,8 @@ read-digits high low rest h l =
     let d = lt-true (digit_of low) 16 l in
     rw (a, b, c, d)
 
-read-character : (digits : List ℕ) (n : ℕ) (rest : List ℕ) → Digits 16 digits n → IsScalar n → read_element (92 ∷ 117 ∷ 123 ∷ (digits ++ 125 ∷ rest)) ≡ Some (Takes (encode_utf8 n) rest)
+read-character : (digits : List ℕ) (n : ℕ) (rest : List ℕ) → Digits 16 digits n → IsScalar n
+    → read_element (92 ∷ 117 ∷ 123 ∷ (digits ++ 125 ∷ rest)) ≡ Some (Takes (encode_utf8 n) rest)
 unfolding read_element read_escape read_unicode
 read-character digits n rest d s =
     let fits : n < 2 ^ 32 = scalar_fits n s in
@@ -75,12 +82,14 @@ read-character digits n rest d s =
     rw (a, b, c, s)
 
 -- each element is read, whatever follows it
-pub read-Element : {part value : List ℕ} → Element part value → (rest : List ℕ) → read_element (part ++ rest) ≡ Some (Takes value rest)
+pub read-Element : {part value : List ℕ} → Element part value → (rest : List ℕ)
+    → read_element (part ++ rest) ≡ Some (Takes value rest)
 read-Element (plain c p) rest = read-plain c rest p
 read-Element (escape c e) rest = read-escape c rest e
 read-Element (byte high low h l) rest = read-digits high low rest h l
 read-Element (unicode {digits = digits} {n = n} d s) rest =
-    ap (λ (t : List ℕ). read_element (92 ∷ 117 ∷ 123 ∷ t)) (append_assoc digits (125 ∷ []) rest) ∙ read-character digits n rest d s
+    ap (λ (t : List ℕ). read_element (92 ∷ 117 ∷ 123 ∷ t)) (append_assoc digits (125 ∷ []) rest)
+    ∙ read-character digits n rest d s
 
 -- ---- what is read is an element
 
@@ -89,13 +98,15 @@ pub record IsRead (text value rest : List ℕ) : Type 0 where
   pub text_is : text ≡ part ++ rest
   pub element : Element part value
 
-read_byte-is : (high : ℕ) (text value rest : List ℕ) → read_byte high text ≡ Some (Takes value rest) → IsRead (92 ∷ high ∷ text) value rest
+read_byte-is : (high : ℕ) (text value rest : List ℕ) → read_byte high text ≡ Some (Takes value rest)
+    → IsRead (92 ∷ high ∷ text) value rest
 unfolding read_byte
 read_byte-is high [] value rest e = absurd cc
 read_byte-is high (low ∷ text) value rest e = elim (cases_lt (digit_of high) 16) [
   | inl h ↦ elim (cases_lt (digit_of low) 16) [
     | inl l ↦
-        let f : Some (Takes ((16 * digit_of high + digit_of low) ∷ []) text) ≡ Some (Takes value rest) = rw (lt-true (digit_of high) 16 h, lt-true (digit_of low) 16 l) at e in
+        let f : Some (Takes ((16 * digit_of high + digit_of low) ∷ []) text) ≡ Some (Takes value rest) = rw
+        (lt-true (digit_of high) 16 h, lt-true (digit_of low) 16 l) at e in
         let same : text ≡ rest = cc in
         let is : (16 * digit_of high + digit_of low) ∷ [] ≡ value = cc in
         record { part = 92 ∷ high ∷ low ∷ []; text_is = ap (λ (t : List ℕ). 92 ∷ high ∷ low ∷ t) same; element = subst (Element (92 ∷ high ∷ low ∷ [])) is (byte high low h l) }
@@ -104,7 +115,9 @@ read_byte-is high (low ∷ text) value rest e = elim (cases_lt (digit_of high) 1
   | inr h ↦ let f : None ≡ Some (Takes value rest) = rw (lt-false (digit_of high) 16 h) at e in absurd cc
 ]
 
-read_closed-is : (text value rest : List ℕ) (number : Option ℕ) (after : List ℕ) → scan 16 false (Some 0) text ≡ Some (number, after) → read_closed number after ≡ Some (Takes value rest) → IsRead (92 ∷ 117 ∷ 123 ∷ text) value rest
+read_closed-is : (text value rest : List ℕ) (number : Option ℕ) (after : List ℕ)
+    → scan 16 false (Some 0) text ≡ Some (number, after) → read_closed number after ≡ Some (Takes value rest)
+    → IsRead (92 ∷ 117 ∷ 123 ∷ text) value rest
 read_closed-is text value rest None after s e = absurd cc
 read_closed-is text value rest (Some n) [] s e = absurd cc
 read_closed-is text value rest (Some n) (c ∷ after) s e = elim (cases_eq c 125) [
@@ -112,18 +125,22 @@ read_closed-is text value rest (Some n) (c ∷ after) s e = elim (cases_eq c 125
   | inr b ↦ let f : None ≡ Some (Takes value rest) = rw (eq-false c 125 b) at e in absurd cc
 ]
   where
-    go : (t : Bool) → scalar n ≡ t → (if t then Some (Takes (encode_utf8 n) after) else None) ≡ Some (Takes value rest) → c ≡ 125 → IsRead (92 ∷ 117 ∷ 123 ∷ text) value rest
+    go : (t : Bool) → scalar n ≡ t → (if t then Some (Takes (encode_utf8 n) after) else None) ≡ Some (Takes value rest)
+        → c ≡ 125 → IsRead (92 ∷ 117 ∷ 123 ∷ text) value rest
     go true t f b =
-        let found = Found-scan 16 (omega arith) (omega arith) text false (Some 0) [] (c ∷ after) (Some n) (inl (refl, refl)) s in
+        let found = Found-scan 16 (omega arith) (omega arith) text false (Some 0) [] (c ∷ after) (Some n)
+        (inl (refl, refl)) s in
         let number : n ≡ found.number = (fitting-some found.number n (sym found.value_is)).0 in
         let digits : Digits 16 found.run n = subst (Digits 16 found.run) (sym number) found.digits in
         let same : after ≡ rest = cc in
         let is : encode_utf8 n ≡ value = cc in
-        let whole : text ≡ (found.run ++ 125 ∷ []) ++ rest = found.text_is ∙ cc (b, same) ∙ sym (append_assoc found.run (125 ∷ []) rest) in
+        let whole : text ≡ (found.run ++ 125 ∷ []) ++ rest = found.text_is ∙ cc (b, same)
+        ∙ sym (append_assoc found.run (125 ∷ []) rest) in
         record { part = 92 ∷ 117 ∷ 123 ∷ (found.run ++ 125 ∷ []); text_is = ap (λ (t : List ℕ). 92 ∷ 117 ∷ 123 ∷ t) whole; element = subst (Element (92 ∷ 117 ∷ 123 ∷ (found.run ++ 125 ∷ []))) is (unicode digits t) }
     go false t f b = absurd cc
 
-read_unicode-is : (text value rest : List ℕ) → read_unicode text ≡ Some (Takes value rest) → IsRead (92 ∷ 117 ∷ text) value rest
+read_unicode-is : (text value rest : List ℕ) → read_unicode text ≡ Some (Takes value rest)
+    → IsRead (92 ∷ 117 ∷ text) value rest
 unfolding read_unicode
 read_unicode-is [] value rest e = absurd cc
 read_unicode-is (c ∷ text) value rest e = elim (cases_eq c 123) [
@@ -131,7 +148,8 @@ read_unicode-is (c ∷ text) value rest e = elim (cases_eq c 123) [
   | inr b ↦ let f : None ≡ Some (Takes value rest) = rw (eq-false c 123 b) at e in absurd cc
 ]
   where
-    go : (s : Option (Option ℕ × List ℕ)) → scan 16 false (Some 0) text ≡ s → read_number s ≡ Some (Takes value rest) → IsRead (92 ∷ 117 ∷ 123 ∷ text) value rest
+    go : (s : Option (Option ℕ × List ℕ)) → scan 16 false (Some 0) text ≡ s → read_number s ≡ Some (Takes value rest)
+        → IsRead (92 ∷ 117 ∷ 123 ∷ text) value rest
     go None s f = absurd cc
     go (Some p) s f = read_closed-is text value rest p.0 p.1 s f
 
@@ -140,7 +158,8 @@ unfolding read_escape
 read_escape-is [] value rest e = absurd cc
 read_escape-is (c ∷ text) value rest e = go (escaped c) refl e
   where
-    go : (s : Option ℕ) → escaped c ≡ s → read_other s c text ≡ Some (Takes value rest) → IsRead (92 ∷ c ∷ text) value rest
+    go : (s : Option ℕ) → escaped c ≡ s → read_other s c text ≡ Some (Takes value rest)
+        → IsRead (92 ∷ c ∷ text) value rest
     go (Some v) s f =
         let same : text ≡ rest = cc in
         let is : v ∷ [] ≡ value = cc in
@@ -161,7 +180,8 @@ read_element-is (c ∷ text) value rest e = elim (cases_eq c 92) [
   | inr b ↦ go b (is_plain c) refl (rw (eq-false c 92 b) at e)
 ]
   where
-    go : c ≢ 92 → (t : Bool) → is_plain c ≡ t → (if t then Some (Takes (c ∷ []) text) else None) ≡ Some (Takes value rest) → IsRead (c ∷ text) value rest
+    go : c ≢ 92 → (t : Bool) → is_plain c ≡ t
+        → (if t then Some (Takes (c ∷ []) text) else None) ≡ Some (Takes value rest) → IsRead (c ∷ text) value rest
     go n true t f =
         let same : text ≡ rest = cc in
         let is : c ∷ [] ≡ value = cc in
@@ -175,7 +195,8 @@ read_element-none text empty = go (read_element text) refl
   where
     go : (r : Option Taken) → read_element text ≡ r → read_element text ≡ None
     go None e = e
-    go (Some (Takes value rest)) e = let i = read_element-is text value rest e in absurd (empty i.part value rest i.element i.text_is)
+    go (Some (Takes value rest)) e =
+        let i = read_element-is text value rest e in absurd (empty i.part value rest i.element i.text_is)
 
 pub NoElement-read : (text : List ℕ) → read_element text ≡ None → NoElement text
 NoElement-read text unread part value rest element is =
@@ -197,19 +218,25 @@ pub record SameEnd (r s v w : List ℕ) : Type 0 where
   pub rest_is : r ≡ s
   pub bytes_is : v ≡ w
 
-pub Elements-same : {a b v w : List ℕ} (r s : List ℕ) → Elements a v → Elements b w → a ++ r ≡ b ++ s → read_element r ≡ None → read_element s ≡ None → SameEnd r s v w
+pub Elements-same : {a b v w : List ℕ} (r s : List ℕ) → Elements a v → Elements b w → a ++ r ≡ b ++ s
+    → read_element r ≡ None → read_element s ≡ None → SameEnd r s v w
 Elements-same r s none none e m n = record { rest_is = e; bytes_is = refl }
 Elements-same r s none (more {part = part} {rest = rest} {value = value} f fs) e m n =
     let whole : r ≡ part ++ (rest ++ s) = e ∙ append_assoc part rest s in
-    let g : Some (Takes value (rest ++ s)) ≡ None = sym (read-Element f (rest ++ s)) ∙ ap read_element (sym whole) ∙ m in
+    let g : Some (Takes value (rest ++ s)) ≡ None = sym (read-Element f (rest ++ s)) ∙ ap read_element (sym whole)
+    ∙ m in
     absurd cc
 Elements-same r s (more {part = part} {rest = rest} {value = value} f fs) none e m n =
     let whole : s ≡ part ++ (rest ++ r) = sym e ∙ append_assoc part rest r in
-    let g : Some (Takes value (rest ++ r)) ≡ None = sym (read-Element f (rest ++ r)) ∙ ap read_element (sym whole) ∙ n in
+    let g : Some (Takes value (rest ++ r)) ≡ None = sym (read-Element f (rest ++ r)) ∙ ap read_element (sym whole)
+    ∙ n in
     absurd cc
-Elements-same r s (more {part = p} {rest = a} {value = v} {values = vs} f fs) (more {part = q} {rest = b} {value = w} {values = ws} g gs) e m n =
-    let left : read_element ((p ++ a) ++ r) ≡ Some (Takes v (a ++ r)) = ap read_element (append_assoc p a r) ∙ read-Element f (a ++ r) in
-    let right : read_element ((q ++ b) ++ s) ≡ Some (Takes w (b ++ s)) = ap read_element (append_assoc q b s) ∙ read-Element g (b ++ s) in
+Elements-same r s (more {part = p} {rest = a} {value = v} {values = vs} f fs)
+    (more {part = q} {rest = b} {value = w} {values = ws} g gs) e m n =
+    let left : read_element ((p ++ a) ++ r) ≡ Some (Takes v (a ++ r)) = ap read_element (append_assoc p a r)
+    ∙ read-Element f (a ++ r) in
+    let right : read_element ((q ++ b) ++ s) ≡ Some (Takes w (b ++ s)) = ap read_element (append_assoc q b s)
+    ∙ read-Element g (b ++ s) in
     let both : Some (Takes v (a ++ r)) ≡ Some (Takes w (b ++ s)) = sym left ∙ ap read_element e ∙ right in
     let value : v ≡ w = cc in
     let more' : a ++ r ≡ b ++ s = cc in
@@ -235,16 +262,22 @@ IsString-same {text} {v} {w} a b =
 -- ---- how the code goes on
 
 -- one more element
-pub EndsElements-step : (text rest : List ℕ) {r : Option Taken} (value after : List ℕ) → ((body bytes : List ℕ) × (text ≡ body ++ rest) × Elements body bytes) → r ≡ read_element rest → r ≡ Some (Takes value after) → (body bytes : List ℕ) × (text ≡ body ++ after) × Elements body bytes
+pub EndsElements-step : (text rest : List ℕ) {r : Option Taken} (value after : List ℕ)
+    → ((body bytes : List ℕ) × (text ≡ body ++ rest) × Elements body bytes) → r ≡ read_element rest
+    → r ≡ Some (Takes value after) → (body bytes : List ℕ) × (text ≡ body ++ after) × Elements body bytes
 EndsElements-step text rest value after (body, bytes, is, es) e f =
     let i = read_element-is rest value after (sym e ∙ f) in
     (body ++ i.part, bytes ++ value, is ∙ ap (λ (t : List ℕ). body ++ t) i.text_is ∙ sym (append_assoc body i.part after), Elements-append es (Elements-one i.element))
 
-pub EndsElements-end : (text rest : List ℕ) {r : Option Taken} → ((body bytes : List ℕ) × (text ≡ body ++ rest) × Elements body bytes) → r ≡ read_element rest → r ≡ None → EndsElements text rest
-EndsElements-end text rest (body, bytes, is, es) e f = record { body = body; bytes = bytes; text_is = is; elements = es; ended = NoElement-read rest (sym e ∙ f) }
+pub EndsElements-end : (text rest : List ℕ) {r : Option Taken}
+    → ((body bytes : List ℕ) × (text ≡ body ++ rest) × Elements body bytes) → r ≡ read_element rest → r ≡ None
+    → EndsElements text rest
+EndsElements-end text rest (body, bytes, is, es) e f =
+    record { body = body; bytes = bytes; text_is = is; elements = es; ended = NoElement-read rest (sym e ∙ f) }
 
 -- an element has a byte at least
-pub read_element-shorter : (text value rest : List ℕ) → read_element text ≡ Some (Takes value rest) → length rest < length text
+pub read_element-shorter : (text value rest : List ℕ) → read_element text ≡ Some (Takes value rest)
+    → length rest < length text
 read_element-shorter text value rest e =
     let i = read_element-is text value rest e in
     shorter i.element i.text_is
@@ -255,8 +288,12 @@ read_element-shorter text value rest e =
     shorter (byte high low h l) is = omega (arith, ap length is)
     shorter (unicode {digits = digits} d p) is = omega (arith, ap length is, length-append (digits ++ 125 ∷ []) rest)
 
-pub IsBegun-more : (text rest old new : List ℕ) {r : Option Taken} (value after : List ℕ) → ((body : List ℕ) × (text ≡ 34 ∷ (body ++ rest)) × Elements body old) → r ≡ read_element rest → r ≡ Some (Takes value after) → new ≡ old ++ value → (body : List ℕ) × (text ≡ 34 ∷ (body ++ after)) × Elements body new
+pub IsBegun-more : (text rest old new : List ℕ) {r : Option Taken} (value after : List ℕ)
+    → ((body : List ℕ) × (text ≡ 34 ∷ (body ++ rest)) × Elements body old) → r ≡ read_element rest
+    → r ≡ Some (Takes value after) → new ≡ old ++ value
+    → (body : List ℕ) × (text ≡ 34 ∷ (body ++ after)) × Elements body new
 IsBegun-more text rest old new value after (body, is, es) e f n =
     let i = read_element-is rest value after (sym e ∙ f) in
-    let whole : body ++ rest ≡ (body ++ i.part) ++ after = ap (λ (t : List ℕ). body ++ t) i.text_is ∙ sym (append_assoc body i.part after) in
+    let whole : body ++ rest ≡ (body ++ i.part) ++ after = ap (λ (t : List ℕ). body ++ t) i.text_is
+    ∙ sym (append_assoc body i.part after) in
     (body ++ i.part, is ∙ ap (λ (t : List ℕ). 34 ∷ t) whole, subst (Elements (body ++ i.part)) (sym n) (Elements-append es (Elements-one i.element)))

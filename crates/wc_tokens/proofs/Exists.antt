@@ -1,5 +1,6 @@
 -- At the front of each text stands its end, a gap, a token or a fault.
-use Rattle.std.proofs.Common.{◌≡◌, ◌≢◌, ℕ, zero, suc, ◌≤◌, true, List, [], ◌∷◌, ◌++◌, length, Option, Some, None, refl, ap, ◌⊎◌, inl, inr, arith}
+use Rattle.std.proofs.Common.{◌≡◌, ◌≢◌, ℕ, zero, suc, ◌≤◌, true, List, [], ◌∷◌, ◌++◌, length, Option, Some, None, refl}
+use Rattle.std.proofs.Common.{ap, ◌⊎◌, inl, inr, arith}
 use Rattle.std.proofs.lemmas.Bool.{cases_lt, cases_eq, cases_Bool}
 use Rattle.wc_tokens.specs.declared.token.TokenKind.{TokenKind}
 use Rattle.wc_tokens.specs.declared.token.TokenKind.TheVariants.{Open, Close, Id, Str, Word}
@@ -13,7 +14,9 @@ use Rattle.wc_tokens.specs.Faults.{Stuck}
 use Rattle.wc_tokens.specs.Steps.{LineEnds, RunEnds}
 use Rattle.wc_tokens.proofs.CommentLaws.{Inside-closed, not-closed}
 use Rattle.wc_tokens.proofs.ElementLaws.{EndsElements-step, EndsElements-end, read_element-shorter}
-use Rattle.wc_tokens.proofs.StepLaws.{BeginsToken, Gap-line, Stuck-semicolon, BeginsToken-open, BeginsToken-close, Gap-block, Stuck-block, BeginsToken-string, Stuck-string, Stuck-escape, BeginsToken-id, BeginsToken-word, Gap-blank, Stuck-character}
+use Rattle.wc_tokens.proofs.StepLaws.{BeginsToken, Gap-line, Stuck-semicolon, BeginsToken-open, BeginsToken-close}
+use Rattle.wc_tokens.proofs.StepLaws.{Gap-block, Stuck-block, BeginsToken-string, Stuck-string, Stuck-escape}
+use Rattle.wc_tokens.proofs.StepLaws.{BeginsToken-id, BeginsToken-word, Gap-blank, Stuck-character}
 
 -- what stands at the front of a text
 pub data Outcome : List ℕ → Type 0 where
@@ -39,14 +42,17 @@ run-ends (c ∷ text) = elim (cases_Bool (is_idchar c)) [
 ]
 
 -- an element stands at the front, or none does
-element-or-not : (text : List ℕ) → (read_element text ≡ None) ⊎ ((value rest : List ℕ) × (read_element text ≡ Some (Takes value rest)))
+element-or-not : (text : List ℕ)
+    → (read_element text ≡ None) ⊎ ((value rest : List ℕ) × (read_element text ≡ Some (Takes value rest)))
 element-or-not text = go (read_element text) refl
   where
-    go : (r : Option Taken) → read_element text ≡ r → (read_element text ≡ None) ⊎ ((value rest : List ℕ) × (read_element text ≡ Some (Takes value rest)))
+    go : (r : Option Taken) → read_element text ≡ r
+        → (read_element text ≡ None) ⊎ ((value rest : List ℕ) × (read_element text ≡ Some (Takes value rest)))
     go None e = inl e
     go (Some (Takes value rest)) e = inr (value, rest, e)
 
-elements-go : (steps : ℕ) (text rest : List ℕ) → length rest ≤ steps → ((body bytes : List ℕ) × (text ≡ body ++ rest) × Elements body bytes) → (end : List ℕ) × EndsElements text end
+elements-go : (steps : ℕ) (text rest : List ℕ) → length rest ≤ steps
+    → ((body bytes : List ℕ) × (text ≡ body ++ rest) × Elements body bytes) → (end : List ℕ) × EndsElements text end
 elements-go zero text rest l before = elim (element-or-not rest) [
   | inl e ↦ (rest, EndsElements-end text rest before refl e)
   | inr w ↦ absurd (omega (arith, l, read_element-shorter rest w.0 w.1 w.2))
@@ -87,8 +93,12 @@ after-open c text e = elim (first-is 59 text) [
 ]
   where
     go : {inside : List ℕ} (r : Option (List ℕ)) → after_comments inside 0 ≡ r → text ≡ 59 ∷ inside → Outcome (c ∷ text)
-    go {inside} (Some after) f s = a_gap after (Gap-block (c ∷ text) text inside after (ap (λ (x : ℕ). x ∷ text) e) s (Inside-closed inside after f))
-    go {inside} None f s = a_fault (c ∷ text) CommentOpen (Stuck-block (c ∷ text) text inside (ap (λ (x : ℕ). x ∷ text) e) s (not-closed inside f))
+    go {inside} (Some after) f s =
+        a_gap after
+        (Gap-block (c ∷ text) text inside after (ap (λ (x : ℕ). x ∷ text) e) s (Inside-closed inside after f))
+    go {inside} None f s =
+        a_fault (c ∷ text) CommentOpen
+        (Stuck-block (c ∷ text) text inside (ap (λ (x : ℕ). x ∷ text) e) s (not-closed inside f))
 
 after-semicolon : (c : ℕ) (text : List ℕ) → c ≡ 59 → Outcome (c ∷ text)
 after-semicolon c text e = elim (first-is 59 text) [

@@ -1,5 +1,6 @@
 -- What a word reads as, from the digits that are scanned.
-use Rattle.std.proofs.Common.{◌≡◌, ◌≢◌, ℕ, ◌^◌, ◌<◌, ◌≤◌, false, List, [], ◌∷◌, length, Option, Some, None, refl, sym, ap, subst, ◌∙◌, append-nil, inl, inr, arith}
+use Rattle.std.proofs.Common.{◌≡◌, ◌≢◌, ℕ, ◌^◌, ◌<◌, ◌≤◌, false, List, [], ◌∷◌, length, Option, Some, None, refl, sym}
+use Rattle.std.proofs.Common.{ap, subst, ◌∙◌, append-nil, inl, inr, arith}
 use Rattle.std.proofs.lemmas.Bool.{cases_lt}
 use Rattle.wc_tokens.specs.Digits.{digit_of, Digits, extended, fitting, scan}
 use Rattle.wc_tokens.specs.Numbers.{Natural, decimal, hexadecimal, Reads}
@@ -28,11 +29,16 @@ Scanned = Option (Option ℕ × List ℕ)
 
 module _ (base : ℕ) (pos : 0 < base) (low : base ≤ 36) where
   -- no digits at all
-  pub no-digits : (text : List ℕ) → ◌≡◌ {A = Option (Option ℕ × List ℕ)} None (scan base false (Some 0) text) → (n : ℕ) → ¬ (Digits base text n)
-  no-digits text e n ds = let f = scan-whole base pos low ds in let g : ◌≡◌ {A = Option (Option ℕ × List ℕ)} None (Some (fitting n, [])) = e ∙ f in absurd cc
+  pub no-digits : (text : List ℕ) → ◌≡◌ {A = Option (Option ℕ × List ℕ)} None (scan base false (Some 0) text) → (n : ℕ)
+      → ¬ (Digits base text n)
+  no-digits text e n ds =
+      let f = scan-whole base pos low ds in
+      let g : ◌≡◌ {A = Option (Option ℕ × List ℕ)} None (Some (fitting n, [])) = e ∙ f in absurd cc
 
   -- something behind the digits
-  pub more-behind : (text rest : List ℕ) (value : Option ℕ) → 0 < length rest → ◌≡◌ {A = Option (Option ℕ × List ℕ)} (Some (value, rest)) (scan base false (Some 0) text) → (n : ℕ) → ¬ (Digits base text n)
+  pub more-behind : (text rest : List ℕ) (value : Option ℕ) → 0 < length rest
+      → ◌≡◌ {A = Option (Option ℕ × List ℕ)} (Some (value, rest)) (scan base false (Some 0) text) → (n : ℕ)
+      → ¬ (Digits base text n)
   more-behind text rest value l e n ds =
       let f = scan-whole base pos low ds in
       let g : ◌≡◌ {A = Option (Option ℕ × List ℕ)} (Some (value, rest)) (Some (fitting n, [])) = e ∙ f in
@@ -41,7 +47,9 @@ module _ (base : ℕ) (pos : 0 < base) (low : base ≤ 36) where
       absurd (omega (arith, ap length none))
 
   -- nothing behind them
-  pub all-digits : (text rest : List ℕ) (value : Option ℕ) → length rest ≡ 0 → ◌≡◌ {A = Option (Option ℕ × List ℕ)} (Some (value, rest)) (scan base false (Some 0) text) → (n : ℕ) × Digits base text n × (value ≡ fitting n)
+  pub all-digits : (text rest : List ℕ) (value : Option ℕ) → length rest ≡ 0
+      → ◌≡◌ {A = Option (Option ℕ × List ℕ)} (Some (value, rest)) (scan base false (Some 0) text)
+      → (n : ℕ) × Digits base text n × (value ≡ fitting n)
   all-digits text [] value l e =
       let f = Found-scan base pos low text false (Some 0) [] [] value (inl (refl, refl)) (sym e) in
       let whole : text ≡ f.run = f.text_is ∙ append-nil f.run in
@@ -60,14 +68,19 @@ not-decimal digits n ds =
     let all = scan-whole 10 (omega arith) (omega arith) ds in
     let first = scan-digit 10 false (Some 0) 48 (120 ∷ digits) zero-digit in
     let next = scan-other 10 (extended 10 (Some 0) (digit_of 48)) 120 digits x-digit not-apart in
-    let whole : ◌≡◌ {A = Option (Option ℕ × List ℕ)} (Some (extended 10 (Some 0) (digit_of 48), 120 ∷ digits)) (Some (fitting n, [])) = sym next ∙ sym first ∙ all in
+    let whole : ◌≡◌ {A = Option (Option ℕ × List ℕ)} (Some (extended 10 (Some 0) (digit_of 48), 120 ∷ digits))
+    (Some (fitting n, [])) = sym next
+    ∙ sym first ∙ all in
     let pair : ◌≡◌ {A = Option ℕ × List ℕ} (extended 10 (Some 0) (digit_of 48), 120 ∷ digits) (fitting n, []) = cc in
     let none : 120 ∷ digits ≡ [] = ap (λ (p : Option ℕ × List ℕ). p.1) pair in
     absurd cc
 
-same-Digits : (base : ℕ) → 0 < base → base ≤ 36 → {text : List ℕ} {a b : ℕ} → Digits base text a → Digits base text b → fitting a ≡ fitting b
+same-Digits : (base : ℕ) → 0 < base → base ≤ 36 → {text : List ℕ} {a b : ℕ} → Digits base text a → Digits base text b
+    → fitting a ≡ fitting b
 same-Digits base pos low {text} {a} {b} d e =
-    let all : ◌≡◌ {A = Option (Option ℕ × List ℕ)} (Some (fitting a, [])) (Some (fitting b, [])) = sym (scan-whole base pos low d) ∙ scan-whole base pos low e in
+    let all : ◌≡◌ {A = Option (Option ℕ × List ℕ)} (Some (fitting a, [])) (Some (fitting b, [])) = sym
+    (scan-whole base pos low d)
+    ∙ scan-whole base pos low e in
     let pair : ◌≡◌ {A = Option ℕ × List ℕ} (fitting a, []) (fitting b, []) = cc in
     ap (λ (p : Option ℕ × List ℕ). p.0) pair
 
@@ -78,7 +91,8 @@ same-fitting (hexadecimal d) (decimal e) = absurd (not-decimal _ _ e)
 same-fitting (hexadecimal d) (hexadecimal e) = same-Digits 16 (omega arith) (omega arith) d e
 
 -- `0x` and hexadecimal digits, or else decimal digits
-pub Reads-hexadecimal : (number : Num) (limit : ℕ) (digits text : List ℕ) → text ≡ 48 ∷ 120 ∷ digits → Reads (Digits 16 digits) limit number → Reads (Natural text) limit number
+pub Reads-hexadecimal : (number : Num) (limit : ℕ) (digits text : List ℕ) → text ≡ 48 ∷ 120 ∷ digits
+    → Reads (Digits 16 digits) limit number → Reads (Natural text) limit number
 Reads-hexadecimal (Value n) limit digits text e r = (rw e (hexadecimal r.0), r.1)
 Reads-hexadecimal Range limit digits text e r = (r.0, rw e (hexadecimal r.1), r.2)
 Reads-hexadecimal NotANumber limit digits text e r = λ n h. go (rw e at h)
@@ -87,7 +101,8 @@ Reads-hexadecimal NotANumber limit digits text e r = λ n h. go (rw e at h)
     go (decimal d) = not-decimal _ _ d
     go (hexadecimal d) = r _ d
 
-pub Reads-decimal : (number : Num) (limit : ℕ) (text : List ℕ) → ((digits : List ℕ) → text ≢ 48 ∷ 120 ∷ digits) → Reads (Digits 10 text) limit number → Reads (Natural text) limit number
+pub Reads-decimal : (number : Num) (limit : ℕ) (text : List ℕ) → ((digits : List ℕ) → text ≢ 48 ∷ 120 ∷ digits)
+    → Reads (Digits 10 text) limit number → Reads (Natural text) limit number
 Reads-decimal (Value n) limit text e r = (decimal r.0, r.1)
 Reads-decimal Range limit text e r = (r.0, decimal r.1, r.2)
 Reads-decimal NotANumber limit text e r = λ n h. go h refl

@@ -1,5 +1,6 @@
 -- How a string's bytes are read.
-use Rattle.std.proofs.Common.{◌≡◌, ℕ, ◌-◌, List, [], ◌∷◌, ◌++◌, length, take, drop, Option, None, sym, subst, ◌∙◌, arith}
+use Rattle.std.proofs.Common.{◌≡◌, ℕ, ◌-◌, List, [], ◌∷◌, ◌++◌, length, take, drop, Option, None, sym, subst, ◌∙◌}
+use Rattle.std.proofs.Common.{arith}
 use Rattle.std.proofs.lemmas.List.{take_all}
 use Rattle.wc_tokens.specs.Strings.{Elements, none, IsString, Taken, read_element}
 use Rattle.wc_tokens.proofs.ElementLaws.{Elements-same, read_element-quote}
@@ -8,7 +9,8 @@ use Rattle.wc_tokens.proofs.ElementLaws.{Elements-same, read_element-quote}
 abbrev pub IsBegun : List ℕ → List ℕ → List ℕ → Type 0
 IsBegun text rest bytes = (body : List ℕ) × (text ≡ 34 ∷ (body ++ rest)) × Elements body bytes
 
-pub IsBegun-quote : (text bytes : List ℕ) → (value : List ℕ) × IsString text value → bytes ≡ text → (bytes' : List ℕ) → bytes' ≡ [] → IsBegun text (take (length bytes - 1) (drop 1 bytes)) bytes'
+pub IsBegun-quote : (text bytes : List ℕ) → (value : List ℕ) × IsString text value → bytes ≡ text → (bytes' : List ℕ)
+    → bytes' ≡ [] → IsBegun text (take (length bytes - 1) (drop 1 bytes)) bytes'
 IsBegun-quote text bytes (value, s) same bytes' empty =
     let start : text ≡ 34 ∷ take (length text - 1) (drop 1 text) = behind text (s.body ++ 34 ∷ []) s.text_is in
     ([], subst (λ (t : List ℕ). text ≡ 34 ∷ take (length t - 1) (drop 1 t)) (sym same) start, subst (Elements []) (sym empty) none)
@@ -21,7 +23,8 @@ IsBegun-quote text bytes (value, s) same bytes' empty =
         cc (first, all)
 
 -- where no element stands the string's bytes are complete
-pub IsBegun-end : (text rest bytes : List ℕ) {r : Option Taken} → IsBegun text rest bytes → r ≡ read_element rest → r ≡ None → (value : List ℕ) → IsString text value → bytes ≡ value
+pub IsBegun-end : (text rest bytes : List ℕ) {r : Option Taken} → IsBegun text rest bytes → r ≡ read_element rest
+    → r ≡ None → (value : List ℕ) → IsString text value → bytes ≡ value
 IsBegun-end text rest bytes (body, is, es) e f value s =
     let whole : 34 ∷ (body ++ rest) ≡ 34 ∷ (s.body ++ 34 ∷ []) = sym is ∙ s.text_is in
     let same : body ++ rest ≡ s.body ++ 34 ∷ [] = cc in

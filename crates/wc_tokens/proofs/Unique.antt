@@ -1,5 +1,6 @@
 -- At most one thing stands at the front of a text: each is read by a function.
-use Rattle.std.proofs.Common.{◌≡◌, ◌≢◌, ℕ, nat_eq, ◌==◌, true, false, List, [], ◌∷◌, ◌++◌, Option, Some, None, refl, sym, ap, ◌∙◌, append_assoc, append-nil, inl, inr, arith, if◌then◌else◌}
+use Rattle.std.proofs.Common.{◌≡◌, ◌≢◌, ℕ, nat_eq, ◌==◌, true, false, List, [], ◌∷◌, ◌++◌, Option, Some, None, refl}
+use Rattle.std.proofs.Common.{sym, ap, ◌∙◌, append_assoc, append-nil, inl, inr, arith, if◌then◌else◌}
 use Rattle.std.specs.List.{AllByRecursion}
 use Rattle.std.proofs.lemmas.Bool.{cases_eq}
 use Rattle.std.proofs.lemmas.Bool.Decides.{nat_tests}
@@ -14,7 +15,8 @@ use Rattle.wc_tokens.specs.Lexemes.{is_idchar, IsIdchar, BeginsNoIdchar, kind_of
 use Rattle.wc_tokens.specs.Faults.{BeginsNothing, Stuck, character, comment_open, string_open, escape}
 use Rattle.wc_tokens.proofs.Scans.{eq-false}
 use Rattle.wc_tokens.proofs.CommentLaws.{after-closed, Inside-closed}
-use Rattle.wc_tokens.proofs.ElementLaws.{Elements-same, NoElement-read, read_element-none, read_element-quote, read_element-nil}
+use Rattle.wc_tokens.proofs.ElementLaws.{Elements-same, NoElement-read, read_element-none, read_element-quote}
+use Rattle.wc_tokens.proofs.ElementLaws.{read_element-nil}
 use Rattle.wc_tokens.proofs.Exists.{elements-end}
 
 eq-true : (a b : ℕ) → a ≡ b → nat_eq a b ≡ true
@@ -73,7 +75,8 @@ next (c ∷ text) =
 
 -- ---- what they read
 
-after_line-is : (characters rest : List ℕ) → AllByRecursion (λ c. c ≢ 10) characters → EndsLine rest → after_line (characters ++ rest) ≡ rest
+after_line-is : (characters rest : List ℕ) → AllByRecursion (λ c. c ≢ 10) characters → EndsLine rest
+    → after_line (characters ++ rest) ≡ rest
 after_line-is [] [] a e = refl
 after_line-is [] (c ∷ rest) a e = let f = eq-true c 10 e in rw f
 after_line-is (c ∷ characters) rest a e = let f = eq-false c 10 a.0 in rw f (after_line-is characters rest a.1 e)
@@ -97,7 +100,8 @@ elements-end-is text rest s =
 idchar-byte : (c : ℕ) → is_idchar c ≡ false → (d : ℕ) → d ≡ c → is_idchar d ≡ false
 idchar-byte c h d e = ap is_idchar e ∙ h
 
-no-idchar : (is_idchar 32 ≡ false) × (is_idchar 9 ≡ false) × (is_idchar 10 ≡ false) × (is_idchar 13 ≡ false) × (is_idchar 40 ≡ false) × (is_idchar 41 ≡ false) × (is_idchar 59 ≡ false) × (is_idchar 34 ≡ false)
+no-idchar : (is_idchar 32 ≡ false) × (is_idchar 9 ≡ false) × (is_idchar 10 ≡ false) × (is_idchar 13 ≡ false) ×
+    (is_idchar 40 ≡ false) × (is_idchar 41 ≡ false) × (is_idchar 59 ≡ false) × (is_idchar 34 ≡ false)
 unfolding is_idchar
 no-idchar = (refl, refl, refl, refl, refl, refl, refl, refl)
 
@@ -119,9 +123,11 @@ blank-idchar c b = elim (cases_eq c 32) [
 pub next-Gap : {text rest : List ℕ} → Gap text rest → next text ≡ Skip rest
 next-Gap (blank c b) = let i = blank-idchar c b in rw (i, b)
 next-Gap (line characters {rest = rest} a e) = let i = no-idchar.6 in rw i (ap Skip (after_line-is characters rest a e))
-next-Gap (block {inside = inside} {rest = rest} i) = let j = no-idchar.4 in let f = after-closed inside rest i in rw (j, f)
+next-Gap (block {inside = inside} {rest = rest} i) =
+    let j = no-idchar.4 in let f = after-closed inside rest i in rw (j, f)
 
-next-run : (kind : TokenKind) (text rest : List ℕ) → IsRun kind text → BeginsNoIdchar rest → next (text ++ rest) ≡ Take kind rest
+next-run : (kind : TokenKind) (text rest : List ℕ) → IsRun kind text → BeginsNoIdchar rest
+    → next (text ++ rest) ≡ Take kind rest
 next-run kind [] rest r e = absurd (r.some refl)
 next-run kind (c ∷ run) rest r e =
     let i = r.idchars.0 in
@@ -137,7 +143,8 @@ next-quote body bytes rest es =
 
 next-string : (text bytes rest : List ℕ) → IsString text bytes → next (text ++ rest) ≡ Take Str rest
 next-string text bytes rest s =
-    let whole : text ++ rest ≡ 34 ∷ (s.body ++ 34 ∷ rest) = ap (λ (t : List ℕ). t ++ rest) s.text_is ∙ ap (λ (t : List ℕ). 34 ∷ t) (append_assoc s.body (34 ∷ []) rest) in
+    let whole : text ++ rest ≡ 34 ∷ (s.body ++ 34 ∷ rest) = ap (λ (t : List ℕ). t ++ rest) s.text_is
+    ∙ ap (λ (t : List ℕ). 34 ∷ t) (append_assoc s.body (34 ∷ []) rest) in
     ap next whole ∙ next-quote s.body bytes rest s.elements
 
 next-open-token : (rest : List ℕ) → BeginsNot 59 rest → next (40 ∷ rest) ≡ Take Open rest

@@ -1,5 +1,6 @@
 -- Bytes are UTF-8, or there is a longest front that is.
-use Rattle.std.proofs.Common.{◌≡◌, ℕ, zero, suc, ◌<◌, ◌≤◌, true, false, List, length, take, IsUtf8, sym, subst, ◌∙◌, ◌⊎◌, inl, inr, arith}
+use Rattle.std.proofs.Common.{◌≡◌, ℕ, zero, suc, ◌<◌, ◌≤◌, true, false, List, length, take, IsUtf8, sym, subst, ◌∙◌}
+use Rattle.std.proofs.Common.{◌⊎◌, inl, inr, arith}
 use Rattle.std.proofs.lemmas.Bool.{cases_lt, cases_Bool}
 use Rattle.std.proofs.lemmas.List.{take_all}
 use Rattle.std.proofs.lemmas.Str.{IsUtf8-from_is_utf8, is_utf8-from_IsUtf8, IsUtf8-nil}
@@ -13,10 +14,14 @@ record LongestUpTo (bytes : List ℕ) (most : ℕ) : Type 0 where
   longest : (m : ℕ) → len < m → m ≤ most → ¬ (IsUtf8 (take m bytes))
 
 not-front : (bytes : List ℕ) (m n : ℕ) → m ≡ n → is_utf8 (take n bytes) ≡ false → ¬ (IsUtf8 (take m bytes))
-not-front bytes m n e f u = let t : is_utf8 (take n bytes) ≡ true = is_utf8-from_IsUtf8 (take n bytes) (subst (λ (k : ℕ). IsUtf8 (take k bytes)) e u) in absurd cc
+not-front bytes m n e f u =
+    let t : is_utf8 (take n bytes) ≡ true =
+    is_utf8-from_IsUtf8 (take n bytes) (subst (λ (k : ℕ). IsUtf8 (take k bytes)) e u) in
+    absurd cc
 
 longest-up-to : (bytes : List ℕ) (most : ℕ) → LongestUpTo bytes most
-longest-up-to bytes zero = record { len = 0; within = omega arith; front = IsUtf8-nil; longest = λ m l k. absurd (omega (arith, l, k)) }
+longest-up-to bytes zero =
+    record { len = 0; within = omega arith; front = IsUtf8-nil; longest = λ m l k. absurd (omega (arith, l, k)) }
 longest-up-to bytes (suc most) = elim (cases_Bool (is_utf8 (take (suc most) bytes))) [
   | inl e ↦ record { len = suc most; within = omega arith; front = IsUtf8-from_is_utf8 (take (suc most) bytes) e; longest = λ m l k. absurd (omega (arith, l, k)) }
   | inr e ↦
@@ -61,4 +66,5 @@ IsValidUpTo-same bytes m n a b = elim (cases_lt m n) [
 ]
 
 pub not-IsUtf8 : (bytes : List ℕ) (at : ℕ) → IsValidUpTo bytes at → ¬ (IsUtf8 bytes)
-not-IsUtf8 bytes at v u = v.longest (length bytes) v.short (subst IsUtf8 (sym (take_all (length bytes) bytes (omega arith))) u)
+not-IsUtf8 bytes at v u =
+    v.longest (length bytes) v.short (subst IsUtf8 (sym (take_all (length bytes) bytes (omega arith))) u)

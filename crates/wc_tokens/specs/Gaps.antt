@@ -23,11 +23,13 @@ pub data Inside : List ℕ → List ℕ → Type 0 where
   other : (c : ℕ) {text rest : List ℕ} → c ≢ 59 → c ≢ 40 → Inside text rest → Inside (c ∷ text) rest
   semicolon : {text rest : List ℕ} → BeginsNot 41 text → Inside text rest → Inside (59 ∷ text) rest
   parenthesis : {text rest : List ℕ} → BeginsNot 59 text → Inside text rest → Inside (40 ∷ text) rest
-  comment : {inner text rest : List ℕ} → Inside inner (59 ∷ 41 ∷ text) → Inside text rest → Inside (40 ∷ 59 ∷ inner) rest
+  comment : {inner text rest : List ℕ} → Inside inner (59 ∷ 41 ∷ text) → Inside text rest
+      → Inside (40 ∷ 59 ∷ inner) rest
 
 -- `Gap text rest`: the text begins with one blank, one line comment or one block comment, and goes on with the
 -- rest. A line comment goes up to a line feed or to the end of the text.
 pub data Gap : List ℕ → List ℕ → Type 0 where
   blank : (c : ℕ) {rest : List ℕ} → is_blank c ≡ true → Gap (c ∷ rest) rest
-  line : (characters : List ℕ) {rest : List ℕ} → AllByRecursion (λ c. c ≢ 10) characters → EndsLine rest → Gap (59 ∷ 59 ∷ (characters ++ rest)) rest
+  line : (characters : List ℕ) {rest : List ℕ} → AllByRecursion (λ c. c ≢ 10) characters → EndsLine rest
+      → Gap (59 ∷ 59 ∷ (characters ++ rest)) rest
   block : {inside rest : List ℕ} → Inside inside (59 ∷ 41 ∷ rest) → Gap (40 ∷ 59 ∷ inside) rest

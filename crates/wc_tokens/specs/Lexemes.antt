@@ -1,5 +1,6 @@
 -- Tokens, and the texts that they make up (Core 1.0, 6.2.2 and 6.3).
-use Rattle.std.specs.Prelude.{◌≡◌, ◌≢◌, ℕ, ◌-◌, ◌≤◌, nat_le, ◌==◌, Bool, true, false, ◌&&◌, ◌||◌, List, [], ◌∷◌, ◌++◌, length, IsUtf8, if◌then◌else◌}
+use Rattle.std.specs.Prelude.{◌≡◌, ◌≢◌, ℕ, ◌-◌, ◌≤◌, nat_le, ◌==◌, Bool, true, false, ◌&&◌, ◌||◌, List, [], ◌∷◌, ◌++◌}
+use Rattle.std.specs.Prelude.{length, IsUtf8, if◌then◌else◌}
 use Rattle.std.specs.List.{AllByRecursion, list_any}
 use Rattle.wc_tokens.specs.declared.token.TokenKind.{TokenKind}
 use Rattle.wc_tokens.specs.declared.token.TokenKind.TheVariants.{Open, Close, Id, Str, Word}
@@ -14,7 +15,8 @@ is_among bytes c = list_any (λ b. b == c) bytes
 unfoldable pub is_idchar : ℕ → Bool
 is_idchar c =
     (nat_le 48 c && nat_le c 57) || (nat_le 65 c && nat_le c 90) || (nat_le 97 c && nat_le c 122)
-    || is_among (33 ∷ 35 ∷ 36 ∷ 37 ∷ 38 ∷ 39 ∷ 42 ∷ 43 ∷ 45 ∷ 46 ∷ 47 ∷ 58 ∷ 60 ∷ 61 ∷ 62 ∷ 63 ∷ 64 ∷ 92 ∷ 94 ∷ 95 ∷ 96 ∷ 124 ∷ 126 ∷ []) c
+    || is_among
+    (33 ∷ 35 ∷ 36 ∷ 37 ∷ 38 ∷ 39 ∷ 42 ∷ 43 ∷ 45 ∷ 46 ∷ 47 ∷ 58 ∷ 60 ∷ 61 ∷ 62 ∷ 63 ∷ 64 ∷ 92 ∷ 94 ∷ 95 ∷ 96 ∷ 124 ∷ 126 ∷ []) c
 
 abbrev pub IsIdchar : ℕ → Type 0
 IsIdchar c = is_idchar c ≡ true
@@ -69,13 +71,15 @@ abbrev pub place : ℕ → List ℕ → ℕ
 place size rest = size - length rest
 
 abbrev pub spanned : ℕ → TokenKind → List ℕ → List ℕ → Lexeme
-spanned size kind text rest = record { kind = kind; text = text; start = place size (text ++ rest); stop = place size rest }
+spanned size kind text rest =
+    record { kind = kind; text = text; start = place size (text ++ rest); stop = place size rest }
 
 -- `Lexed size text ts`: the text, the rest of one of this size, is gaps and the tokens ts in turn
 pub data Lexed : ℕ → List ℕ → List Lexeme → Type 0 where
   ended : {size : ℕ} → Lexed size [] []
   gap : {size : ℕ} {text rest : List ℕ} {ts : List Lexeme} → Gap text rest → Lexed size rest ts → Lexed size text ts
-  token : {size : ℕ} {kind : TokenKind} {text rest : List ℕ} {ts : List Lexeme} → IsToken kind text rest → Lexed size rest ts → Lexed size (text ++ rest) (spanned size kind text rest ∷ ts)
+  token : {size : ℕ} {kind : TokenKind} {text rest : List ℕ} {ts : List Lexeme} → IsToken kind text rest
+      → Lexed size rest ts → Lexed size (text ++ rest) (spanned size kind text rest ∷ ts)
 
 -- the most bytes that a text may have
 abbrev pub longest : ℕ

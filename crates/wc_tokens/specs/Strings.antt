@@ -1,5 +1,6 @@
 -- Strings, and the bytes that they stand for (Core 1.0, 6.3.3).
-use Rattle.std.specs.Prelude.{◌≡◌, ◌≢◌, ℕ, ◌+◌, ◌*◌, ◌≤◌, false, nat_le, nat_lt, ◌==◌, Bool, not, ◌&&◌, List, [], ◌∷◌, ◌++◌, Option, Some, None, if◌then◌else◌, encode_utf8}
+use Rattle.std.specs.Prelude.{◌≡◌, ◌≢◌, ℕ, ◌+◌, ◌*◌, ◌≤◌, false, nat_le, nat_lt, ◌==◌, Bool, not, ◌&&◌, List, [], ◌∷◌}
+use Rattle.std.specs.Prelude.{◌++◌, Option, Some, None, if◌then◌else◌, encode_utf8}
 use Rattle.std.specs.Char.{IsScalar}
 use lib.Utf8.{scalar}
 use Rattle.wc_tokens.specs.Digits.{IsDigit, Digits, digit_of, scan}
@@ -24,13 +25,16 @@ escaped c =
 pub data Element : List ℕ → List ℕ → Type 0 where
   plain : (c : ℕ) → IsPlain c → Element (c ∷ []) (c ∷ [])
   escape : (c : ℕ) {value : ℕ} → escaped c ≡ Some value → Element (92 ∷ c ∷ []) (value ∷ [])
-  byte : (high low : ℕ) → IsDigit 16 high → IsDigit 16 low → Element (92 ∷ high ∷ low ∷ []) ((16 * digit_of high + digit_of low) ∷ [])
-  unicode : {digits : List ℕ} {n : ℕ} → Digits 16 digits n → IsScalar n → Element (92 ∷ 117 ∷ 123 ∷ (digits ++ 125 ∷ [])) (encode_utf8 n)
+  byte : (high low : ℕ) → IsDigit 16 high → IsDigit 16 low
+      → Element (92 ∷ high ∷ low ∷ []) ((16 * digit_of high + digit_of low) ∷ [])
+  unicode : {digits : List ℕ} {n : ℕ} → Digits 16 digits n → IsScalar n
+      → Element (92 ∷ 117 ∷ 123 ∷ (digits ++ 125 ∷ [])) (encode_utf8 n)
 
 -- elements one after another
 pub data Elements : List ℕ → List ℕ → Type 0 where
   none : Elements [] []
-  more : {part rest value values : List ℕ} → Element part value → Elements rest values → Elements (part ++ rest) (value ++ values)
+  more : {part rest value values : List ℕ} → Element part value → Elements rest values
+      → Elements (part ++ rest) (value ++ values)
 
 -- a string: elements between two quotes
 pub record IsString (text bytes : List ℕ) : Type 0 where
@@ -60,7 +64,8 @@ pub data Taken : Type 0 where
 unfoldable pub read_byte : ℕ → List ℕ → Option Taken
 read_byte high [] = None
 read_byte high (low ∷ rest) =
-    if nat_lt (digit_of high) 16 && nat_lt (digit_of low) 16 then Some (Takes ((16 * digit_of high + digit_of low) ∷ []) rest) else None
+    if nat_lt (digit_of high) 16 && nat_lt (digit_of low) 16 then Some
+    (Takes ((16 * digit_of high + digit_of low) ∷ []) rest) else None
 
 -- the closing brace of a character's number
 abbrev pub read_closed : Option ℕ → List ℕ → Option Taken

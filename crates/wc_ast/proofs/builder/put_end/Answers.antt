@@ -4,7 +4,8 @@ use Rattle.wc_ast.specs.Entries.{mark}
 use Rattle.wc_ast.proofs.BuildingLemmas.{ended-set, ended-push, ended-first}
 use Rattle.wc_ast.proofs.BuilderLemmas.{other_of}
 use Rattle.wc_ast.proofs.builder.put_end.Goals as goal
-use Rattle.wc_ast.proofs.builder.put_end.Goals.{else-count-gt0-via-then-count-gt0+else-matches, in-Else, in_default, else-count-gt0-via-else-count-gt0}
+use Rattle.wc_ast.proofs.builder.put_end.Goals.{else-count-gt0-via-then-count-gt0+else-matches, in-Else, in_default}
+use Rattle.wc_ast.proofs.builder.put_end.Goals.{else-count-gt0-via-else-count-gt0}
 
 pub returns-then-matches-clause-ok : goal.returns-then-matches-clause-ok
 returns-then-matches-clause-ok c =

@@ -1,6 +1,7 @@
 use Rattle.std.proofs.Common.{◌≡◌, arith, suc, ◌-◌, length}
 use Rattle.wc_ast.specs.LocalGroups.{EndsWith}
-use Rattle.wc_ast.proofs.GroupLemmas.{grouped-push, written_out-push, grouped-last, written_out-last, count-last, ends-some}
+use Rattle.wc_ast.proofs.GroupLemmas.{grouped-push, written_out-push, grouped-last, written_out-last, count-last}
+use Rattle.wc_ast.proofs.GroupLemmas.{ends-some}
 use Rattle.wc_ast.proofs.locals.put.Goals as goal
 use Rattle.wc_ast.proofs.locals.put.Goals.{After-index}
 

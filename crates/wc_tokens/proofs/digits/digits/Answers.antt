@@ -1,6 +1,8 @@
 use Rattle.std.proofs.Common.{◌∙◌, arith}
 use Rattle.wc_tokens.proofs.Scans.{keeps-digit, keeps-apart, ends-other, ends-all, run_to-is}
-use Rattle.wc_tokens.proofs.digits.digits.Goals.{then-digit-base, else-digit-base+then-after_digit+then-text-at-eq95, else-after_digit-via-then-after_digit+else-text-at-eq95, else-after_digit-via-else-after_digit}
+use Rattle.wc_tokens.proofs.digits.digits.Goals.{then-digit-base, else-digit-base+then-after_digit+then-text-at-eq95}
+use Rattle.wc_tokens.proofs.digits.digits.Goals.{else-after_digit-via-then-after_digit+else-text-at-eq95}
+use Rattle.wc_tokens.proofs.digits.digits.Goals.{else-after_digit-via-else-after_digit}
 use Rattle.wc_tokens.proofs.digits.digits.Goals as goal
 
 pub returns-else-after_digit-clause-scanned : goal.returns-else-after_digit-clause-scanned
@@ -21,12 +23,17 @@ loop-at-preserved c =
     let read = c.loop-at.invariant.read in
     elim c.if-digit-base.branch [
       | then-digit-base w ↦ record {
-        read = keeps-digit c.args.base c.loop-at.after_digit c.loop-at.value text at read c.loop-at-test.true c.digit_of-digit.ensures w.if-digit-base.true (w.value-is ∙ w.extended-value.ensures) w.after_digit-is;
+        read =
+            keeps-digit c.args.base c.loop-at.after_digit c.loop-at.value text at read c.loop-at-test.true
+            c.digit_of-digit.ensures w.if-digit-base.true (w.value-is ∙ w.extended-value.ensures) w.after_digit-is;
         within = omega arith;
         begun = λ _. omega arith;
       }
       | else-digit-base+then-after_digit+then-text-at-eq95 w ↦ record {
-        read = keeps-apart c.args.base c.loop-at.after_digit c.loop-at.value text at read c.loop-at-test.true c.digit_of-digit.ensures w.if-digit-base.false w.if-after_digit.true w.if-text-at-eq95.true w.value-is w.after_digit-is;
+        read =
+            keeps-apart c.args.base c.loop-at.after_digit c.loop-at.value text at read c.loop-at-test.true
+            c.digit_of-digit.ensures w.if-digit-base.false w.if-after_digit.true w.if-text-at-eq95.true w.value-is
+            w.after_digit-is;
         within = omega arith;
         begun = λ _. omega arith;
       }

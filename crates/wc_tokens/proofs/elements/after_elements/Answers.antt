@@ -8,10 +8,17 @@ pub loop-element-init : goal.loop-element-init
 loop-element-init c = ([], [], refl, none)
 
 pub loop-element-preserved : goal.loop-element-preserved
-loop-element-preserved c = EndsElements-step c.args.text.now c.loop-element.rest.now (bytes_of c.in-Some.element.meaning) c.in-Some.element.rest.now c.loop-element.invariant c.read_element.ensures (ap (option_map taken) c.in-Some.is)
+loop-element-preserved c =
+    EndsElements-step c.args.text.now c.loop-element.rest.now
+    (bytes_of c.in-Some.element.meaning) c.in-Some.element.rest.now c.loop-element.invariant c.read_element.ensures
+    (ap (option_map taken) c.in-Some.is)
 
 pub loop-element-smaller : goal.loop-element-smaller
-loop-element-smaller c = read_element-shorter c.loop-element.rest.now (bytes_of c.in-Some.element.meaning) c.in-Some.element.rest.now (sym c.read_element.ensures ∙ ap (option_map taken) c.in-Some.is)
+loop-element-smaller c =
+    read_element-shorter c.loop-element.rest.now (bytes_of c.in-Some.element.meaning) c.in-Some.element.rest.now
+    (sym c.read_element.ensures ∙ ap (option_map taken) c.in-Some.is)
 
 pub returns : goal.returns
-returns c = EndsElements-end c.args.text.now c.loop-element.rest.now c.loop-element.invariant c.read_element.ensures (ap (option_map taken) c.in_default.is)
+returns c =
+    EndsElements-end c.args.text.now c.loop-element.rest.now c.loop-element.invariant c.read_element.ensures
+    (ap (option_map taken) c.in_default.is)

@@ -2,7 +2,10 @@ use Rattle.wc_tokens.proofs.RunLaws.{lex-only, lex-only-fault}
 use Rattle.wc_tokens.proofs.lexer.lex.Goals as goal
 
 pub returns-clause-only : goal.returns-clause-only
-returns-clause-only c = lex-only c.args.text.now c.tokens_or_fault.result c.tokens_or_fault.ensures.tokens c.tokens_or_fault.ensures.fault
+returns-clause-only c =
+    lex-only c.args.text.now c.tokens_or_fault.result c.tokens_or_fault.ensures.tokens c.tokens_or_fault.ensures.fault
 
 pub returns-clause-only_fault : goal.returns-clause-only_fault
-returns-clause-only_fault c = lex-only-fault c.args.text.now c.tokens_or_fault.result c.tokens_or_fault.ensures.tokens c.tokens_or_fault.ensures.fault
+returns-clause-only_fault c =
+    lex-only-fault c.args.text.now c.tokens_or_fault.result c.tokens_or_fault.ensures.tokens
+    c.tokens_or_fault.ensures.fault

@@ -8,7 +8,11 @@ pub returns-then-text-gt-LONGEST-clause-fault : goal.returns-then-text-gt-LONGES
 returns-then-text-gt-LONGEST-clause-fault c = too_long (omega (arith, c.if-text-gt-LONGEST.true))
 
 pub returns-in-Ok-clause-fault : goal.returns-in-Ok-clause-fault
-returns-in-Ok-clause-fault c = IsFault-stop c.args.text.now c.in-Ok.text.now c.tokens.result (omega (arith, c.if-text-gt-LONGEST.false)) (c.in-Ok.ensures {u = tt}).cases c.tokens.ensures.fault
+returns-in-Ok-clause-fault c =
+    IsFault-stop c.args.text.now c.in-Ok.text.now c.tokens.result (omega (arith, c.if-text-gt-LONGEST.false))
+    (c.in-Ok.ensures {u = tt}).cases c.tokens.ensures.fault
 
 pub returns-in-Err-clause-fault : goal.returns-in-Err-clause-fault
-returns-in-Err-clause-fault c = not_utf8 (omega (arith, c.if-text-gt-LONGEST.false)) (subst (IsValidUpTo c.args.text.now) (sym c.valid_up_to.ensures) c.in-Err.ensures.cases.1)
+returns-in-Err-clause-fault c =
+    not_utf8 (omega (arith, c.if-text-gt-LONGEST.false))
+    (subst (IsValidUpTo c.args.text.now) (sym c.valid_up_to.ensures) c.in-Err.ensures.cases.1)

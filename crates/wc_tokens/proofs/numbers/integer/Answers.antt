@@ -3,13 +3,22 @@ use Rattle.wc_tokens.proofs.numbers.integer.Goals.{After-limited, After-negated,
 use Rattle.wc_tokens.proofs.numbers.integer.Goals as goal
 
 plus : (c : After-limited) → IsInteger c.args.bits c.args.text.now c.limited.result
-plus c = IsInteger-plus c.args.bits c.largest-max.result c.args.text.now c.as_bytes-text.result.now c.in-Some.digits.now c.natural.result c.requires c.largest-max.ensures c.as_bytes-text.ensures.value c.in-Some.ensures c.natural.ensures c.limited.ensures
+plus c =
+    IsInteger-plus c.args.bits c.largest-max.result c.args.text.now c.as_bytes-text.result.now c.in-Some.digits.now
+    c.natural.result c.requires c.largest-max.ensures c.as_bytes-text.ensures.value c.in-Some.ensures c.natural.ensures
+    c.limited.ensures
 
 minus : (c : After-negated) → IsInteger c.args.bits c.args.text.now c.negated.result
-minus c = IsInteger-minus c.args.bits c.largest-max.result c.args.text.now c.as_bytes-text.result.now c.in-Some-behind.digits.now c.natural-in-Some-behind.result c.requires c.largest-max.ensures c.as_bytes-text.ensures.value c.in-Some-behind.ensures c.natural-in-Some-behind.ensures c.negated.ensures
+minus c =
+    IsInteger-minus c.args.bits c.largest-max.result c.args.text.now c.as_bytes-text.result.now
+    c.in-Some-behind.digits.now c.natural-in-Some-behind.result c.requires c.largest-max.ensures
+    c.as_bytes-text.ensures.value c.in-Some-behind.ensures c.natural-in-Some-behind.ensures c.negated.ensures
 
 unsigned : (c : After-limited-2) → IsInteger c.args.bits c.args.text.now c.limited-2.result
-unsigned c = IsInteger-unsigned c.args.bits c.largest-max.result c.args.text.now c.as_bytes-text.result.now c.natural-2.result c.requires c.largest-max.ensures c.as_bytes-text.ensures.value (rw c.in_default.is at c.behind.ensures) (rw c.in_default-behind.is at c.behind-2.ensures) c.natural-2.ensures c.limited-2.ensures
+unsigned c =
+    IsInteger-unsigned c.args.bits c.largest-max.result c.args.text.now c.as_bytes-text.result.now c.natural-2.result
+    c.requires c.largest-max.ensures c.as_bytes-text.ensures.value (rw c.in_default.is at c.behind.ensures)
+    (rw c.in_default-behind.is at c.behind-2.ensures) c.natural-2.ensures c.limited-2.ensures
 
 pub returns-in-Some-clause-value : goal.returns-in-Some-clause-value
 returns-in-Some-clause-value c = (plus c).value

@@ -12,4 +12,5 @@ from_entries-requires c =
 pub returns-clause-ok : goal.returns-clause-ok
 returns-clause-ok c =
     let z : length (drafted c.self.inside.entries.items).around ≡ 0 = rw c.self.view_is (omega arith) in
-    rw (← c.self.view_is, c.from_entries.ensures, c.shrink_to_fit.ensures.items) ((building-whole part_in _ _ c.self.invariant z).1)
+    rw (← c.self.view_is, c.from_entries.ensures, c.shrink_to_fit.ensures.items)
+    ((building-whole part_in _ _ c.self.invariant z).1)

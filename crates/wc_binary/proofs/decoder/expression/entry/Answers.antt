@@ -3,7 +3,8 @@ use Rattle.wc_ast.specs.declared.op.OpByte.TheVariants.{Known, Float}
 use Rattle.wc_binary.proofs.Going.{GoesOn-refl}
 use Rattle.wc_binary.proofs.ReadingEntries.{opcode-is, no-entry}
 use Rattle.wc_binary.proofs.decoder.expression.entry.Goals as goal
-use Rattle.wc_binary.proofs.decoder.expression.entry.Goals.{else-byte-eq5-via-then-byte-eq5+else-in_first_part, else-byte-eq5-via-else-byte-eq5}
+use Rattle.wc_binary.proofs.decoder.expression.entry.Goals.{else-byte-eq5-via-then-byte-eq5+else-in_first_part}
+use Rattle.wc_binary.proofs.decoder.expression.entry.Goals.{else-byte-eq5-via-else-byte-eq5}
 
 pub returns-in-Known-clause-gives : goal.returns-in-Known-clause-gives
 returns-in-Known-clause-gives g c =

@@ -8,4 +8,5 @@ abbrev pub invariant-loop-b : goal.invariant-loop-b
 invariant-loop-b g l =
     let old = g.S.Source.input l.fn.source in
     let now = g.S.Source.input l.source in
-    Leads old now (read (exactly (drop l.b-index l.bytes) l.why) now.place now.left) (read (exactly l.bytes l.why) old.place old.left)
+    Leads old now (read (exactly (drop l.b-index l.bytes) l.why) now.place now.left)
+    (read (exactly l.bytes l.why) old.place old.left)

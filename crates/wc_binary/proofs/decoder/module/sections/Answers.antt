@@ -16,16 +16,19 @@ returns-in-None g c =
 pub returns-in-Err : goal.returns-in-Err
 returns-in-Err g c =
     let s = rw c.in-Some.is at c.in_ok-next.ensures in
-    rw c.place-at.ensures (finds-no-id _ _ _ _ _ c.loop-parts.invariant c.in-Some.byte s c.in-Err.why (sym c.in-Err.ensures))
+    rw c.place-at.ensures
+    (finds-no-id _ _ _ _ _ c.loop-parts.invariant c.in-Some.byte s c.in-Err.why (sym c.in-Err.ensures))
 
 pub returns-in_err-section : goal.returns-in_err-section
 returns-in_err-section g c =
     let s = rw c.in-Some.is at c.in_ok-next.ensures in
     let p = err_from_is_err_and c.from_residual-in_err-section.result c.from_residual-in_err-section.ensures.1 in
-    rw (p.1, p.2) (content-fails _ _ _ _ _ c.loop-parts.invariant c.in-Some.byte s c.in-Ok.kind (sym c.in-Ok.ensures) _ c.in_err-section.field-0.0 c.in_err-section.ensures)
+    rw (p.1, p.2)
+    (content-fails _ _ _ _ _ c.loop-parts.invariant c.in-Some.byte s c.in-Ok.kind (sym c.in-Ok.ensures) _ c.in_err-section.field-0.0 c.in_err-section.ensures)
 
 pub loop-parts-preserved : goal.loop-parts-preserved
 loop-parts-preserved g c =
     let s = rw c.in-Some.is at c.in_ok-next.ensures in
-    let more = finds-more _ _ _ _ _ c.loop-parts.invariant c.in-Some.byte s c.in-Ok.kind (sym c.in-Ok.ensures) c.in_ok-section.section _ c.in_ok-section.ensures in
+    let more = finds-more _ _ _ _ _ c.loop-parts.invariant c.in-Some.byte s c.in-Ok.kind
+    (sym c.in-Ok.ensures) c.in_ok-section.section _ c.in_ok-section.ensures in
     rw (c.max-last.ensures, c.number.ensures, c.put.ensures) more

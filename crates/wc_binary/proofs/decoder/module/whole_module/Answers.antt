@@ -11,12 +11,16 @@ returns-in_err-preamble g c =
 pub returns-in_err-parts : goal.returns-in_err-parts
 returns-in_err-parts g c =
     let p = err_from_is_err_and c.from_residual-in_err-parts.result c.from_residual-in_err-parts.ensures.1 in
-    rw (p.1, p.2) (sections-fail _ _ _ c.requires tt c.in_ok-preamble.ensures c.in_err-parts.field-0.0 c.in_err-parts.ensures)
+    rw (p.1, p.2)
+    (sections-fail _ _ _ c.requires tt c.in_ok-preamble.ensures c.in_err-parts.field-0.0 c.in_err-parts.ensures)
 
 pub returns-then-len : goal.returns-then-len
 returns-then-len g c =
-    rw c.place.ensures (counts-fail _ _ _ c.requires tt c.in_ok-preamble.ensures c.in_ok-parts.parts c.in_ok-parts.ensures
+    rw c.place.ensures
+    (counts-fail _ _ _ c.requires tt c.in_ok-preamble.ensures c.in_ok-parts.parts c.in_ok-parts.ensures
     (λ e. absurd (omega (arith, e, c.len.ensures, c.len-2.ensures, c.if-len.true))))
 
 pub returns : goal.returns
-returns g c = module-whole _ _ _ c.requires tt c.in_ok-preamble.ensures c.in_ok-parts.parts c.in_ok-parts.ensures c.in_ok-into_module.field-0 c.in_ok-into_module.ensures
+returns g c =
+    module-whole _ _ _ c.requires tt c.in_ok-preamble.ensures c.in_ok-parts.parts c.in_ok-parts.ensures
+    c.in_ok-into_module.field-0 c.in_ok-into_module.ensures

@@ -8,4 +8,5 @@ abbrev pub invariant-loop : goal.invariant-loop
 invariant-loop g l =
     let old = g.S.Source.input l.fn.source in
     let now = g.S.Source.input l.source in
-    Leads old now (with_front l.parts (read (times (l.count - l.counter) g.P.Part.phrase) now.place now.left)) (read (times l.count g.P.Part.phrase) old.place old.left)
+    Leads old now (with_front l.parts (read (times (l.count - l.counter) g.P.Part.phrase) now.place now.left))
+    (read (times l.count g.P.Part.phrase) old.place old.left)

@@ -8,7 +8,8 @@ use Rattle.wc_binary.proofs.SignedTaking.{held-first, held-done, held-bad, held-
 use Rattle.wc_binary.proofs.decoder.signed.signed_from.Goals as goal
 
 pub loop-value-init : goal.loop-value-init
-loop-value-init g c = ([], c.new-so_far.ensures, continues.nothing-unfinished g.row.N, held-first _ _ _ c.requires.behind)
+loop-value-init g c =
+    ([], c.new-so_far.ensures, continues.nothing-unfinished g.row.N, held-first _ _ _ c.requires.behind)
 
 pub returns-in-Done-clause-gives : goal.returns-in-Done-clause-gives
 returns-in-Done-clause-gives g c =

@@ -9,4 +9,5 @@ abbrev pub invariant-loop : goal.invariant-loop
 invariant-loop g l =
     let old = g.S.Source.input l.fn.source in
     let now = g.S.Source.input l.source in
-    Leads old now (with_front l.tables (read (times (l.count - l.counter) table_type) now.place now.left)) (read (times l.count table_type) old.place old.left)
+    Leads old now (with_front l.tables (read (times (l.count - l.counter) table_type) now.place now.left))
+    (read (times l.count table_type) old.place old.left)

@@ -1,6 +1,7 @@
 use Rattle.std.proofs.Common.{◌≡◌, true, false, sym, ◌∙◌, rules}
 use Rattle.std.proofs.lemmas.Result.{err_from_is_err_and}
-use Rattle.wc_binary.proofs.ReadingEntries.{draws-none, next-none, entry-fails, entry-adds, entry-ends, goes-on, comes-last}
+use Rattle.wc_binary.proofs.ReadingEntries.{draws-none, next-none, entry-fails, entry-adds, entry-ends, goes-on}
+use Rattle.wc_binary.proofs.ReadingEntries.{comes-last}
 use Rattle.wc_binary.proofs.decoder.expression.BodyPart.read.Goals as goal
 
 pub entries-init : goal.entries-init

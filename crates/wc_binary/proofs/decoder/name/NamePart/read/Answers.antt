@@ -13,7 +13,8 @@ returns-in_err-count g c =
 pub returns-in_err-bytes : goal.returns-in_err-bytes
 returns-in_err-bytes g c =
     let p = err_from_is_err_and c.from_residual-in_err-bytes.result c.from_residual-in_err-bytes.ensures.1 in
-    rw (p.1, p.2) (name-bytes _ _ _ c.in_ok-count.count c.in_ok-count.ensures c.in_err-bytes.field-0.0 c.in_err-bytes.ensures)
+    rw (p.1, p.2)
+    (name-bytes _ _ _ c.in_ok-count.count c.in_ok-count.ensures c.in_err-bytes.field-0.0 c.in_err-bytes.ensures)
 
 pub returns-in-Err : goal.returns-in-Err
 returns-in-Err g c = (
