@@ -1,5 +1,6 @@
 -- One more entry of a body that is being built.
-use Rattle.std.proofs.Common.{◌≡◌, Bool, true, false, List, [], ◌∷◌, ◌++◌, refl, ◌<◌, length}
+use Rattle.std.proofs.Common.{◌≡◌, ℕ, ◌<◌, ◌+◌, Bool, true, false, List, [], ◌∷◌, ◌++◌, length, set, take}
+use Rattle.std.proofs.Common.{refl, sym, ap, subst, ◌∙◌, arith}
 use Rattle.std.proofs.lemmas.List.{map-append}
 use Rattle.std.specs.Prelude.{Result, Ok, Err, OnOk, IsErrOf}
 use Rattle.wc_ast.specs.declared.instr.BlockType.{BlockType}
@@ -7,24 +8,28 @@ use Rattle.wc_ast.specs.declared.instr.Instr.{Instr}
 use Rattle.wc_ast.specs.declared.entry.Kind.{Kind}
 use Rattle.wc_ast.specs.declared.entry.Kind.TheVariants.{Block, Loop, If}
 use Rattle.wc_ast.specs.declared.entry.Entry.{Entry}
-use Rattle.wc_ast.specs.declared.entry.Entry.TheVariants.{Plain, Begin, Else, End}
+use Rattle.wc_ast.specs.declared.entry.Entry.TheVariants.{Begin, Else, End}
 use Rattle.wc_ast.specs.declared.builder.Part.{Part}
 use Rattle.wc_ast.specs.declared.builder.Part.TheVariants.{Other}
 use Rattle.wc_ast.specs.declared.builder.BuildFault.{BuildFault}
 use Rattle.wc_ast.specs.declared.builder.BuildFault.TheVariants as BuildFaults
-use Rattle.wc_ast.specs.Nested.{nesting_limit, Code, empty, Mark}
+use Rattle.wc_ast.specs.Nested.{nesting_limit, Code, empty, Mark, close}
 use Rattle.wc_ast.specs.Draft.{Frame, in_region, in_then, in_else, in_first_part, turned, Draft, whole, step, begins}
-use Rattle.wc_ast.specs.Draft.{adds, takes, is_otherwise, so_far, with_mark}
+use Rattle.wc_ast.specs.Draft.{adds, takes, is_otherwise, is_open, built, so_far, with_mark}
 use Rattle.wc_ast.specs.NestedLaws.{steps-append}
 use Rattle.wc_ast.specs.Entries.{begin_of, mark, marks, drafted}
 use Rattle.wc_ast.specs.Building.{outermost, IsBuilding}
 use Rattle.wc_ast.specs.OpenParts.{part_of, part_in}
-use Rattle.wc_ast.proofs.BuildingLemmas.{building-push, kept, HeadPart}
+use Rattle.wc_ast.specs.InstructionBytes.{opening_bytes, block_type_bytes, entry_bytes, FitsEntry, FitsBlockType}
+use Rattle.wc_ast.specs.Unpacked.{unpacked}
+use Rattle.wc_ast.specs.PackedBody.{ends_with_else, with_end, IsStarted}
+use Rattle.wc_ast.proofs.BuildingLemmas.{building-more, building-push, ended-built, kept, HeadPart, outermost-turned, outermost-closed}
+use Rattle.wc_ast.proofs.PackedLemmas.{packs-none, packs-more, ends-more, packs-end}
 
 pub drafted-push : (es : List Entry) (e : Entry) → drafted (es ++ e ∷ []) ≡ step (drafted es) (mark e)
 drafted-push es e = rw (map-append mark es (e ∷ [])) (steps-append (whole empty) (marks es) (mark e ∷ []))
 
-pub entry-push : (es : List Entry) (stack : List Part) (e : Entry) (new : List Part)
+entry-push : (es : List Entry) (stack : List Part) (e : Entry) (new : List Part)
     → IsBuilding part_in (marks es) stack → adds (drafted es) (mark e) ≡ true
     → (begins (mark e) ≡ true → length (drafted es).around < nesting_limit)
     → new ≡ outermost part_in (step (drafted es) (mark e)).around
@@ -32,13 +37,61 @@ pub entry-push : (es : List Entry) (stack : List Part) (e : Entry) (new : List P
 entry-push es stack e new b can room stacked = rw (map-append mark es (e ∷ []))
     (building-push part_in (marks es) stack (mark e) new b can room stacked)
 
-pub other_of : (e : Entry) → (e ≡ Else → ⊥) → is_otherwise (mark e) ≡ false
-other_of (Plain i) h = refl
-other_of (Begin Block t) h = refl
-other_of (Begin Loop t) h = refl
-other_of (Begin If t) h = refl
-other_of Else h = absurd (h refl)
-other_of End h = refl
+-- nothing so far
+pub drafted-none : drafted (unpacked []) ≡ whole empty
+drafted-none = ap drafted packs-none.is
+
+pub started-none : IsStarted [] [] false
+started-none = record {
+  packed = packs-none.packed;
+  building = rw packs-none.is nothing;
+  last = ap ends_with_else (sym packs-none.is);
+}
+  where
+    nothing : IsBuilding part_in (marks []) []
+    nothing = record { each = tt; stacked = refl; within = omega arith; depth = omega arith }
+
+-- what a builder keeps, and what it stands for, behind one more entry
+pub record Pushed (x : List ℕ) (e : Entry) (new : List ℕ) (parts : List Part) (after_else : Bool) : Type 0 where
+  pub started : IsStarted new parts after_else
+  pub drafted : drafted (unpacked new) ≡ step (drafted (unpacked x)) (mark e)
+
+pub started-push : (x : List ℕ) (old : List Part) (b : Bool) → IsStarted x old b → (e : Entry) → FitsEntry e
+    → (new : List ℕ) (parts : List Part) (after_else : Bool) → new ≡ x ++ entry_bytes e
+    → adds (drafted (unpacked x)) (mark e) ≡ true
+    → (begins (mark e) ≡ true → length (drafted (unpacked x)).around < nesting_limit)
+    → parts ≡ outermost part_in (step (drafted (unpacked x)) (mark e)).around → after_else ≡ is_otherwise (mark e)
+    → Pushed x e new parts after_else
+started-push x old b s e f new parts after_else is can room stacked last =
+    let k = packs-more x s.packed e f new is in
+    let building = entry-push (unpacked x) old e parts s.building can room stacked in
+    record {
+      started = record {
+        packed = k.packed;
+        building = subst (λ (es : List Entry). IsBuilding part_in (marks es) parts) (sym k.is) building;
+        last = last ∙ sym (ends-more (unpacked x) e) ∙ ap ends_with_else (sym k.is);
+      };
+      drafted = ap drafted k.is ∙ drafted-push (unpacked x) e;
+    }
+
+-- and behind an end mark
+pub started-end : (x : List ℕ) (old : List Part) (b : Bool) → IsStarted x old b → (new : List ℕ) (parts : List Part)
+    → new ≡ with_end b x → is_open (drafted (unpacked x)).around ≡ true
+    → parts ≡ outermost part_in (step (drafted (unpacked x)) close).around → Pushed x End new parts false
+started-end x old b s new parts is open_ stacked =
+    let k = packs-end x s.packed b s.last new is in
+    let e = ended-built (marks (unpacked x)) s.building.each open_ in
+    let same : built (marks (unpacked new)) ≡ step (drafted (unpacked x)) close =
+    ap (λ (ms : List (Mark Instr BlockType)). built ms) k.marks ∙ e.same in
+    record {
+      started = record {
+        packed = k.packed;
+        building = building-more part_in (marks (unpacked x)) old (marks (unpacked new)) parts close s.building
+            (rw k.marks e.each) same (λ e. absurd cc) stacked;
+        last = sym k.last;
+      };
+      drafted = same;
+    }
 
 -- behind an else the innermost one is in no first part
 pub head-other : (around : List (Frame Instr BlockType)) (last : Code Instr BlockType) → in_first_part around ≡ true
@@ -53,11 +106,47 @@ begin-adds d Block t = refl
 begin-adds d Loop t = refl
 begin-adds d If t = refl
 
+pub begin-last : (kind : Kind) (t : BlockType) → false ≡ is_otherwise (begin_of kind t)
+begin-last Block t = refl
+begin-last Loop t = refl
+begin-last If t = refl
+
 pub begin-parts : (d : Draft Instr BlockType) (kind : Kind) (t : BlockType)
     → outermost part_in d.around ++ part_of kind ∷ [] ≡ outermost part_in (step d (begin_of kind t)).around
 begin-parts d Block t = refl
 begin-parts d Loop t = refl
 begin-parts d If t = refl
+
+-- ---- each kind of entry
+
+pub begin-pushed : (x : List ℕ) (old : List Part) (b : Bool) → IsStarted x old b → (kind : Kind) (t : BlockType)
+    → FitsBlockType t → (new : List ℕ) (parts : List Part) → new ≡ x ++ (opening_bytes kind ++ block_type_bytes t)
+    → length (drafted (unpacked x)).around < nesting_limit → parts ≡ old ++ part_of kind ∷ []
+    → Pushed x (Begin kind t) new parts false
+begin-pushed x old b s kind t f new parts is room stacked =
+    let d = drafted (unpacked x) in
+    started-push x old b s (Begin kind t) f new parts false is (begin-adds d kind t) (λ _. room)
+    (stacked ∙ ap (λ (ps : List Part). ps ++ part_of kind ∷ []) s.building.stacked ∙ begin-parts d kind t)
+    (begin-last kind t)
+
+pub else-pushed : (x : List ℕ) (old : List Part) (b : Bool) → IsStarted x old b → (new : List ℕ) (k : ℕ)
+    → new ≡ x ++ 0x05 ∷ [] → in_first_part (drafted (unpacked x)).around ≡ true → k + 1 ≡ length old
+    → Pushed x Else new (set old k Other) true
+else-pushed x old b s new k is can last =
+    let d = drafted (unpacked x) in
+    started-push x old b s Else tt new (set old k Other) true is can (λ e. absurd cc)
+    (rw s.building.stacked (outermost-turned part_in d.around d.last Other k can (head-other d.around d.last can)
+    (last ∙ ap (λ (ps : List Part). length ps) s.building.stacked)))
+    refl
+
+pub end-pushed : (x : List ℕ) (old : List Part) (b : Bool) → IsStarted x old b → (new : List ℕ) (k : ℕ)
+    → new ≡ with_end b x → is_open (drafted (unpacked x)).around ≡ true → k + 1 ≡ length old
+    → Pushed x End new (take k old) false
+end-pushed x old b s new k is can last =
+    let d = drafted (unpacked x) in
+    started-end x old b s new (take k old) is can
+    (rw s.building.stacked (outermost-closed part_in d.around d.last k
+    (last ∙ ap (λ (ps : List Part). length ps) s.building.stacked)))
 
 module _ {P H : Type 0} where
   pub kept-where : (r : Result (Unit {0}) BuildFault) (old new : Draft P H) (m : Mark P H) → OnOk r (new ≡ step old m)

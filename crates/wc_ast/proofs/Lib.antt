@@ -1,6 +1,12 @@
 mod NameLemmas
 mod Names
 mod MeaningLemmas
+pub mod OpcodeMeanings
+mod Integers
+mod Unpacking
+mod PutBytes
+mod PackedLemmas
+mod TellingLemmas
 pub mod GroupLemmas
 mod EntryLemmas
 pub mod BuildingLemmas
@@ -10,3 +16,4 @@ pub mod Reaching
 pub mod Walks
 pub mod Emitting
 pub mod PartLemmas
+mod EntryBytes

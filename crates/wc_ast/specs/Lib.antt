@@ -1,5 +1,7 @@
 pub mod Opcodes
 pub mod ByteMeaning
+pub mod OpcodeMeaning
+pub mod ValueBytes
 pub mod NameMeaning
 pub mod LocalGroups
 pub mod Nested
@@ -7,9 +9,16 @@ pub mod Draft
 pub mod NestedLaws
 pub mod NestedCodes
 pub mod Entries
+pub mod InstrCode
+pub mod InstructionBytes
+pub mod Fronts
+pub mod Told
+pub mod Unpacked
+pub mod LabelItems
 pub mod Building
 pub mod OpenParts
 pub mod Grammar
 pub mod Placed
 pub mod Pieces
 pub mod Parts
+pub mod PackedBody

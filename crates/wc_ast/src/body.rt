@@ -2,7 +2,7 @@
 
 ghost use Rattle.std.specs.Prelude.{◌≡◌, IfOk};
 
-use crate::entry::Entry;
+use crate::entries::Entries;
 use crate::try_clone::TryClone;
 use std::alloc::AllocError;
 use std::marker::Model;
@@ -12,61 +12,70 @@ use std::marker::Model;
 pub const NESTING_LIMIT: usize = 20_000;
 
 /// An expression (Core 1.0, 2.4.7). A contract sees the instructions nested in one another, at most `NESTING_LIMIT`
-/// deep. They are kept as one row of entries, so no call on a body calls itself.
+/// deep. They are kept as one row of entries, each by its canonical bytes, so no call on a body calls itself.
 #[derive(Debug, Drop)]
 pub struct Body {
-    entries: Vec<Entry>,
+    bytes: Vec<u8>,
 }
 
 impl Model for Body {
     ghost use Rattle.wc_ast.specs.Nested.{Code};
     ghost use Rattle.wc_ast.specs.NestedCodes.{code_code};
+    ghost use Rattle.wc_ast.specs.InstrCode.{instr_code};
     ghost use Rattle.wc_ast.specs.declared.instr.BlockType.{BlockType};
     ghost use Rattle.wc_ast.specs.declared.instr.Instr.{Instr};
     ghost use Rattle.wc_ast.specs.contracts.instr.BlockType as block_type;
-    ghost use Rattle.wc_ast.specs.contracts.instr.Instr as instr;
 
     ghost Value = { Code Instr BlockType };
 
-    ghost coded = { code_code instr.the_row.coded block_type.the_row.coded };
+    ghost coded = { code_code instr_code block_type.the_row.coded };
 
-    ghost use Rattle.wc_ast.specs.Entries.{marks, nested};
-    ghost use Rattle.wc_ast.specs.Building.{IsWhole};
+    ghost use Rattle.wc_ast.specs.Entries.{nested};
+    ghost use Rattle.wc_ast.specs.Unpacked.{unpacked, IsPacked};
+    ghost use Rattle.wc_ast.specs.PackedBody.{IsBody};
 
-    ghost view = { λ body. nested body.entries.items };
+    ghost view = { λ body. nested (unpacked body.bytes.items) };
 
-    ghost invariant = { λ body. IsWhole (marks body.entries.items) };
+    ghost invariant = { λ body. IsBody body.bytes.items };
 }
 
 impl Body {
     ghost use Rattle.std.specs.Prelude.{◌≡◌, ◌≤◌};
     ghost use Rattle.wc_ast.specs.Nested.{flatten, nesting, nesting_limit};
-    ghost use Rattle.wc_ast.specs.Entries.{marks, nested};
-    ghost use Rattle.wc_ast.specs.Building.{IsWhole};
+    ghost use Rattle.wc_ast.specs.Entries.{nested};
+    ghost use Rattle.wc_ast.specs.InstructionBytes.{code_bytes, FitsExpr};
+    ghost use Rattle.wc_ast.specs.Unpacked.{unpacked};
+    ghost use Rattle.wc_ast.specs.PackedBody.{IsBody};
 
-    pub(crate) fn from_entries(entries: Vec<Entry>) -> Body
-        requires { IsWhole (marks entries.items) }
-        ensures { result ≡ nested entries.items }
+    pub(crate) fn from_bytes(bytes: Vec<u8>) -> Body
+        requires { IsBody bytes.items }
+        ensures { result ≡ nested (unpacked bytes.items) }
     {
-        Body { entries }
+        Body { bytes }
     }
 
     /// The entries, in order. Each `Begin` has its `End`; the end of the body itself has no entry. An `Else` stands
     /// only before an else part with an instruction.
-    pub fn entries(&self) -> &[Entry]
-        ensures marks { marks result.now ≡ flatten self.now }
+    pub fn entries(&self) -> Entries<'_>
+        ensures marks { result ≡ flatten self.now }
         ensures within { nesting self.now ≤ nesting_limit }
     {
-        self.entries.as_slice()
+        Entries::of_bytes(self.bytes.as_slice())
+    }
+
+    /// The canonical bytes of the instructions (Core 1.0, 5.4), without the byte that ends an expression. They are at
+    /// hand: it takes no time.
+    pub fn bytes(&self) -> &[u8]
+        ensures bytes { result.now ≡ code_bytes self.now }
+        ensures fits { FitsExpr self.now }
+    {
+        self.bytes.as_slice()
     }
 }
 
 impl TryClone for Body {
     fn try_clone(&self) -> Result<Body, AllocError> {
-        let mut entries = Vec::with_capacity(*self.entries.allocator(), self.entries.len())?;
-        for entry in &self.entries {
-            entries.push(entry.try_clone()?)?;
-        }
-        Ok(Body { entries })
+        let bytes = Vec::from_slice(*self.bytes.allocator(), self.bytes.as_slice())?;
+        Ok(Body { bytes })
     }
 }

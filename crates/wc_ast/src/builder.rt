@@ -1,12 +1,12 @@
 //! Bodies, entry by entry.
 
-ghost use Rattle.std.specs.Prelude.{◌≡◌, OnOk, OnErr, IfErr};
+ghost use Rattle.std.specs.Prelude.{◌≡◌, ◌<◌, true, length, OnOk, OnErr, IfErr};
 ghost use Rattle.wc_ast.specs.OpenParts.{part_of};
-ghost use Rattle.wc_ast.specs.Draft.{ended};
-ghost use Rattle.wc_ast.specs.Entries.{marks};
+ghost use Rattle.wc_ast.specs.PackedBody.{with_end};
 ghost use Rattle.wc_ast.specs.declared.builder.BuildFault.TheVariants.{Memory};
 
 use crate::body::{Body, NESTING_LIMIT};
+use crate::bytes::put::{put_begin, put_instr};
 use crate::entry::{Entry, Kind};
 use crate::instr::{BlockType, Instr};
 use std::alloc::{AllocError, AllocFailed, Global};
@@ -55,9 +55,12 @@ enum Part {
 /// A body that is being built. A contract sees what is open, and what each open one has so far.
 #[derive(Debug, Drop)]
 pub struct BodyBuilder {
-    entries: Vec<Entry>,
+    // Of each entry so far, its canonical bytes.
+    bytes: Vec<u8>,
     // Of each that is open, outermost first.
     parts: Vec<Part>,
+    // Whether the last entry is an `Else`.
+    after_else: bool,
 }
 
 impl Model for BodyBuilder {
@@ -66,19 +69,19 @@ impl Model for BodyBuilder {
     ghost use Rattle.wc_ast.specs.declared.instr.BlockType.{BlockType};
     ghost use Rattle.wc_ast.specs.declared.instr.Instr.{Instr};
     ghost use Rattle.wc_ast.specs.contracts.instr.BlockType as block_type;
-    ghost use Rattle.wc_ast.specs.contracts.instr.Instr as instr;
+    ghost use Rattle.wc_ast.specs.InstrCode.{instr_code};
 
     ghost Value = { Draft Instr BlockType };
 
-    ghost coded = { draft_code instr.the_row.coded block_type.the_row.coded };
+    ghost coded = { draft_code instr_code block_type.the_row.coded };
 
-    ghost use Rattle.wc_ast.specs.Building.{IsBuilding};
-    ghost use Rattle.wc_ast.specs.Entries.{marks, drafted};
-    ghost use Rattle.wc_ast.specs.OpenParts.{part_in};
+    ghost use Rattle.wc_ast.specs.Entries.{drafted};
+    ghost use Rattle.wc_ast.specs.Unpacked.{unpacked};
+    ghost use Rattle.wc_ast.specs.PackedBody.{IsStarted};
 
-    ghost view = { λ builder. drafted builder.entries.items };
+    ghost view = { λ builder. drafted (unpacked builder.bytes.items) };
 
-    ghost invariant = { λ builder. IsBuilding part_in (marks builder.entries.items) builder.parts.items };
+    ghost invariant = { λ builder. IsStarted builder.bytes.items builder.parts.items builder.after_else };
 }
 
 impl BodyBuilder {
@@ -94,8 +97,9 @@ impl BodyBuilder {
         ensures { result ≡ whole empty }
     {
         BodyBuilder {
-            entries: Vec::new(alloc),
+            bytes: Vec::new(alloc),
             parts: Vec::new(alloc),
+            after_else: false,
         }
     }
 
@@ -117,12 +121,13 @@ impl BodyBuilder {
     }
 
     #[inline(always)]
-    fn push_plain(&mut self, instr: Instr) -> Result<(), BuildFault>
-        ensures ok { OnOk result (self.new ≡ step self.old (plain instr)) }
+    fn push_plain(&mut self, instr: Instr<'_>) -> Result<(), BuildFault>
+        ensures ok { OnOk result (self.new ≡ step self.old (plain instr.entry)) }
         ensures err { OnErr result (self.new ≡ self.old) }
         ensures memory { IfErr result (λ fault. fault ≡ faults.Memory) }
     {
-        self.entries.push(Entry::Plain(instr))?;
+        put_instr(&mut self.bytes, instr)?;
+        self.after_else = false;
         Ok(())
     }
 
@@ -137,8 +142,9 @@ impl BodyBuilder {
             return Err(BuildFault::Depth);
         }
         self.parts.reserve(1)?;
-        self.entries.push(Entry::Begin(kind, block_type))?;
-        let _ = self.parts.push(first_part_of(kind));
+        put_begin(&mut self.bytes, kind, block_type)?;
+        self.parts.push_reserved(first_part_of(kind));
+        self.after_else = false;
         Ok(())
     }
 
@@ -151,9 +157,10 @@ impl BodyBuilder {
         if !self.in_first_part() {
             return Err(BuildFault::Mark);
         }
-        self.entries.push(Entry::Else)?;
+        self.bytes.push(0x05)?;
         let at = self.parts.len() - 1;
         self.parts[at] = Part::Other;
+        self.after_else = true;
         Ok(())
     }
 
@@ -166,17 +173,18 @@ impl BodyBuilder {
         if self.depth() == 0 {
             return Err(BuildFault::Mark);
         }
-        put_end(&mut self.entries)?;
+        put_end(&mut self.bytes, self.after_else)?;
         let _ = self.parts.pop();
+        self.after_else = false;
         Ok(())
     }
 
     #[inline(always)]
-    fn put(&mut self, entry: Entry) -> Result<(), BuildFault>
-        ensures ok { OnOk result (self.new ≡ step self.old (mark entry)) }
+    fn put(&mut self, entry: Entry<'_>) -> Result<(), BuildFault>
+        ensures ok { OnOk result (self.new ≡ step self.old (mark entry.entry)) }
         ensures err { OnErr result (self.new ≡ self.old) }
-        ensures depth { IsErrOf result faults.Depth ↔ ((begins (mark entry) ≡ true) × (nesting_limit ≤ length self.old.around)) }
-        ensures mark { IsErrOf result faults.Mark ↔ (takes self.old (mark entry) ≡ false) }
+        ensures depth { IsErrOf result faults.Depth ↔ ((begins (mark entry.entry) ≡ true) × (nesting_limit ≤ length self.old.around)) }
+        ensures mark { IsErrOf result faults.Mark ↔ (takes self.old (mark entry.entry) ≡ false) }
     {
         match entry {
             Entry::Plain(instr) => self.push_plain(instr),
@@ -191,12 +199,12 @@ impl BodyBuilder {
     /// `Memory` only where a growth was refused.
     // Inlined where an entry is made, which then needn't be written to memory twice.
     #[inline(always)]
-    pub fn push(&mut self, entry: Entry) -> Result<(), BuildFault>
-        ensures ok { OnOk result (self.new ≡ step self.old (mark entry)) }
-        ensures kept { OnOk result (so_far self.new ≡ with_mark (so_far self.old) (mark entry)) }
+    pub fn push(&mut self, entry: Entry<'_>) -> Result<(), BuildFault>
+        ensures ok { OnOk result (self.new ≡ step self.old (mark entry.entry)) }
+        ensures kept { OnOk result (so_far self.new ≡ with_mark (so_far self.old) (mark entry.entry)) }
         ensures err { OnErr result (self.new ≡ self.old) }
-        ensures depth { IsErrOf result faults.Depth ↔ ((begins (mark entry) ≡ true) × (nesting_limit ≤ length self.old.around)) }
-        ensures mark { IsErrOf result faults.Mark ↔ (takes self.old (mark entry) ≡ false) }
+        ensures depth { IsErrOf result faults.Depth ↔ ((begins (mark entry.entry) ≡ true) × (nesting_limit ≤ length self.old.around)) }
+        ensures mark { IsErrOf result faults.Mark ↔ (takes self.old (mark entry.entry) ≡ false) }
     {
         self.put(entry)
     }
@@ -210,9 +218,9 @@ impl BodyBuilder {
         if self.depth() > 0 {
             return Err(BuildFault::Mark);
         }
-        let mut entries = self.entries;
-        entries.shrink_to_fit();
-        Ok(Body::from_entries(entries))
+        let mut bytes = self.bytes;
+        bytes.shrink_to_fit();
+        Ok(Body::from_bytes(bytes))
     }
 }
 
@@ -226,16 +234,17 @@ fn first_part_of(kind: Kind) -> Part
 }
 
 /// Puts an end mark last; an else mark that stands last gives way to it.
-fn put_end(entries: &mut Vec<Entry>) -> Result<(), BuildFault>
-    ensures ok { OnOk result (marks entries.new.items ≡ ended (marks entries.old.items)) }
-    ensures err { OnErr result (entries.new.items ≡ entries.old.items) }
+fn put_end(bytes: &mut Vec<u8>, after_else: bool) -> Result<(), BuildFault>
+    requires { after_else ≡ true → 0 < length bytes.old.items }
+    ensures ok { OnOk result (bytes.new.items ≡ with_end after_else bytes.old.items) }
+    ensures err { OnErr result (bytes.new.items ≡ bytes.old.items) }
     ensures memory { IfErr result (λ fault. fault ≡ Memory) }
 {
-    let count = entries.len();
-    if count > 0 && matches!(&entries[count - 1], Entry::Else) {
-        entries[count - 1] = Entry::End;
+    if after_else {
+        let last = bytes.len() - 1;
+        bytes[last] = 0x0b;
         return Ok(());
     }
-    entries.push(Entry::End)?;
+    bytes.push(0x0b)?;
     Ok(())
 }

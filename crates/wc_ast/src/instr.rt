@@ -1,12 +1,8 @@
 //! Instructions without those nested in them.
 
-ghost use Rattle.std.specs.Prelude.{◌≡◌, IfOk};
-
 use crate::labels::Labels;
 use crate::op::{IndexOp, MemOp, SimpleOp};
-use crate::try_clone::TryClone;
 use crate::val_type::ValType;
-use std::alloc::AllocError;
 
 /// Where a load or a store reads or writes (Core 1.0, 2.4.4).
 #[derive(Clone, Copy, Debug, PartialEq, Eq)]
@@ -30,28 +26,14 @@ pub enum BlockType {
 
 /// An instruction other than `block`, `loop` and `if` (Core 1.0, 2.4).
 #[derive(Debug, Drop)]
-pub enum Instr {
+pub enum Instr<'a> {
     Simple(SimpleOp),
     Index(IndexOp, u32),
     Mem(MemOp, MemArg),
     /// The default label, and the labels before it.
-    BrTable(u32, Labels),
+    BrTable(u32, Labels<'a>),
     /// The index of a type.
     CallIndirect(u32),
     I32Const(i32),
     I64Const(i64),
-}
-
-impl TryClone for Instr {
-    fn try_clone(&self) -> Result<Instr, AllocError> {
-        match self {
-            Instr::Simple(op) => Ok(Instr::Simple(*op)),
-            Instr::Index(op, index) => Ok(Instr::Index(*op, *index)),
-            Instr::Mem(op, arg) => Ok(Instr::Mem(*op, *arg)),
-            Instr::BrTable(default, labels) => Ok(Instr::BrTable(*default, labels.try_clone()?)),
-            Instr::CallIndirect(index) => Ok(Instr::CallIndirect(*index)),
-            Instr::I32Const(n) => Ok(Instr::I32Const(*n)),
-            Instr::I64Const(n) => Ok(Instr::I64Const(*n)),
-        }
-    }
 }

@@ -1,54 +1,95 @@
 //! The labels of a `br_table`.
 
-ghost use Rattle.std.specs.Prelude.{◌≡◌, ℕ, IfOk, IfErr};
-ghost use Rattle.std.specs.Prelude.{List as Seq};
+ghost use Rattle.std.specs.Prelude.{◌≡◌, ◌≤◌, ◌^◌, ◌↔◌, ℕ, List as Seq, IfSome, IsNone, length};
+ghost use Rattle.std.specs.Iterator.{YieldsFirst, item_count};
 
-use crate::try_clone::TryClone;
-use std::alloc::{AllocError, AllocFailed, Global};
+use crate::bytes::number::u32_at;
 use std::marker::Model;
 
-/// Label indices, in order, behind one pointer, so that an instruction stays small.
-#[derive(Debug, Drop)]
-pub struct Labels {
-    items: Box<Vec<u32>>,
+/// Where labels stand.
+#[derive(Clone, Copy, Debug)]
+pub(crate) enum Items<'a> {
+    /// In a row.
+    Listed(&'a [u32]),
+    /// So many, by their spellings, and whatever follows them.
+    Spelled(u32, &'a [u8]),
 }
 
-impl Model for Labels {
+/// Label indices, in order, fewer than `2^32` (Core 1.0, 2.1.3 and 2.4.5). Going over them takes them one by one: a
+/// contract sees those that are left.
+#[derive(Debug, Drop)]
+pub struct Labels<'a> {
+    items: Items<'a>,
+}
+
+impl<'a> Model for Labels<'a> {
+    ghost use Rattle.std.specs.Prelude.{ℕ, List as Seq};
+
     ghost Value = { Seq ℕ };
 
-    ghost view = { λ labels. labels.items.value.items };
+    ghost use Rattle.wc_ast.specs.LabelItems.{labels_of, AreLabels};
+
+    ghost view = { λ labels. labels_of labels.items };
+
+    ghost invariant = { λ labels. AreLabels labels.items };
 }
 
-impl Labels {
-    /// These labels. The error is want of memory, of a few bytes whatever the number of labels: it hands them back.
-    pub fn from_vec(alloc: Global, items: Vec<u32>) -> Result<Labels, AllocFailed<Vec<u32>>>
-        ensures ok { IfOk result (λ labels. labels ≡ items.items) }
-        ensures back { IfErr result (λ failed. failed.value ≡ items) }
+impl<'a> Labels<'a> {
+    ghost use Rattle.wc_ast.specs.LabelItems.{labels_of, AreLabels};
+
+    /// These labels, or none where there are `2^32` or more.
+    pub fn of(items: &'a [u32]) -> Option<Labels<'a>>
+        ensures labels { IfSome result (λ labels. labels ≡ items.now) }
+        ensures none { IsNone result ↔ (2 ^ 32 ≤ length items.now) }
     {
-        let items = Box::new(alloc, items)?;
-        Ok(Labels { items })
+        if items.len() > u32::MAX as usize {
+            return None;
+        }
+        Some(Labels {
+            items: Items::Listed(items),
+        })
     }
 
-    /// The labels, with the memory that they stand in.
-    pub fn into_vec(self) -> Vec<u32>
-        ensures { result.items ≡ self }
+    /// How many there are.
+    pub fn len(&self) -> u32
+        ensures { result ≡ length self.now }
     {
-        let Labels { items } = self;
-        Box::into_inner(items)
+        match self.items {
+            Items::Listed(items) => items.len() as u32,
+            Items::Spelled(count, _) => count,
+        }
     }
 
-    /// The labels, in order.
-    pub fn as_slice(&self) -> &[u32]
-        ensures { result.now ≡ self.now }
+    pub(crate) fn from_items(items: Items<'a>) -> Labels<'a>
+        requires { AreLabels items }
+        ensures { result ≡ labels_of items.entry }
     {
-        self.items.as_slice()
+        Labels { items }
     }
 }
 
-impl TryClone for Labels {
-    fn try_clone(&self) -> Result<Labels, AllocError> {
-        let alloc = *self.items.allocator();
-        let items = Vec::from_slice(alloc, self.items.as_slice())?;
-        Ok(Labels::from_vec(alloc, items)?)
+impl<'a> Iterator for Labels<'a> {
+    type Item = u32;
+
+    ghost next_gives = { YieldsFirst (λ labels. labels) };
+
+    ghost remaining = { item_count (λ labels. labels) };
+
+    fn next(&mut self) -> Option<u32> {
+        match self.items {
+            Items::Listed(items) => {
+                let (first, rest) = items.split_first()?;
+                self.items = Items::Listed(rest);
+                Some(*first)
+            }
+            Items::Spelled(count, bytes) => {
+                if count == 0 {
+                    return None;
+                }
+                let (first, rest) = u32_at(bytes)?;
+                self.items = Items::Spelled(count - 1, rest);
+                Some(first)
+            }
+        }
     }
 }

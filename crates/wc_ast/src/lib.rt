@@ -1,9 +1,12 @@
 //! The abstract module of WebAssembly: its types, its instructions and their opcodes, and the bodies of functions.
 #![tactic(auto)]
 
+pub mod ask;
 pub mod body;
 pub mod body_law;
 pub mod builder;
+mod bytes;
+pub mod entries;
 pub mod entry;
 pub mod export;
 pub mod func;
@@ -26,9 +29,11 @@ pub mod segment;
 pub mod try_clone;
 pub mod val_type;
 
+pub use crate::ask::Ask;
 pub use crate::body::{Body, NESTING_LIMIT};
 pub use crate::body_law::entries_tell_bodies;
 pub use crate::builder::{BodyBuilder, BuildFault};
+pub use crate::entries::Entries;
 pub use crate::entry::{Entry, Kind};
 pub use crate::export::{Export, ExportKind};
 pub use crate::func::{Func, Global};

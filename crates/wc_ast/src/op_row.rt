@@ -7,6 +7,7 @@ impl SimpleOp {
     ghost use Rattle.wc_ast.specs.Opcodes.{simple};
 
     /// The opcode (Core 1.0, 5.4). It takes no memory.
+    #[inline(always)]
     pub fn byte(self) -> u8
         ensures { result ≡ (simple self).byte }
     {
@@ -100,6 +101,7 @@ impl IndexOp {
     ghost use Rattle.wc_ast.specs.Opcodes.{index};
 
     /// The opcode (Core 1.0, 5.4). It takes no memory.
+    #[inline(always)]
     pub fn byte(self) -> u8
         ensures { result ≡ (index self).byte }
     {
@@ -128,6 +130,7 @@ impl MemOp {
     ghost use Rattle.wc_ast.specs.Opcodes.{memory};
 
     /// The opcode (Core 1.0, 5.4). It takes no memory.
+    #[inline(always)]
     pub fn byte(self) -> u8
         ensures { result ≡ (memory self).byte }
     {

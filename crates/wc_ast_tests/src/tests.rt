@@ -3,3 +3,4 @@
 mod bodies;
 mod lists;
 mod opcodes;
+mod spellings;

@@ -14,8 +14,8 @@ use Rattle.wc_binary.specs.declared.fault.BinWhy.{BinWhy}
 use Rattle.wc_binary.specs.Style.{Style, canonical}
 use Rattle.wc_binary.specs.Phrase.{Phrase, byte_or_signed, SpellsBy}
 use Rattle.wc_binary.specs.Instructions.{is_short, BlockHead, short, whole, head_of, index_fault, type_of, block_type}
-use Rattle.wc_binary.specs.Written.{Fits32}
-use Rattle.wc_binary.specs.WrittenCode.{block_type_bytes, FitsBlockType}
+use Rattle.wc_ast.specs.ValueBytes.{Fits32}
+use Rattle.wc_ast.specs.InstructionBytes.{block_type_bytes, FitsBlockType}
 use Rattle.wc_binary.proofs.Judging.{Judges, HasBytes}
 use Rattle.wc_binary.proofs.Spelling.{of}
 use Rattle.wc_binary.proofs.CodeSpelling.{signed-writes}

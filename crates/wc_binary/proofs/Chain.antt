@@ -10,7 +10,8 @@ use Rattle.wc_binary.specs.Contents.{global, elem_segment, code, data_segment}
 use Rattle.wc_binary.specs.Sections.{start}
 use Rattle.wc_binary.specs.Module.{Customs, HasSections}
 use Rattle.wc_binary.specs.Written.{section_bytes, start_bytes, func_type_bytes, import_bytes, table_type_bytes}
-use Rattle.wc_binary.specs.Written.{limits_bytes, export_bytes, Fits32, FitsSection, FitsStart, FitsFuncType}
+use Rattle.wc_ast.specs.ValueBytes.{Fits32}
+use Rattle.wc_binary.specs.Written.{limits_bytes, export_bytes, FitsSection, FitsStart, FitsFuncType}
 use Rattle.wc_binary.specs.Written.{FitsImport, FitsLimits, FitsExport}
 use Rattle.wc_binary.specs.WrittenContents.{global_bytes, elem_bytes, code_bytes, data_bytes, FitsGlobal, FitsElem}
 use Rattle.wc_binary.specs.WrittenContents.{FitsCode, FitsData}

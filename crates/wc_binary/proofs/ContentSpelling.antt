@@ -12,8 +12,9 @@ use Rattle.wc_binary.specs.Types.{global_type}
 use Rattle.wc_binary.specs.Instructions.{expr}
 use Rattle.wc_binary.specs.Locals.{locals}
 use Rattle.wc_binary.specs.Contents.{global, elem_segment, data_segment, func, code}
-use Rattle.wc_binary.specs.Written.{vector_bytes, global_type_bytes, sized_bytes, Anything, Fits32, FitsVector}
-use Rattle.wc_binary.specs.WrittenCode.{expr_bytes, FitsExpr}
+use Rattle.wc_ast.specs.ValueBytes.{vector_bytes, Fits32, FitsVector}
+use Rattle.wc_binary.specs.Written.{global_type_bytes, sized_bytes, Anything}
+use Rattle.wc_ast.specs.InstructionBytes.{expr_bytes, FitsExpr}
 use Rattle.wc_binary.specs.WrittenLocals.{locals_bytes, FitsLocals}
 use Rattle.wc_binary.specs.WrittenContents.{global_bytes, elem_bytes, data_bytes, func_bytes, code_bytes, FitsGlobal}
 use Rattle.wc_binary.specs.WrittenContents.{FitsElem, FitsData, FitsFunc, FitsCode}

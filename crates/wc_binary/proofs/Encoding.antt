@@ -7,7 +7,7 @@ use Rattle.wc_ast.specs.declared.module.Module.{Module}
 use Rattle.wc_binary.specs.declared.fault.EncFault.{EncFault}
 use Rattle.wc_binary.specs.declared.fault.EncFault.TheVariants.{Oversize, Memory}
 use Rattle.wc_binary.specs.Module.{parts_of, Canon, IsShortestOf}
-use Rattle.wc_binary.specs.Written.{FitsVector}
+use Rattle.wc_ast.specs.ValueBytes.{FitsVector}
 use Rattle.wc_binary.specs.WrittenModule.{module_bytes, sections_bytes, FitsSections, FitsModule}
 use Rattle.wc_binary.specs.Encoding.{Writes, EncodesModule}
 use Rattle.wc_binary.proofs.Modules.{canon-written, shortest-and-only, bin-longer}

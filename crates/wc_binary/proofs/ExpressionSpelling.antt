@@ -17,8 +17,8 @@ use Rattle.wc_binary.specs.Style.{Style, canonical}
 use Rattle.wc_binary.specs.Phrase.{SpellsBy}
 use Rattle.wc_binary.specs.Expression.{plain_op, region_op, if_op, else_op, end_op, letters}
 use Rattle.wc_binary.specs.Instructions.{opcode, follows, block_type, expr}
-use Rattle.wc_binary.specs.WrittenCode.{op_of, rest_bytes, instr_bytes, block_type_bytes, region_bytes, code_pieces}
-use Rattle.wc_binary.specs.WrittenCode.{code_bytes, expr_bytes, FitsInstr, FitsBlockType, FitsExpr}
+use Rattle.wc_ast.specs.InstructionBytes.{op_of, rest_bytes, instr_bytes, block_type_bytes, region_bytes, code_pieces}
+use Rattle.wc_ast.specs.InstructionBytes.{code_bytes, expr_bytes, FitsInstr, FitsBlockType, FitsExpr}
 use Rattle.wc_binary.proofs.Judging.{Judges, HasBytes}
 use Rattle.wc_binary.proofs.Spelling.{of}
 use Rattle.wc_binary.proofs.OpcodeBytes.{row-begins, opcode-byte}

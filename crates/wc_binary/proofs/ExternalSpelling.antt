@@ -21,7 +21,8 @@ use Rattle.wc_binary.specs.Values.{u32, times, any_byte, name, utf8_fault}
 use Rattle.wc_binary.specs.Types.{limits, table_type, global_type}
 use Rattle.wc_binary.specs.Externals.{kind, kind_of, desc, desc_of, import, export}
 use Rattle.wc_binary.specs.Written.{limits_bytes, table_type_bytes, global_type_bytes, name_bytes, kind_bytes}
-use Rattle.wc_binary.specs.Written.{desc_bytes, import_bytes, export_bytes, Fits32, FitsLimits, FitsName, FitsDesc}
+use Rattle.wc_ast.specs.ValueBytes.{Fits32}
+use Rattle.wc_binary.specs.Written.{desc_bytes, import_bytes, export_bytes, FitsLimits, FitsName, FitsDesc}
 use Rattle.wc_binary.specs.Written.{FitsImport, FitsExport, Anything}
 use Rattle.wc_binary.proofs.Judging.{HasBytes}
 use Rattle.wc_binary.proofs.Spelling.{of, writes-as, u32-writes, byte-writes, then-writes, seen-writes, made-writes}

@@ -14,8 +14,9 @@ use Rattle.wc_binary.specs.declared.fault.BinWhy.TheVariants.{ZeroByte}
 use Rattle.wc_binary.specs.Phrase.{Phrase, signed}
 use Rattle.wc_binary.specs.Values.{u32, vector}
 use Rattle.wc_binary.specs.Instructions.{s32, s64, zero_byte, follows_simple, nothing_follows, follows}
-use Rattle.wc_binary.specs.Written.{vector_bytes, Fits32, FitsVector, Anything}
-use Rattle.wc_binary.specs.WrittenCode.{op_of, rest_bytes, FitsInstr}
+use Rattle.wc_ast.specs.ValueBytes.{vector_bytes, Fits32, FitsVector}
+use Rattle.wc_binary.specs.Written.{Anything}
+use Rattle.wc_ast.specs.InstructionBytes.{op_of, rest_bytes, FitsInstr}
 use Rattle.wc_binary.proofs.Judging.{HasBytes}
 use Rattle.wc_binary.proofs.Spelling.{of, u32-writes, only-writes, vector-writes, made-writes}
 use Rattle.wc_binary.proofs.CodeSpelling.{signed-writes, given-writes, pair-writes}

@@ -6,7 +6,6 @@ pub mod SignedTaking
 pub mod UnsignedTaking
 pub mod Expressions
 pub mod Laws
-pub mod Meanings
 pub mod ReadingEntries
 pub mod Times
 pub mod Forward
@@ -38,5 +37,3 @@ pub mod Chain
 pub mod Modules
 pub mod Freed
 pub mod Encoding
-pub mod SignedBytes
-pub mod EntryBytes

@@ -16,7 +16,8 @@ use Rattle.wc_binary.specs.Phrase.{Phrase, gives, judged, ◌>>=◌, SpellsBy}
 use Rattle.wc_binary.specs.Values.{u32}
 use Rattle.wc_binary.specs.Types.{value_type}
 use Rattle.wc_binary.specs.Locals.{locals_fault, group, groups, locals}
-use Rattle.wc_binary.specs.Written.{vector_bytes, value_type_bytes, FitsVector, Anything}
+use Rattle.wc_ast.specs.ValueBytes.{vector_bytes, value_type_bytes, FitsVector}
+use Rattle.wc_binary.specs.Written.{Anything}
 use Rattle.wc_binary.specs.WrittenLocals.{group_of, merged, group_bytes, locals_bytes, FitsLocals}
 use Rattle.wc_binary.specs.Encoding.{Writes}
 use Rattle.wc_binary.proofs.Judging.{Judges, HasBytes}

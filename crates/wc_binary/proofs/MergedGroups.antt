@@ -10,7 +10,7 @@ use Rattle.wc_ast.specs.declared.val_type.ValType.TheVariants.{I32, I64}
 use Rattle.wc_ast.specs.declared.locals.Group.{Group}
 use Rattle.wc_ast.specs.LocalGroups.{written_out, IsGrouped, BeginsOtherwise}
 use Rattle.wc_ast.proofs.GroupLemmas.{one-grouping}
-use Rattle.wc_binary.specs.Written.{value_type_bytes}
+use Rattle.wc_ast.specs.ValueBytes.{value_type_bytes}
 use Rattle.wc_binary.specs.WrittenLocals.{group_of, added, merged, group_bytes}
 
 -- how many locals the groups stand for

@@ -10,13 +10,11 @@ use Rattle.wc_ast.specs.Nested.{block, loop}
 use Rattle.wc_ast.specs.Opcodes.{row}
 use Rattle.wc_binary.specs.declared.fault.BinWhy.{BinWhy}
 use Rattle.wc_binary.specs.Expression.{Begun, plain_op, region_op, if_op, else_op, end_op}
-use Rattle.wc_binary.specs.Instructions.{meaning, begun_of, opcode}
-use Rattle.wc_binary.proofs.Meanings.{meaning-is}
+use Rattle.wc_ast.specs.OpcodeMeaning.{meaning}
+use Rattle.wc_binary.specs.Instructions.{begun_of, opcode}
+use Rattle.wc_ast.proofs.OpcodeMeanings.{meaning-is, row-meaning}
 
 -- ---- from what begins to its byte
-
-row-meaning : (op : Op) → meaning (row op).byte ≡ Known op
-row-meaning op = ((meaning-is (row op).byte).known op).1 refl
 
 else-unknown : meaning 0x05 ≡ Unknown
 unfolding meaning

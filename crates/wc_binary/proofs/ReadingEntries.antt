@@ -1,15 +1,16 @@
 -- Reading an entry of an expression, and the loop that does so.
 use Rattle.std.proofs.Common.{◌≡◌, ℕ, zero, suc, ◌+◌, ◌<◌, ◌≤◌, Bool, true, false, not, nat_eq, List, ◌∷◌, length, Some}
 use Rattle.std.proofs.Common.{None, Result, Ok, Err, refl, sym, ap, ◌∙◌, arith}
-use Rattle.std.specs.Prelude.{IsTrue}
+use Rattle.std.specs.Prelude.{IsTrue, IfOk, IfErr}
 use Rattle.std.proofs.lemmas.Bool.{eqb-true}
 use Rattle.wc_ast.specs.declared.op.OpByte.{OpByte}
-use Rattle.wc_ast.specs.declared.op.OpByte.TheVariants.{Unknown}
+use Rattle.wc_ast.specs.declared.op.OpByte.TheVariants.{Known, Unknown}
 use Rattle.wc_ast.specs.declared.entry.Entry.{Entry}
+use Rattle.wc_ast.specs.declared.entry.Entry.TheVariants.{Plain}
 use Rattle.wc_ast.specs.declared.instr.Instr.{Instr}
 use Rattle.wc_ast.specs.declared.instr.BlockType.{BlockType}
-use Rattle.wc_ast.specs.Nested.{Code, empty}
-use Rattle.wc_ast.specs.Draft.{Draft, whole, step, in_first_part}
+use Rattle.wc_ast.specs.Nested.{Code, empty, plain}
+use Rattle.wc_ast.specs.Draft.{Draft, whole, step, takes, in_first_part}
 use Rattle.wc_ast.specs.Entries.{mark}
 use Rattle.wc_ast.specs.ByteMeaning.{IsOpByte}
 use Rattle.wc_binary.specs.declared.fault.BinFault.{BinFault}
@@ -18,12 +19,16 @@ use Rattle.wc_binary.specs.declared.fault.BinWhy.TheVariants.{End, Opcode}
 use Rattle.wc_binary.specs.Phrase.{Halt, halt}
 use Rattle.wc_binary.specs.Reading.{Got, got, fault, read, is_last, marks_at}
 use Rattle.wc_binary.specs.Source.{Input, GoesOn, NextGives, Fails, Gave}
-use Rattle.wc_binary.specs.Instructions.{meaning, begun_of, opcode, follows, block_type, expr}
-use Rattle.wc_binary.specs.NextMark.{mark_behind, GaveEntry}
+use Rattle.wc_ast.specs.OpcodeMeaning.{meaning}
+use Rattle.wc_binary.specs.Instructions.{begun_of, opcode, follows, block_type, expr}
+use Rattle.wc_binary.specs.Expression.{Begun, plain_op}
+use Rattle.wc_binary.specs.declared.fault.BinWhy.{BinWhy}
+use Rattle.wc_ast.specs.declared.op.Op.{Op}
+use Rattle.wc_binary.specs.NextMark.{mark_behind, GaveEntry, GivesEntry, MayStand, Takes}
 use Rattle.wc_binary.proofs.Going.{GoesOn-refl, GoesOn-trans, ReadFailed-behind}
 use Rattle.wc_binary.proofs.Laws.{read-told}
 use Rattle.wc_binary.proofs.Expressions.{mark-shorter}
-use Rattle.wc_binary.proofs.Meanings.{meant}
+use Rattle.wc_ast.proofs.OpcodeMeanings.{meant}
 
 -- ---- opcodes
 
@@ -160,3 +165,22 @@ goes-on false more e f = refl
 pub comes-last : (last more : Bool) → more ≡ not last → more ≡ false → last ≡ true
 comes-last true more e f = refl
 comes-last false more e f = let no : true ≡ false = sym e ∙ f in absurd cc
+
+-- an entry that was read and added
+pub taken : (d after : Draft Instr BlockType) (k : Result (Begun Op) BinWhy) (at : ℕ) (old new : Input) (e : Entry)
+    (r : Result Bool BinFault) → GivesEntry d k at old new (Ok e) → MayStand d e → IfOk r (λ more. more ≡ takes d (mark e))
+    → IfOk r (λ more. more ≡ true → after ≡ step d (mark e)) → IfOk r (λ more. more ≡ false → after ≡ d)
+    → IfErr r (λ f. f ≡ Memory) → Takes d k at old new after r
+taken d after k at old new e (Ok more) g s more_is ok last memory = (e, g, s, (more_is, ok, last))
+taken d after k at old new e (Err f) g s more_is ok last memory = rw memory g.0
+
+-- the same of an instruction in which none is nested
+pub plain-taken : (d after : Draft Instr BlockType) (op : Op) (at : ℕ) (old new : Input) (i : Instr)
+    (r : Result Bool BinFault) → old.place ≡ at + 1 → begun_of (Known op) ≡ Ok (plain_op op)
+    → Gave old new (Ok i) (read (follows op) old.place old.left) → IfOk r (λ more. more ≡ true)
+    → IfOk r (λ more. more ≡ true → after ≡ step d (plain i)) → IfOk r (λ more. more ≡ false → after ≡ d)
+    → IfErr r (λ f. f ≡ Memory) → Takes d (begun_of (Known op)) at old new after r
+plain-taken d after op at old new i r place begun g more_is ok last memory =
+    taken d after (begun_of (Known op)) at old new (Plain i) r
+    (g.0, λ w. let s = g.1 w in (s.0, rw (begun, ← place, s.1) refl))
+    (λ e. absurd cc, refl) more_is ok last memory

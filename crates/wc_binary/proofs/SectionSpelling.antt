@@ -7,7 +7,8 @@ use Rattle.wc_binary.specs.Phrase.{Phrase}
 use Rattle.wc_binary.specs.Values.{u32, vector, sized}
 use Rattle.wc_binary.specs.Sections.{start}
 use Rattle.wc_binary.specs.Module.{AreCustoms, Customs, IsSection, Then}
-use Rattle.wc_binary.specs.Written.{vector_bytes, sized_bytes, section_bytes, start_bytes, Fits32, FitsVector}
+use Rattle.wc_ast.specs.ValueBytes.{vector_bytes, Fits32, FitsVector}
+use Rattle.wc_binary.specs.Written.{sized_bytes, section_bytes, start_bytes}
 use Rattle.wc_binary.specs.Written.{FitsSized, FitsSection, FitsStart}
 use Rattle.wc_binary.proofs.Judging.{Judges, HasBytes}
 use Rattle.wc_binary.proofs.Spelling.{of, made-writes, u32-writes, sized-writes, vector-writes}

@@ -11,7 +11,8 @@ use Rattle.wc_leb128.proofs.UnsignedShortest.{unsigned_bytes-spelled, unsigned_b
 use Rattle.wc_binary.specs.Style.{Style, canonical, IsShortest}
 use Rattle.wc_binary.specs.Phrase.{Phrase, gives, byte, ◌>>=◌, SpellsBy}
 use Rattle.wc_binary.specs.Values.{times, u32, vector, only, sized}
-use Rattle.wc_binary.specs.Written.{vector_bytes, sized_bytes, Fits32, FitsVector, FitsSized, Anything}
+use Rattle.wc_ast.specs.ValueBytes.{vector_bytes, Fits32, FitsVector}
+use Rattle.wc_binary.specs.Written.{sized_bytes, FitsSized, Anything}
 use Rattle.wc_binary.proofs.Judging.{Judges, HasBytes}
 
 shortest-is : (n : ℕ) → n < 2 ^ 32 → IsShortest U 32 (unsigned_bytes n) n

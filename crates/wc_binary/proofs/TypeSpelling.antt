@@ -16,8 +16,10 @@ use Rattle.wc_binary.specs.Phrase.{gives, byte, ◌>>=◌, SpellsBy}
 use Rattle.wc_binary.specs.Values.{u32, vector, only}
 use Rattle.wc_binary.specs.Types.{value_type, value_type_of, func_type, flag, flag_of, maximum, limits, table_type}
 use Rattle.wc_binary.specs.Types.{global_type}
-use Rattle.wc_binary.specs.Written.{vector_bytes, value_type_bytes, func_type_bytes, flag_bytes, maximum_bytes}
-use Rattle.wc_binary.specs.Written.{limits_bytes, table_type_bytes, global_type_bytes, Fits32, FitsVector, FitsFuncType}
+use Rattle.wc_ast.specs.ValueBytes.{vector_bytes, value_type_bytes}
+use Rattle.wc_binary.specs.Written.{func_type_bytes, flag_bytes, maximum_bytes}
+use Rattle.wc_ast.specs.ValueBytes.{Fits32, FitsVector}
+use Rattle.wc_binary.specs.Written.{limits_bytes, table_type_bytes, global_type_bytes, FitsFuncType}
 use Rattle.wc_binary.specs.Written.{FitsMaximum, FitsLimits, Anything}
 use Rattle.wc_binary.proofs.Judging.{HasBytes}
 use Rattle.wc_binary.proofs.Spelling.{of, writes-as, u32-writes, byte-writes, only-writes, then-writes, seen-writes}

@@ -14,7 +14,6 @@ pub mod Source
 pub mod NextMark
 pub mod Decoding
 pub mod Written
-pub mod WrittenCode
 pub mod WrittenLocals
 pub mod WrittenContents
 pub mod WrittenModule

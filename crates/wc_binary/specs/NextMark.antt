@@ -1,6 +1,6 @@
 -- What is read behind an opcode: an instruction in which none is nested, or where nested ones begin, turn to the else
 -- part, or end.
-use Rattle.std.specs.Prelude.{◌≡◌, ◌<◌, ℕ, nat_lt, true, not, List, length, Result, Ok, Err}
+use Rattle.std.specs.Prelude.{◌≡◌, ◌<◌, ℕ, nat_lt, Bool, true, false, not, List, length, Result, Ok, Err}
 use Rattle.wc_ast.specs.declared.op.Op.{Op}
 use Rattle.wc_ast.specs.declared.entry.Kind.{Kind}
 use Rattle.wc_ast.specs.declared.entry.Kind.TheVariants.{Block, Loop, If}
@@ -8,7 +8,7 @@ use Rattle.wc_ast.specs.declared.entry.Entry.{Entry}
 use Rattle.wc_ast.specs.declared.instr.Instr.{Instr}
 use Rattle.wc_ast.specs.declared.instr.BlockType.{BlockType}
 use Rattle.wc_ast.specs.Nested.{Mark, block, loop, nesting_limit}
-use Rattle.wc_ast.specs.Draft.{Draft, takes, begins, in_first_part}
+use Rattle.wc_ast.specs.Draft.{Draft, step, takes, begins, in_first_part}
 use Rattle.wc_ast.specs.Entries.{mark}
 use Rattle.wc_binary.specs.declared.fault.BinFault.{BinFault}
 use Rattle.wc_binary.specs.declared.fault.BinWhy.{BinWhy}
@@ -48,3 +48,15 @@ GivesEntry d k at old new result = GaveEntry old new result (mark_behind d k at 
 abbrev pub MayStand : Draft Instr BlockType → Entry → Type 0
 MayStand d e =
     (begins (mark e) ≡ true → length d.around < nesting_limit) × (takes d (mark e) ≡ not (is_last d (mark e)))
+
+-- the entry was kept, unless it ends the expression
+abbrev pub Keeps : Draft Instr BlockType → Entry → Draft Instr BlockType → Bool → Type 0
+Keeps d e after more =
+    (more ≡ takes d (mark e)) × (more ≡ true → after ≡ step d (mark e)) × (more ≡ false → after ≡ d)
+
+-- what was read behind an opcode that begins k was kept
+abbrev pub Takes :
+    Draft Instr BlockType → Result (Begun Op) BinWhy → ℕ → Input → Input → Draft Instr BlockType → Result Bool BinFault
+    → Type 0
+Takes d k at old new after (Ok more) = (e : Entry) × GivesEntry d k at old new (Ok e) × MayStand d e × Keeps d e after more
+Takes d k at old new after (Err f) = GivesEntry d k at old new (Err f)

@@ -2,10 +2,7 @@
 use Rattle.std.specs.Prelude.{ℕ, ◌<◌, ◌^◌, Bool, true, false, Option, Some, None, List, [], ◌∷◌, ◌++◌, length}
 use Rattle.std.specs.Option.{is_some}
 use Rattle.std.specs.Str.{IsUtf8}
-use Rattle.std.specs.List.{AllByRecursion, flat_map}
 use Rattle.wc_leb128.specs.Shortest.{unsigned_bytes}
-use Rattle.wc_ast.specs.declared.val_type.ValType.{ValType}
-use Rattle.wc_ast.specs.declared.val_type.ValType.TheVariants.{I32, I64}
 use Rattle.wc_ast.specs.declared.func_type.FuncType.{FuncType}
 use Rattle.wc_ast.specs.declared.limits.Limits.{Limits}
 use Rattle.wc_ast.specs.declared.limits.GlobalType.{GlobalType}
@@ -15,14 +12,7 @@ use Rattle.wc_ast.specs.declared.export.Export.{Export}
 use Rattle.wc_ast.specs.declared.import.Desc.{Desc}
 use Rattle.wc_ast.specs.declared.import.Desc.TheVariants as descs
 use Rattle.wc_ast.specs.declared.import.Import.{Import}
-
--- a count, and the items
-abbrev pub vector_bytes : {A : Type 0} → (A → List ℕ) → List A → List ℕ
-vector_bytes w vs = unsigned_bytes (length vs) ++ flat_map w vs
-
-abbrev pub value_type_bytes : ValType → List ℕ
-value_type_bytes I32 = 0x7F ∷ []
-value_type_bytes I64 = 0x7E ∷ []
+use Rattle.wc_ast.specs.ValueBytes.{vector_bytes, value_type_bytes, Fits32, FitsVector}
 
 abbrev pub func_type_bytes : FuncType → List ℕ
 func_type_bytes t = (0x60 ∷ []) ++ (vector_bytes value_type_bytes t.params ++ vector_bytes value_type_bytes t.results)
@@ -87,12 +77,6 @@ start_bytes id (Some index) = (id ∷ []) ++ sized_bytes (unsigned_bytes index)
 
 abbrev pub Anything : {A : Type 0} → A → Type 0
 Anything v = Unit {0}
-
-abbrev pub Fits32 : ℕ → Type 0
-Fits32 n = n < 2 ^ 32
-
-abbrev pub FitsVector : {A : Type 0} → (A → Type 0) → List A → Type 0
-FitsVector Fits vs = (length vs < 2 ^ 32) × AllByRecursion Fits vs
 
 abbrev pub FitsSized : {A : Type 0} → (A → List ℕ) → (A → Type 0) → A → Type 0
 FitsSized w Fits v = (length (w v) < 2 ^ 32) × Fits v

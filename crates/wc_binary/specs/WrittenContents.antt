@@ -5,8 +5,9 @@ use Rattle.wc_ast.specs.declared.func.Global.{Global}
 use Rattle.wc_ast.specs.declared.segment.Elem.{Elem}
 use Rattle.wc_ast.specs.declared.segment.Data.{Data}
 use Rattle.wc_binary.specs.declared.parts.FuncCode.{FuncCode}
-use Rattle.wc_binary.specs.Written.{vector_bytes, global_type_bytes, sized_bytes, Fits32, FitsVector, FitsSized}
-use Rattle.wc_binary.specs.WrittenCode.{expr_bytes, FitsExpr}
+use Rattle.wc_ast.specs.ValueBytes.{vector_bytes, Fits32, FitsVector}
+use Rattle.wc_binary.specs.Written.{global_type_bytes, sized_bytes, FitsSized}
+use Rattle.wc_ast.specs.InstructionBytes.{expr_bytes, FitsExpr}
 use Rattle.wc_binary.specs.WrittenLocals.{locals_bytes, FitsLocals}
 
 abbrev pub global_bytes : Global → List ℕ

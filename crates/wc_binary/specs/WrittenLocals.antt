@@ -5,7 +5,7 @@ use Rattle.wc_ast.specs.declared.val_type.ValType.{ValType}
 use Rattle.wc_ast.specs.declared.val_type.ValType.TheVariants.{I32, I64}
 use Rattle.wc_ast.specs.declared.locals.Group.{Group}
 use Rattle.wc_ast.specs.LocalGroups.{locals_limit}
-use Rattle.wc_binary.specs.Written.{vector_bytes, value_type_bytes}
+use Rattle.wc_ast.specs.ValueBytes.{vector_bytes, value_type_bytes}
 
 abbrev pub same_type : ValType → ValType → Bool
 same_type I32 I32 = true

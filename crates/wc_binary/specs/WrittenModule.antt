@@ -5,7 +5,8 @@ use Rattle.wc_ast.specs.declared.module.Module.{Module}
 use Rattle.wc_binary.specs.declared.parts.Parts.{Parts}
 use Rattle.wc_binary.specs.Module.{parts_of}
 use Rattle.wc_binary.specs.Written.{func_type_bytes, import_bytes, table_type_bytes, limits_bytes, export_bytes}
-use Rattle.wc_binary.specs.Written.{section_bytes, start_bytes, Fits32, FitsFuncType, FitsImport, FitsLimits}
+use Rattle.wc_ast.specs.ValueBytes.{Fits32}
+use Rattle.wc_binary.specs.Written.{section_bytes, start_bytes, FitsFuncType, FitsImport, FitsLimits}
 use Rattle.wc_binary.specs.Written.{FitsExport, FitsSection, FitsStart}
 use Rattle.wc_binary.specs.WrittenContents.{global_bytes, elem_bytes, code_bytes, data_bytes, FitsGlobal, FitsElem}
 use Rattle.wc_binary.specs.WrittenContents.{FitsCode, FitsData}

@@ -5,11 +5,9 @@ mod expression;
 mod externals;
 mod funcs;
 mod index;
-mod instruction;
 mod item;
 mod locals;
 mod sections;
-mod signed;
 mod types;
 mod value;
 

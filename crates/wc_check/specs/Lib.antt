@@ -2,6 +2,7 @@ pub mod Rules
 pub mod Spaces
 pub mod SizeRules
 pub mod InstructionRules
+pub mod Judging
 pub mod ConstantRules
 pub mod ExportRules
 pub mod Broken

@@ -9,8 +9,9 @@ use wc_ast::{Body, Entry, GlobalType, IndexOp, Instr, ValType};
 pub(crate) fn has_constant(readable: &[GlobalType], wanted: ValType, expression: &Body) -> bool
     ensures { result ≡ is_constant readable.now wanted expression.now }
 {
-    match expression.entries() {
-        [Entry::Plain(instr)] => is_wanted(wanted, type_of(readable, instr)),
+    let mut entries = expression.entries();
+    match (entries.next(), entries.next()) {
+        (Some(Entry::Plain(instr)), None) => is_wanted(wanted, type_of(readable, instr)),
         _ => false,
     }
 }
@@ -25,13 +26,13 @@ fn is_wanted(wanted: ValType, found: Option<ValType>) -> bool
     }
 }
 
-fn type_of(readable: &[GlobalType], instr: &Instr) -> Option<ValType>
-    ensures { result ≡ constant_type readable.now instr.now }
+fn type_of(readable: &[GlobalType], instr: Instr<'_>) -> Option<ValType>
+    ensures { result ≡ constant_type readable.now instr.entry }
 {
     match instr {
         Instr::I32Const(_) => Some(ValType::I32),
         Instr::I64Const(_) => Some(ValType::I64),
-        Instr::Index(op, index) => type_read(readable, *op, *index as usize),
+        Instr::Index(op, index) => type_read(readable, op, index as usize),
         Instr::Simple(_) | Instr::Mem(_, _) | Instr::BrTable(_, _) | Instr::CallIndirect(_) => None,
     }
 }

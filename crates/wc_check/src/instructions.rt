@@ -7,31 +7,32 @@ ghost use Rattle.wc_check.specs.InstructionRules.{simple_rules, index_rules, ins
 
 use crate::context::Context;
 use crate::fault::{CheckWhy, broken_if};
-use wc_ast::{BlockType, GlobalType, IndexOp, Instr, SimpleOp};
+use wc_ast::{BlockType, GlobalType, IndexOp, Instr, Labels, SimpleOp};
 
 /// The first rule that an instruction breaks, in which none is nested: so many blocks enclose it, and its function has
 /// so many locals, parameters counted.
+#[inline(always)]
 pub(crate) fn instr_rule(
     context: &Context,
     locals: usize,
     enclosing: usize,
-    instr: &Instr,
+    instr: Instr<'_>,
 ) -> Option<CheckWhy>
-    ensures { result ≡ first (instr_rules context.now locals enclosing instr.now) }
+    ensures { result ≡ first (instr_rules context.now locals enclosing instr.entry) }
 {
     match instr {
-        Instr::Simple(op) => simple_rule(context, *op),
-        Instr::Index(op, index) => index_rule(context, locals, enclosing, *op, *index as usize),
+        Instr::Simple(op) => simple_rule(context, op),
+        Instr::Index(op, index) => index_rule(context, locals, enclosing, op, index as usize),
         Instr::Mem(op, arg) => {
             let space = broken_if(CheckWhy::Index, context.mems == 0);
             space.or(broken_if(CheckWhy::Align, op.natural_alignment() < arg.align))
         }
         Instr::BrTable(default, labels) => {
-            let is_above = any_above(labels.as_slice(), enclosing) || enclosing < *default as usize;
+            let is_above = any_above(labels, enclosing) || enclosing < default as usize;
             broken_if(CheckWhy::Label, is_above)
         }
         Instr::CallIndirect(index) => {
-            let of_type = broken_if(CheckWhy::TypeIndex, context.types <= *index as usize);
+            let of_type = broken_if(CheckWhy::TypeIndex, context.types <= index as usize);
             of_type.or(broken_if(CheckWhy::Index, context.tables == 0))
         }
         Instr::I32Const(_) => None,
@@ -39,6 +40,7 @@ pub(crate) fn instr_rule(
     }
 }
 
+#[inline(always)]
 fn simple_rule(context: &Context, op: SimpleOp) -> Option<CheckWhy>
     ensures { result ≡ first (simple_rules context.now op) }
 {
@@ -49,6 +51,7 @@ fn simple_rule(context: &Context, op: SimpleOp) -> Option<CheckWhy>
     }
 }
 
+#[inline(always)]
 fn index_rule(
     context: &Context,
     locals: usize,
@@ -74,6 +77,7 @@ fn index_rule(
     }
 }
 
+#[inline(always)]
 fn is_constant_global(globals: &[GlobalType], index: usize) -> bool
     ensures { result ≡ is_constant_at globals.now index }
 {
@@ -83,13 +87,14 @@ fn is_constant_global(globals: &[GlobalType], index: usize) -> bool
     }
 }
 
-fn any_above(labels: &[u32], enclosing: usize) -> bool
-    ensures { result ≡ list_any (λ n. nat_lt enclosing n) labels.now }
+fn any_above(mut labels: Labels<'_>, enclosing: usize) -> bool
+    ensures { result ≡ list_any (λ n. nat_lt enclosing n) labels.entry }
 {
-    labels.iter().any(|n| enclosing < *n as usize)
+    labels.any(|n| enclosing < n as usize)
 }
 
 /// The rule that the type of a block, a loop or an if breaks.
+#[inline(always)]
 pub(crate) fn block_rule(context: &Context, block_type: BlockType) -> Option<CheckWhy>
     ensures { result ≡ first (block_rules context.now block_type) }
 {

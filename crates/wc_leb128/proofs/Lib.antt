@@ -12,3 +12,4 @@ pub mod SignedLaws
 pub mod SignedPush
 pub mod Digits
 pub mod Push
+pub mod AtFront

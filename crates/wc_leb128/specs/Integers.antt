@@ -25,3 +25,7 @@ Begins {A} Spells a = (c : List ℕ) × (n : A) × Spells (a ++ c) n
 -- a list that a longer spelling begins with
 abbrev pub IsUnfinished : {A : Type 0} → (List ℕ → A → Type 0) → List ℕ → Type 0
 IsUnfinished {A} Spells a = (b : ℕ) × Begins {A = A} Spells (a ++ b ∷ [])
+
+-- the bytes begin with a spelling of this number, and these follow it
+abbrev pub IsAtFront : {A : Type 0} → (List ℕ → A → Type 0) → List ℕ → A → List ℕ → Type 0
+IsAtFront Spells x n y = (a : List ℕ) × (x ≡ a ++ y) × Spells a n

@@ -2,6 +2,7 @@
 #![tactic(auto)]
 
 mod bits;
+mod front;
 mod law;
 mod leb;
 mod shortest;
@@ -9,6 +10,7 @@ mod signed;
 mod step;
 mod unsigned;
 
+pub use front::{signed_at, unsigned_at};
 pub use law::{signed_answers, signed_spellings, unsigned_answers, unsigned_spellings};
 pub use leb::Leb;
 pub use shortest::{shortest_s, shortest_u};

@@ -1,11 +1,10 @@
-//! Bodies, their builder and their copies.
+//! Bodies, their builder, their bytes and their copies.
 
 use std::alloc::Global;
-use std::mem::size_of;
 use std::test::Fail;
 use wc_ast::{
-    BlockType, Body, BodyBuilder, BuildFault, Entry, IndexOp, Instr, Kind, Labels, MemArg, MemOp,
-    NESTING_LIMIT, SimpleOp, TryClone, ValType,
+    Ask, BlockType, Body, BodyBuilder, BuildFault, Entry, Instr, Kind, NESTING_LIMIT, SimpleOp,
+    TryClone, ValType,
 };
 
 /// A letter for each entry.
@@ -20,8 +19,26 @@ fn letter_of(entry: &Entry) -> u8 {
     }
 }
 
+/// Asks an entry for its letter.
+#[derive(Drop)]
+struct Letter;
+
+impl<'a> Ask<'a> for Letter {
+    ghost use Rattle.std.specs.Prelude.{⊤};
+
+    type Answer = u8;
+
+    ghost ready = { λ _. ⊤ };
+
+    ghost answers = { λ _ _ _. ⊤ };
+
+    fn ask(self, entry: Entry<'a>) -> u8 {
+        letter_of(&entry)
+    }
+}
+
 /// The entry of a letter, the other way.
-fn entry(letter: u8) -> Entry {
+fn entry(letter: u8) -> Entry<'static> {
     match letter {
         b'b' => Entry::Begin(Kind::Block, BlockType::Empty),
         b'l' => Entry::Begin(Kind::Loop, BlockType::Value(ValType::I64)),
@@ -32,12 +49,33 @@ fn entry(letter: u8) -> Entry {
     }
 }
 
+/// The bytes of that entry.
+fn spelling(letter: u8) -> &'static [u8] {
+    match letter {
+        b'b' => &[0x02, 0x40],
+        b'l' => &[0x03, 0x7e],
+        b'i' => &[0x04, 0x03],
+        b'e' => &[0x05],
+        b'.' => &[0x0b],
+        _ => &[0x01],
+    }
+}
+
 fn letters(alloc: Global, body: &Body) -> Result<Vec<u8>, Fail> {
     let mut found = Vec::new(alloc);
     for entry in body.entries() {
-        found.push(letter_of(entry))?;
+        found.push(letter_of(&entry))?;
     }
     Ok(found)
+}
+
+/// The bytes of the entries of the letters.
+fn spelled(alloc: Global, letters: &[u8]) -> Result<Vec<u8>, Fail> {
+    let mut bytes = Vec::new(alloc);
+    for letter in letters {
+        bytes.extend_from_slice(spelling(*letter))?;
+    }
+    Ok(bytes)
 }
 
 /// A builder with as many open blocks.
@@ -50,7 +88,7 @@ fn nested_blocks(alloc: Global, count: usize) -> Result<BodyBuilder, Fail> {
 }
 
 /// Ends what is open.
-fn ended(mut builder: BodyBuilder) -> Result<Body, Fail> {
+pub(super) fn ended(mut builder: BodyBuilder) -> Result<Body, Fail> {
     for _ in 0..builder.depth() {
         builder.push(Entry::End)?;
     }
@@ -68,7 +106,7 @@ fn pushed(builder: &mut BodyBuilder, letters: &[u8]) -> (usize, Option<BuildFaul
 }
 
 /// Pushes the entries of the letters; the last one is refused as told, and the body is what the others make.
-const BUILT: [(&[u8], Option<BuildFault>, &[u8]); 12] = [
+const BUILT: [(&[u8], Option<BuildFault>, &[u8]); 14] = [
     (b"", None, b""),
     (b"ppp", None, b"ppp"),
     (b"bpl.p.", None, b"bpl.p."),
@@ -76,9 +114,11 @@ const BUILT: [(&[u8], Option<BuildFault>, &[u8]); 12] = [
     (b"ipep.", None, b"ipep."),
     (b"ie.p", None, b"i.p"),
     (b"ieie.p.", None, b"iei.p."),
+    (b"ieb..", None, b"ieb.."),
     (b"e", Some(BuildFault::Mark), b""),
     (b".", Some(BuildFault::Mark), b""),
     (b"b.be", Some(BuildFault::Mark), b"b.b."),
+    (b"iee", Some(BuildFault::Mark), b"i."),
     (b"iepe", Some(BuildFault::Mark), b"iep."),
     (b"ipie.e.e", Some(BuildFault::Mark), b"ipi.."),
 ];
@@ -91,7 +131,22 @@ fn entries_are_kept_or_refused(rt: HostRuntime) -> Result<(), Fail> {
         assert_eq!(rt; outcome, (letters_pushed.len(), refused));
         let copy = ended(builder)?.try_clone()?;
         assert_eq!(rt; letters(rt.alloc(), &copy)?.as_slice(), kept);
+        assert_eq!(rt; copy.bytes(), spelled(rt.alloc(), kept)?.as_slice());
     }
+    Ok(())
+}
+
+#[test]
+fn entries_are_asked_in_turn(rt: HostRuntime) -> Result<(), Fail> {
+    let mut builder = BodyBuilder::new(rt.alloc());
+    let (_, refused) = pushed(&mut builder, b"bplp.ipep.");
+    assert_eq!(rt; refused, None);
+    let body = ended(builder)?;
+    let mut entries = body.entries();
+    for letter in b"bplp.ipep.." {
+        assert_eq!(rt; entries.next_with(Letter), Some(*letter));
+    }
+    assert_eq!(rt; entries.next_with(Letter), None);
     Ok(())
 }
 
@@ -109,43 +164,7 @@ fn the_deepest_body(rt: HostRuntime) -> Result<(), Fail> {
     assert_eq!(rt; pushed(&mut builder, b"i"), (1, Some(BuildFault::Depth)));
     assert_eq!(rt; pushed(&mut builder, b"p"), (1, None));
     let copy = ended(builder)?.try_clone()?;
-    assert_eq!(rt; copy.entries().len(), 40_001);
+    assert_eq!(rt; letters(rt.alloc(), &copy)?.len(), 40_001);
+    assert_eq!(rt; copy.bytes().len(), 60_001);
     Ok(())
-}
-
-/// Whether an instruction and its copy have the same text for a programmer.
-fn is_copied(alloc: Global, instr: &Instr) -> Result<bool, Fail> {
-    let copy = instr.try_clone()?;
-    let shown = format!(in alloc; "{copy:?}")?;
-    Ok(shown.as_str() == format!(in alloc; "{instr:?}")?.as_str())
-}
-
-#[test]
-fn copies_of_instructions(rt: HostRuntime) -> Result<(), Fail> {
-    let arg = MemArg {
-        align: 3,
-        offset: 8,
-    };
-    assert!(rt; is_copied(rt.alloc(), &Instr::Mem(MemOp::I64Load, arg))?);
-    assert!(rt; is_copied(rt.alloc(), &Instr::Index(IndexOp::Call, 9))?);
-    assert!(rt; is_copied(rt.alloc(), &Instr::CallIndirect(4))?);
-    assert!(rt; is_copied(rt.alloc(), &Instr::I32Const(-1))?);
-    assert!(rt; is_copied(rt.alloc(), &Instr::I64Const(i64::MIN))?);
-    Ok(())
-}
-
-#[test]
-fn labels_give_back_their_memory(rt: HostRuntime) -> Result<(), Fail> {
-    let labels = Labels::from_vec(rt.alloc(), vec![in rt.alloc(); 1, 2, 3]?)?;
-    let copy = labels.try_clone()?;
-    assert_eq!(rt; copy.into_vec().as_slice(), [1, 2, 3].as_slice());
-    let table = Instr::BrTable(7, labels);
-    assert!(rt; is_copied(rt.alloc(), &table)?);
-    Ok(())
-}
-
-#[test]
-fn entries_are_small(rt: HostRuntime) {
-    assert_eq!(rt; size_of::<Instr>(), 16);
-    assert!(rt; size_of::<Entry>() <= 24);
 }

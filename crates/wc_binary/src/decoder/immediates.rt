@@ -7,7 +7,7 @@ ghost use Rattle.wc_binary.specs.Source.{Gives};
 ghost use Rattle.wc_binary.specs.Values.{u32 as u32_phrase};
 
 use crate::decoder::integer::u32;
-use crate::decoder::part::Part;
+use crate::decoder::part::{Part, times};
 use crate::decoder::signed::{s32, s64, signed_from};
 use crate::fault::{BinFault, BinWhy};
 use crate::source::Source;
@@ -42,7 +42,7 @@ fn zero_byte<S: Source>(source: &mut S) -> Result<(), BinFault>
 /// An instruction without immediates.
 #[inline(always)]
 #[tactic(auto, unfolding(crate::specs::Instructions::follows))]
-pub fn simple<S: Source>(op: SimpleOp, source: &mut S) -> Result<Instr, BinFault>
+pub fn simple<S: Source>(op: SimpleOp, source: &mut S) -> Result<Instr<'static>, BinFault>
     ensures { Gives (follows (ops.Simple op)) (S.input source.old) (S.input source.new) result }
 {
     if matches!(op, SimpleOp::MemorySize | SimpleOp::MemoryGrow) {
@@ -54,7 +54,7 @@ pub fn simple<S: Source>(op: SimpleOp, source: &mut S) -> Result<Instr, BinFault
 /// An instruction with an index.
 #[inline(always)]
 #[tactic(auto, unfolding(crate::specs::Instructions::follows))]
-pub fn index<S: Source>(op: IndexOp, source: &mut S) -> Result<Instr, BinFault>
+pub fn index<S: Source>(op: IndexOp, source: &mut S) -> Result<Instr<'static>, BinFault>
     ensures { Gives (follows (ops.Index op)) (S.input source.old) (S.input source.new) result }
 {
     Ok(Instr::Index(op, u32(source)?))
@@ -63,7 +63,7 @@ pub fn index<S: Source>(op: IndexOp, source: &mut S) -> Result<Instr, BinFault>
 /// A load or a store.
 #[inline(always)]
 #[tactic(auto, unfolding(crate::specs::Instructions::follows))]
-pub fn memory<S: Source>(op: MemOp, source: &mut S) -> Result<Instr, BinFault>
+pub fn memory<S: Source>(op: MemOp, source: &mut S) -> Result<Instr<'static>, BinFault>
     ensures { Gives (follows (ops.Mem op)) (S.input source.old) (S.input source.new) result }
 {
     let align = u32(source)?;
@@ -71,20 +71,27 @@ pub fn memory<S: Source>(op: MemOp, source: &mut S) -> Result<Instr, BinFault>
     Ok(Instr::Mem(op, MemArg { align, offset }))
 }
 
-/// A `br_table`.
-#[tactic(auto, unfolding(crate::specs::Instructions::follows))]
-pub fn br_table<S: Source>(alloc: Global, source: &mut S) -> Result<Instr, BinFault>
+/// A `br_table`. Its labels go into this list, to which the instruction refers.
+#[tactic(auto, unfolding(crate::specs::Instructions::follows, crate::specs::Values::vector))]
+pub fn br_table<'a, S: Source>(
+    alloc: Global,
+    labels: &'a mut List<u32>,
+    source: &mut S,
+) -> Result<Instr<'a>, BinFault>
     ensures { Gives (follows ops.BrTable) (S.input source.old) (S.input source.new) result }
 {
-    let labels: List<u32> = List::read(alloc, source)?;
+    let count = u32(source)?;
+    *labels = times(alloc, count, source)?;
     let default = u32(source)?;
-    let labels = Labels::from_vec(alloc, labels.into_vec())?;
-    Ok(Instr::BrTable(default, labels))
+    match Labels::of(labels.as_slice()) {
+        Some(labels) => Ok(Instr::BrTable(default, labels)),
+        None => unreachable!(),
+    }
 }
 
 /// A `call_indirect`.
 #[tactic(auto, unfolding(crate::specs::Instructions::follows))]
-pub fn call_indirect<S: Source>(source: &mut S) -> Result<Instr, BinFault>
+pub fn call_indirect<S: Source>(source: &mut S) -> Result<Instr<'static>, BinFault>
     ensures { Gives (follows ops.CallIndirect) (S.input source.old) (S.input source.new) result }
 {
     let ty = u32(source)?;
@@ -94,7 +101,7 @@ pub fn call_indirect<S: Source>(source: &mut S) -> Result<Instr, BinFault>
 
 /// An `i32.const`.
 #[tactic(auto, unfolding(crate::specs::Instructions::follows))]
-pub fn i32_const<S: Source>(source: &mut S) -> Result<Instr, BinFault>
+pub fn i32_const<S: Source>(source: &mut S) -> Result<Instr<'static>, BinFault>
     ensures { Gives (follows ops.I32Const) (S.input source.old) (S.input source.new) result }
 {
     Ok(Instr::I32Const(s32(source)?))
@@ -102,7 +109,7 @@ pub fn i32_const<S: Source>(source: &mut S) -> Result<Instr, BinFault>
 
 /// An `i64.const`.
 #[tactic(auto, unfolding(crate::specs::Instructions::follows))]
-pub fn i64_const<S: Source>(source: &mut S) -> Result<Instr, BinFault>
+pub fn i64_const<S: Source>(source: &mut S) -> Result<Instr<'static>, BinFault>
     ensures { Gives (follows ops.I64Const) (S.input source.old) (S.input source.new) result }
 {
     Ok(Instr::I64Const(s64(source)?))

@@ -1,6 +1,6 @@
 //! Parts that stand in vectors and behind sizes (Core 1.0, 5.1.3).
 
-ghost use Rattle.std.specs.Prelude.{ℕ, List as Seq};
+ghost use Rattle.std.specs.Prelude.{◌≡◌, ℕ, IfOk, List as Seq, length};
 ghost use Rattle.wc_binary.specs.Phrase.{Phrase};
 ghost use Rattle.wc_binary.specs.Values.{any_byte, times as times_phrase, vector as vector_phrase, sized as sized_phrase};
 ghost use Rattle.wc_binary.specs.Source.{Gives};
@@ -41,7 +41,8 @@ pub fn times<P: Part + Drop, S: Source>(
     count: u32,
     source: &mut S,
 ) -> Result<List<P>, BinFault>
-    ensures { Gives (times_phrase count P.phrase) (S.input source.old) (S.input source.new) result }
+    ensures gives { Gives (times_phrase count P.phrase) (S.input source.old) (S.input source.new) result }
+    ensures counted { IfOk result (λ parts. length parts ≡ count) }
 {
     let mut parts = List::new(alloc);
     for _ in 0..count {

@@ -3,7 +3,8 @@
 ghost use Rattle.std.specs.Prelude.{◌≡◌, [], map};
 ghost use Rattle.wc_leb128.specs.Shortest.{unsigned_bytes};
 ghost use Rattle.wc_binary.specs.Module.{type_of, code_of};
-ghost use Rattle.wc_binary.specs.Written.{vector_bytes, section_bytes, Fits32, FitsVector, FitsSection};
+ghost use Rattle.wc_ast.specs.ValueBytes.{vector_bytes, Fits32, FitsVector};
+ghost use Rattle.wc_binary.specs.Written.{section_bytes, FitsSection};
 ghost use Rattle.wc_binary.specs.WrittenContents.{func_bytes, code_bytes, FitsFunc, FitsCode};
 ghost use Rattle.wc_binary.specs.Encoding.{Writes};
 

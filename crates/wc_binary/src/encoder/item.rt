@@ -1,7 +1,8 @@
 //! Vectors and sections of items (Core 1.0, 5.1.3 and 5.5.2).
 
 ghost use Rattle.std.specs.Prelude.{ℕ, List as Seq, [], ◌∷◌, ◌++◌, length};
-ghost use Rattle.wc_binary.specs.Written.{vector_bytes, section_bytes, sized_bytes, Fits32, FitsVector, FitsSection};
+ghost use Rattle.wc_ast.specs.ValueBytes.{vector_bytes, Fits32, FitsVector};
+ghost use Rattle.wc_binary.specs.Written.{section_bytes, sized_bytes, FitsSection};
 ghost use Rattle.wc_binary.specs.Encoding.{Writes};
 
 use crate::encoder::value::write_length;

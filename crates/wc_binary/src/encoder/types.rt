@@ -1,6 +1,7 @@
 //! Types (Core 1.0, 5.3).
 
-ghost use Rattle.wc_binary.specs.Written.{value_type_bytes, func_type_bytes, limits_bytes, table_type_bytes, global_type_bytes, section_bytes, vector_bytes, Anything, FitsFuncType, FitsLimits, FitsVector, FitsSection};
+ghost use Rattle.wc_ast.specs.ValueBytes.{value_type_bytes, vector_bytes, FitsVector};
+ghost use Rattle.wc_binary.specs.Written.{func_type_bytes, limits_bytes, table_type_bytes, global_type_bytes, section_bytes, Anything, FitsFuncType, FitsLimits, FitsSection};
 ghost use Rattle.wc_binary.specs.Encoding.{Writes};
 
 use crate::encoder::item::{Item, write_content, write_vector};

@@ -3,7 +3,7 @@
 use crate::tests::inputs::{module, repeat};
 use std::alloc::{AllocError, Global};
 use std::test::Fail;
-use wc_ast::{BlockType, Entry, Instr, Kind, Module};
+use wc_ast::{BlockType, Body, Entry, Instr, Kind, Module};
 use wc_binary::{BinFault, BinWhy, decode};
 
 /// Where the expression of `with_global` begins.
@@ -59,6 +59,21 @@ const FORMS: [u8; 29] = [
     0x06, 0x11, 0x07, 0x00, 0x2f, 0x01, 0x88, 0x00, 0x24, 0x09, 0xc4, 0x0b, 0x0b,
 ];
 
+/// The canonical bytes of them, without the last end.
+const CANONICAL_FORMS: [u8; 27] = [
+    0x03, 0x03, 0x41, 0x7f, 0x41, 0xff, 0xff, 0xff, 0xff, 0x07, 0x42, 0x80, 0x7f, 0x0e, 0x01, 0x05,
+    0x06, 0x11, 0x07, 0x00, 0x2f, 0x01, 0x08, 0x24, 0x09, 0xc4, 0x0b,
+];
+
+/// The first of them, and their first operands.
+const FIRST_FORMS: [(&str, i64); 5] = [
+    ("loop", 3),
+    ("i32.const", -1),
+    ("i32.const", 0x7fff_ffff),
+    ("i64.const", -128),
+    ("br_table", 6),
+];
+
 /// A module of one global, whose value is this expression. The section has the right size where the whole module has
 /// fewer than 128 bytes.
 fn with_global(alloc: Global, expression: &[u8]) -> Result<Vec<u8>, AllocError> {
@@ -70,12 +85,20 @@ fn with_global(alloc: Global, expression: &[u8]) -> Result<Vec<u8>, AllocError> 
     Ok(bytes)
 }
 
-/// The entries of the value of the one global.
-fn entries(module: &Module) -> Option<&[Entry]> {
+/// The value of the one global.
+fn value(module: &Module) -> Result<&Body, Fail> {
     match module.globals.as_slice() {
-        [global] => Some(global.init.entries()),
-        _ => None,
+        [global] => Ok(&global.init),
+        _ => Err(Fail::from("not one global")),
     }
+}
+
+fn entries(alloc: Global, body: &Body) -> Result<Vec<Entry<'_>>, Fail> {
+    let mut found = Vec::new(alloc);
+    for entry in body.entries() {
+        found.push(entry)?;
+    }
+    Ok(found)
 }
 
 #[test]
@@ -83,7 +106,8 @@ fn expressions_are_read(rt: HostRuntime) -> Result<(), Fail> {
     for (expression, count) in READ {
         let input = with_global(rt.alloc(), expression)?;
         let module = decode(rt.alloc(), &input)?;
-        assert!(rt; matches!(entries(&module), Some(found) if found.len() == count));
+        let found = entries(rt.alloc(), value(&module)?)?;
+        assert_eq!(rt; found.len(), count);
     }
     Ok(())
 }
@@ -100,27 +124,28 @@ fn expressions_are_refused(rt: HostRuntime) -> Result<(), Fail> {
     Ok(())
 }
 
+/// The form of an entry and its first operand, as far as the test below looks at them.
+fn shown(entry: &Entry<'_>) -> (&'static str, i64) {
+    match entry {
+        Entry::Begin(Kind::Loop, BlockType::Index(index)) => ("loop", i64::from(*index)),
+        Entry::Plain(Instr::I32Const(value)) => ("i32.const", i64::from(*value)),
+        Entry::Plain(Instr::I64Const(value)) => ("i64.const", *value),
+        Entry::Plain(Instr::BrTable(default, _)) => ("br_table", i64::from(*default)),
+        _ => ("another", 0),
+    }
+}
+
 #[test]
 fn each_form_is_read(rt: HostRuntime) -> Result<(), Fail> {
     let input = with_global(rt.alloc(), &FORMS)?;
     let module = decode(rt.alloc(), &input)?;
-    assert!(rt;
-        matches!(
-            entries(&module),
-            Some([
-                Entry::Begin(Kind::Loop, BlockType::Index(3)),
-                Entry::Plain(Instr::I32Const(-1)),
-                Entry::Plain(Instr::I32Const(0x7fff_ffff)),
-                Entry::Plain(Instr::I64Const(-128)),
-                Entry::Plain(Instr::BrTable(6, _)),
-                _,
-                _,
-                _,
-                _,
-                _,
-            ])
-        )
-    );
+    let body = value(&module)?;
+    assert_eq!(rt; body.bytes(), CANONICAL_FORMS.as_slice());
+    let found = entries(rt.alloc(), body)?;
+    assert_eq!(rt; found.len(), 10);
+    for (entry, expected) in found.iter().zip(FIRST_FORMS) {
+        assert_eq!(rt; shown(entry), expected);
+    }
     Ok(())
 }
 

@@ -1,7 +1,7 @@
 //! Modules made step by step.
 
 use std::test::Fail;
-use std::{alloc, mem};
+use std::{alloc, mem, slice};
 use wc_ast::{
     BlockType, Body, BodyBuilder, Data, Desc, Elem, Entry, Export, ExportKind, Func, FuncType,
     Global, GlobalType, Import, IndexOp, Instr, Kind, Labels, Limits, List, Locals, MemArg, MemOp,
@@ -41,14 +41,17 @@ pub(crate) enum Part {
     Data(u32),
 }
 
-fn entry_of(alloc: alloc::Global, part: Part) -> Result<Option<Entry>, Fail> {
-    let instr = match part {
+/// One label before the default.
+fn labels(label: &u32) -> Result<Labels<'_>, Fail> {
+    Ok(Labels::of(slice::from_ref(label)).ok_or("too many labels")?)
+}
+
+fn entry_of(part: &Part) -> Result<Option<Entry<'_>>, Fail> {
+    let instr = match *part {
         Part::Simple(op) => Instr::Simple(op),
         Part::Index(op, index) => Instr::Index(op, index),
         Part::Access(op, align) => Instr::Mem(op, MemArg { align, offset: 0 }),
-        Part::BrTable(default, label) => {
-            Instr::BrTable(default, Labels::from_vec(alloc, vec![in alloc; label]?)?)
-        }
+        Part::BrTable(default, ref label) => Instr::BrTable(default, labels(label)?),
         Part::CallIndirect(index) => Instr::CallIndirect(index),
         Part::Const(ValType::I32) => Instr::I32Const(0),
         Part::Const(ValType::I64) => Instr::I64Const(0),
@@ -144,7 +147,7 @@ pub(crate) fn build(alloc: alloc::Global, parts: &[Part]) -> Result<Module, Fail
     let mut module = Module::new(alloc);
     let mut builder = BodyBuilder::new(alloc);
     for part in parts {
-        match entry_of(alloc, *part)? {
+        match entry_of(part)? {
             Some(entry) => builder.push(entry)?,
             None => {
                 let body = mem::replace(&mut builder, BodyBuilder::new(alloc)).finish()?;

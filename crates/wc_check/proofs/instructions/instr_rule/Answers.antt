@@ -6,7 +6,7 @@ use Rattle.wc_check.proofs.instructions.instr_rule.Goals.{then-any_above, else-a
 
 pub returns-after-any_above : goal.returns-after-any_above
 returns-after-any_above c =
-    let found = c.any_above.ensures in let same = c.as_slice.ensures in
+    let found = c.any_above.ensures in
     let is : c.if-any_above.is_above
     ≡ (list_any (λ n. nat_lt c.args.enclosing n) c.in-BrTable.labels || nat_lt c.args.enclosing c.in-BrTable.default)
     = elim c.if-any_above.branch [ then-any_above w ↦ grind arith | else-any_above w ↦ grind arith ] in

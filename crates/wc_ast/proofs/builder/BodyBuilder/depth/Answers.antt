@@ -7,16 +7,16 @@ pub returns-clause-count : goal.returns-clause-count
 returns-clause-count c = rw (← c.self.view_is) (omega (
   arith,
   c.self.inside.parts.ok.0,
-  depth-is part_in _ _ c.self.invariant,
+  depth-is part_in _ _ c.self.invariant.building,
 ))
 
 pub returns-clause-within : goal.returns-clause-within
 returns-clause-within c = omega (
   arith,
   c.self.inside.parts.ok.0,
-  depth-is part_in _ _ c.self.invariant,
-  c.self.invariant.depth,
+  depth-is part_in _ _ c.self.invariant.building,
+  c.self.invariant.building.depth,
 )
 
 pub returns-clause-reach : goal.returns-clause-reach
-returns-clause-reach c = rw (← c.self.view_is) c.self.invariant.within
+returns-clause-reach c = rw (← c.self.view_is) c.self.invariant.building.within

@@ -1,26 +1,37 @@
-use Rattle.std.proofs.Common.{◌≡◌, true, sym, ◌∙◌, arith}
-use Rattle.wc_ast.specs.declared.entry.Entry.TheVariants.{Else}
+use Rattle.std.proofs.Common.{◌≡◌, ◌+◌, ◌-◌, true, length, sym, ◌∙◌, arith}
 use Rattle.wc_ast.specs.Draft.{in_first_part}
 use Rattle.wc_ast.specs.Entries.{drafted}
 use Rattle.wc_ast.specs.OpenParts.{part_in}
-use Rattle.wc_ast.proofs.BuildingLemmas.{outermost-turned, depth-is, first_part_open}
-use Rattle.wc_ast.proofs.BuilderLemmas.{entry-push, drafted-push, head-other}
+use Rattle.wc_ast.specs.Unpacked.{unpacked}
+use Rattle.wc_ast.proofs.BuildingLemmas.{depth-is, first_part_open}
+use Rattle.wc_ast.proofs.BuilderLemmas.{else-pushed}
 use Rattle.wc_ast.proofs.builder.BodyBuilder.push_else.Goals as goal
 
 pub invariant_of-self-2 : goal.invariant_of-self-2
 invariant_of-self-2 c =
-    let can : in_first_part (drafted c.self.inside.entries.items).around ≡ true =
+    let x = c.self.inside.bytes.items in
+    let can : in_first_part (drafted (unpacked x)).around ≡ true =
     rw c.self.view_is (sym c.in_first_part.ensures ∙ c.if-not-in_first_part.false) in
-    rw c.in_ok-push.ensures.items
-    (entry-push _ _ Else _ c.self.invariant can (λ e. absurd cc)
-    (rw c.self.invariant.stacked
-    (outermost-turned part_in _ (drafted c.self.inside.entries.items).last _ _ can (head-other _ _ can)
-    (rw (← c.self.invariant.stacked) (omega (
+    let last : c.len-at.result - 1 + 1 ≡ length c.self.inside.parts.items = omega (
       arith,
       c.self.inside.parts.ok.0,
-      depth-is part_in _ _ c.self.invariant,
+      depth-is part_in _ _ c.self.invariant.building,
       first_part_open _ can,
-    ))))))
+    ) in
+    (else-pushed x c.self.inside.parts.items c.self.inside.after_else c.self.invariant c.push.new.self.items
+    (c.len-at.result - 1) c.in_ok-push.ensures.items can last).started
 
 pub returns-clause-ok : goal.returns-clause-ok
-returns-clause-ok c = rw (c.in_ok-push.ensures.items, ← c.self.view_is) (drafted-push c.self.inside.entries.items Else)
+returns-clause-ok c =
+    let x = c.self.inside.bytes.items in
+    let can : in_first_part (drafted (unpacked x)).around ≡ true =
+    rw c.self.view_is (sym c.in_first_part.ensures ∙ c.if-not-in_first_part.false) in
+    let last : c.len-at.result - 1 + 1 ≡ length c.self.inside.parts.items = omega (
+      arith,
+      c.self.inside.parts.ok.0,
+      depth-is part_in _ _ c.self.invariant.building,
+      first_part_open _ can,
+    ) in
+    rw (← c.self.view_is)
+    (else-pushed x c.self.inside.parts.items c.self.inside.after_else c.self.invariant c.push.new.self.items
+    (c.len-at.result - 1) c.in_ok-push.ensures.items can last).drafted

@@ -1,36 +1,43 @@
-use Rattle.std.proofs.Common.{◌≡◌, ◌-◌, length, true, ap, arith}
-use Rattle.wc_ast.specs.Draft.{is_open}
-use Rattle.wc_ast.specs.Nested.{close}
-use Rattle.wc_ast.specs.Entries.{drafted, marks}
-use Rattle.wc_ast.specs.OpenParts.{part_in}
-use Rattle.wc_ast.proofs.BuildingLemmas.{building-more, ended-built, open_where, outermost-closed, depth-is}
-use Rattle.wc_ast.specs.declared.instr.Instr.{Instr}
-use Rattle.wc_ast.specs.Draft.{Draft}
+use Rattle.std.proofs.Common.{◌≡◌, ◌+◌, ◌-◌, true, length, sym, ap, ◌∙◌, arith}
 use Rattle.wc_ast.specs.declared.instr.BlockType.{BlockType}
+use Rattle.wc_ast.specs.declared.instr.Instr.{Instr}
+use Rattle.wc_ast.specs.Draft.{Draft, is_open}
+use Rattle.wc_ast.specs.Entries.{drafted}
+use Rattle.wc_ast.specs.OpenParts.{part_in}
+use Rattle.wc_ast.specs.Unpacked.{unpacked}
+use Rattle.wc_ast.proofs.BuildingLemmas.{depth-is, open_where}
+use Rattle.wc_ast.proofs.BuilderLemmas.{end-pushed}
+use Rattle.wc_ast.proofs.PackedLemmas.{else-last}
 use Rattle.wc_ast.proofs.builder.BodyBuilder.push_end.Goals as goal
+
+pub put_end-requires : goal.put_end-requires
+put_end-requires c after =
+    else-last c.self.inside.bytes.items c.self.invariant.packed (sym c.self.invariant.last ∙ after)
 
 pub invariant_of-self-2 : goal.invariant_of-self-2
 invariant_of-self-2 c =
-    let open_ : is_open (drafted c.self.inside.entries.items).around ≡ true =
-    rw c.self.view_is (open_where _ (omega arith)) in
-    let e = ended-built (marks c.self.inside.entries.items) c.self.invariant.each open_ in
-    building-more part_in (marks c.self.inside.entries.items) c.self.inside.parts.items _ _ close c.self.invariant
-    (rw c.in_ok-put_end.ensures.ok e.each) (rw c.in_ok-put_end.ensures.ok e.same) (λ e. absurd cc)
-    (rw (c.pop.ensures.rest, c.self.invariant.stacked) (outermost-closed part_in
-    (drafted c.self.inside.entries.items).around (drafted c.self.inside.entries.items).last
-    (c.self.inside.parts.len - 1) (rw (← c.self.invariant.stacked)
-    (omega (
+    let x = c.self.inside.bytes.items in
+    let open_ : is_open (drafted (unpacked x)).around ≡ true = rw c.self.view_is (open_where _ (omega arith)) in
+    let last : c.self.inside.parts.len - 1 + 1 ≡ length c.self.inside.parts.items = omega (
       arith,
       c.self.inside.parts.ok.0,
-      depth-is part_in
-          (marks c.self.inside.entries.items) c.self.inside.parts.items c.self.invariant,
-      ap
-          (λ (d : Draft Instr BlockType). length d.around) c.self.view_is,
-    )))))
+      depth-is part_in _ _ c.self.invariant.building,
+      ap (λ (d : Draft Instr BlockType). length d.around) c.self.view_is,
+    ) in
+    rw c.pop.ensures.rest
+    (end-pushed x c.self.inside.parts.items c.self.inside.after_else c.self.invariant c.put_end.new.bytes.items
+    (c.self.inside.parts.len - 1) c.in_ok-put_end.ensures.ok open_ last).started
 
 pub returns-clause-ok : goal.returns-clause-ok
 returns-clause-ok c =
-    let open_ : is_open (drafted c.self.inside.entries.items).around ≡ true =
-    rw c.self.view_is (open_where _ (omega arith)) in
-    let e = ended-built (marks c.self.inside.entries.items) c.self.invariant.each open_ in
-    rw (c.in_ok-put_end.ensures.ok, ← c.self.view_is) e.same
+    let x = c.self.inside.bytes.items in
+    let open_ : is_open (drafted (unpacked x)).around ≡ true = rw c.self.view_is (open_where _ (omega arith)) in
+    let last : c.self.inside.parts.len - 1 + 1 ≡ length c.self.inside.parts.items = omega (
+      arith,
+      c.self.inside.parts.ok.0,
+      depth-is part_in _ _ c.self.invariant.building,
+      ap (λ (d : Draft Instr BlockType). length d.around) c.self.view_is,
+    ) in
+    rw (← c.self.view_is)
+    (end-pushed x c.self.inside.parts.items c.self.inside.after_else c.self.invariant c.put_end.new.bytes.items
+    (c.self.inside.parts.len - 1) c.in_ok-put_end.ensures.ok open_ last).drafted

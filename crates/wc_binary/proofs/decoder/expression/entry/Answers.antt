@@ -6,18 +6,18 @@ use Rattle.wc_binary.proofs.decoder.expression.entry.Goals as goal
 use Rattle.wc_binary.proofs.decoder.expression.entry.Goals.{else-byte-eq5-via-then-byte-eq5+else-in_first_part}
 use Rattle.wc_binary.proofs.decoder.expression.entry.Goals.{else-byte-eq5-via-else-byte-eq5}
 
-pub returns-in-Known-clause-gives : goal.returns-in-Known-clause-gives
-returns-in-Known-clause-gives g c =
+pub returns-in-Known : goal.returns-in-Known
+returns-in-Known g c =
     let e = opcode-is c.args.byte (Known c.in-Known.op) c.in-Known.ensures (λ e. absurd cc) in
-    rw e c.instruction.ensures.gives
+    rw e c.instruction.ensures
 
-pub returns-in-Float-clause-gives : goal.returns-in-Float-clause-gives
-returns-in-Float-clause-gives g c =
+pub returns-in-Float : goal.returns-in-Float
+returns-in-Float g c =
     let e = opcode-is c.args.byte Float c.in-Float.ensures (λ e. absurd cc) in
     (GoesOn-refl _, λ w. rw (e, c.requires) refl)
 
-pub returns-else-byte-eq5-clause-gives : goal.returns-else-byte-eq5-clause-gives
-returns-else-byte-eq5-clause-gives g c = (
+pub returns-else-byte-eq5 : goal.returns-else-byte-eq5
+returns-else-byte-eq5 g c = (
   GoesOn-refl _,
   λ w.
       let e = no-entry c.args.builder.now c.args.byte c.args.at (g.S.Source.input c.args.source.now).left

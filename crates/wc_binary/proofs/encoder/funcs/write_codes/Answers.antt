@@ -1,7 +1,7 @@
 use Rattle.std.proofs.Common.{[], map, ◌∙◌}
 use Rattle.std.proofs.lemmas.Result.{err_from_is_err_and}
 use Rattle.wc_binary.specs.Module.{code_of}
-use Rattle.wc_binary.specs.Written.{vector_bytes}
+use Rattle.wc_ast.specs.ValueBytes.{vector_bytes}
 use Rattle.wc_binary.specs.WrittenContents.{code_bytes, FitsCode}
 use Rattle.wc_binary.proofs.Encoding.{mapped-fails, get_or-any}
 use Rattle.wc_binary.proofs.encoder.funcs.write_codes.Goals as goal

@@ -2,7 +2,7 @@ use Rattle.std.proofs.Common.{[], map, ◌∙◌}
 use Rattle.std.proofs.lemmas.Result.{err_from_is_err_and}
 use Rattle.wc_leb128.specs.Shortest.{unsigned_bytes}
 use Rattle.wc_binary.specs.Module.{type_of}
-use Rattle.wc_binary.specs.Written.{vector_bytes, Fits32}
+use Rattle.wc_ast.specs.ValueBytes.{vector_bytes, Fits32}
 use Rattle.wc_binary.proofs.Encoding.{mapped-fails, get_or-any}
 use Rattle.wc_binary.proofs.encoder.funcs.write_types.Goals as goal
 

@@ -1,5 +1,5 @@
 use Rattle.std.proofs.lemmas.Result.{err_from_is_err_and}
-use Rattle.wc_binary.specs.Written.{vector_bytes}
+use Rattle.wc_ast.specs.ValueBytes.{vector_bytes}
 use Rattle.wc_binary.proofs.Encoding.{item-fails}
 use Rattle.wc_binary.proofs.encoder.item.write_vector.Goals as goal
 

@@ -1,7 +1,8 @@
 use Rattle.wc_leb128.specs.Shortest.{unsigned_bytes}
 use Rattle.wc_binary.specs.Module.{parts_of}
 use Rattle.wc_binary.specs.Written.{section_bytes, start_bytes, func_type_bytes, import_bytes, table_type_bytes}
-use Rattle.wc_binary.specs.Written.{limits_bytes, export_bytes, Fits32, FitsSection, FitsStart, FitsFuncType}
+use Rattle.wc_ast.specs.ValueBytes.{Fits32}
+use Rattle.wc_binary.specs.Written.{limits_bytes, export_bytes, FitsSection, FitsStart, FitsFuncType}
 use Rattle.wc_binary.specs.Written.{FitsImport, FitsLimits, FitsExport}
 use Rattle.wc_binary.specs.WrittenContents.{global_bytes, elem_bytes, code_bytes, data_bytes, FitsGlobal, FitsElem}
 use Rattle.wc_binary.specs.WrittenContents.{FitsCode, FitsData}

@@ -1,6 +1,7 @@
 use Rattle.std.proofs.Common.{[]}
 use Rattle.std.proofs.lemmas.Result.{err_from_is_err_and}
-use Rattle.wc_binary.specs.Written.{FitsLimits, vector_bytes, table_type_bytes}
+use Rattle.wc_ast.specs.ValueBytes.{vector_bytes}
+use Rattle.wc_binary.specs.Written.{FitsLimits, table_type_bytes}
 use Rattle.wc_binary.proofs.Encoding.{item-fails, get_or-any}
 use Rattle.wc_binary.proofs.encoder.types.write_table_types.Goals as goal
 

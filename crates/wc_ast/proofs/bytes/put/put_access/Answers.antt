@@ -1,0 +1,10 @@
+use Rattle.wc_leb128.proofs.UnsignedShortest.{unsigned_bytes-low}
+use Rattle.wc_ast.proofs.bytes.put.put_access.Goals as goal
+
+pub returns-then-arg-lt128-2-clause-ok : goal.returns-then-arg-lt128-2-clause-ok
+returns-then-arg-lt128-2-clause-ok c =
+    rw (
+      unsigned_bytes-low c.args.arg.align c.if-arg-lt128.true,
+      unsigned_bytes-low c.args.arg.offset c.if-arg-lt128-2.true,
+      ← c.byte.ensures,
+    ) c.put_three.ensures.ok

@@ -1,0 +1,195 @@
+//! The entry that bytes begin with (Core 1.0, 5.4; Core 2.0 for block types).
+
+ghost use Rattle.std.specs.Prelude.{◌≡◌, option_map};
+ghost use Rattle.wc_ast.specs.Fronts.{seen, behind_labels, behind_byte, simple_front, index_front, memory_front};
+ghost use Rattle.wc_ast.specs.Fronts.{table_front, call_indirect_front, i32_front, i64_front, type_index_front};
+ghost use Rattle.wc_ast.specs.Fronts.{block_type_front, begin_front, known_front, meant_front, entry_front};
+ghost use Rattle.wc_ast.specs.Told.{Tells};
+
+use crate::ask::Ask;
+use crate::bytes::number::{i32_at, i33_at, i64_at, u32_at};
+use crate::entry::{Entry, Kind};
+use crate::instr::{BlockType, Instr, MemArg};
+use crate::labels::{Items, Labels};
+use crate::op::{IndexOp, MemOp, Op, OpByte, SimpleOp};
+use crate::val_type::ValType;
+
+/// What follows one byte.
+fn behind_byte(bytes: &[u8]) -> Option<&[u8]>
+    ensures { option_map (λ rest. rest.now) result ≡ behind_byte bytes.now }
+{
+    let (_, rest) = bytes.split_first()?;
+    Some(rest)
+}
+
+/// What follows so many labels.
+fn behind_labels(count: u32, bytes: &[u8]) -> Option<&[u8]>
+    ensures { option_map (λ rest. rest.now) result ≡ behind_labels count bytes.now }
+{
+    let mut rest = bytes;
+    for _ in 0..count {
+        let (_, behind) = u32_at(rest)?;
+        rest = behind;
+    }
+    Some(rest)
+}
+
+#[inline(always)]
+fn simple_at(op: SimpleOp, bytes: &[u8]) -> Option<(Entry<'_>, &[u8])>
+    ensures { option_map seen result ≡ simple_front op bytes.now }
+{
+    let mut rest = bytes;
+    if matches!(op, SimpleOp::MemorySize | SimpleOp::MemoryGrow) {
+        rest = behind_byte(bytes)?;
+    }
+    Some((Entry::Plain(Instr::Simple(op)), rest))
+}
+
+#[inline(always)]
+fn index_at(op: IndexOp, bytes: &[u8]) -> Option<(Entry<'_>, &[u8])>
+    ensures { option_map seen result ≡ index_front op bytes.now }
+{
+    let (index, rest) = u32_at(bytes)?;
+    Some((Entry::Plain(Instr::Index(op, index)), rest))
+}
+
+#[inline(always)]
+fn memory_at(op: MemOp, bytes: &[u8]) -> Option<(Entry<'_>, &[u8])>
+    ensures { option_map seen result ≡ memory_front op bytes.now }
+{
+    let (align, rest) = u32_at(bytes)?;
+    let (offset, rest) = u32_at(rest)?;
+    Some((Entry::Plain(Instr::Mem(op, MemArg { align, offset })), rest))
+}
+
+fn table_at(bytes: &[u8]) -> Option<(Entry<'_>, &[u8])>
+    ensures { option_map seen result ≡ table_front bytes.now }
+{
+    let (count, labels) = u32_at(bytes)?;
+    let behind = behind_labels(count, labels)?;
+    let (default, rest) = u32_at(behind)?;
+    let labels = Labels::from_items(Items::Spelled(count, labels));
+    Some((Entry::Plain(Instr::BrTable(default, labels)), rest))
+}
+
+fn call_indirect_at(bytes: &[u8]) -> Option<(Entry<'_>, &[u8])>
+    ensures { option_map seen result ≡ call_indirect_front bytes.now }
+{
+    let (ty, rest) = u32_at(bytes)?;
+    Some((Entry::Plain(Instr::CallIndirect(ty)), behind_byte(rest)?))
+}
+
+#[inline(always)]
+fn i32_const_at(bytes: &[u8]) -> Option<(Entry<'_>, &[u8])>
+    ensures { option_map seen result ≡ i32_front bytes.now }
+{
+    let (n, rest) = i32_at(bytes)?;
+    Some((Entry::Plain(Instr::I32Const(n)), rest))
+}
+
+#[inline(always)]
+fn i64_const_at(bytes: &[u8]) -> Option<(Entry<'_>, &[u8])>
+    ensures { option_map seen result ≡ i64_front bytes.now }
+{
+    let (n, rest) = i64_at(bytes)?;
+    Some((Entry::Plain(Instr::I64Const(n)), rest))
+}
+
+fn type_index_at(bytes: &[u8]) -> Option<(BlockType, &[u8])>
+    ensures { option_map seen result ≡ type_index_front bytes.now }
+{
+    let (index, rest) = i33_at(bytes)?;
+    if index < 0 {
+        return None;
+    }
+    Some((BlockType::Index(index as u32), rest))
+}
+
+fn block_type_at(bytes: &[u8]) -> Option<(BlockType, &[u8])>
+    ensures { option_map seen result ≡ block_type_front bytes.now }
+{
+    let (first, rest) = bytes.split_first()?;
+    match *first {
+        0x40 => Some((BlockType::Empty, rest)),
+        0x7f => Some((BlockType::Value(ValType::I32), rest)),
+        0x7e => Some((BlockType::Value(ValType::I64), rest)),
+        _ => type_index_at(bytes),
+    }
+}
+
+#[inline(always)]
+fn begin_at(kind: Kind, bytes: &[u8]) -> Option<(Entry<'_>, &[u8])>
+    ensures { option_map seen result ≡ begin_front kind bytes.now }
+{
+    let (block_type, rest) = block_type_at(bytes)?;
+    Some((Entry::Begin(kind, block_type), rest))
+}
+
+/// The answer of the entry that was found, and what follows it.
+#[inline(always)]
+fn told<'a, Q: Ask<'a>>(
+    found: Option<(Entry<'a>, &'a [u8])>,
+    question: Q,
+) -> Option<(Q::Answer, &'a [u8])>
+    requires { Q.ready question }
+    ensures { Tells (Q.answers question) (option_map seen found.entry) (option_map seen result) }
+{
+    let (entry, rest) = found?;
+    Some((question.ask(entry), rest))
+}
+
+/// The answer of the entry of an instruction whose opcode stands before these bytes, and what follows it. The question
+/// is put where the form of the entry is known.
+#[inline(always)]
+fn known_with<'a, Q: Ask<'a>>(op: Op, bytes: &'a [u8], question: Q) -> Option<(Q::Answer, &'a [u8])>
+    requires { Q.ready question }
+    ensures { Tells (Q.answers question) (known_front op bytes.now) (option_map seen result) }
+{
+    match op {
+        Op::Simple(op) => told(simple_at(op, bytes), question),
+        Op::Index(op) => told(index_at(op, bytes), question),
+        Op::Mem(op) => told(memory_at(op, bytes), question),
+        Op::BrTable => told(table_at(bytes), question),
+        Op::CallIndirect => told(call_indirect_at(bytes), question),
+        Op::I32Const => told(i32_const_at(bytes), question),
+        Op::I64Const => told(i64_const_at(bytes), question),
+        Op::Block => told(begin_at(Kind::Block, bytes), question),
+        Op::Loop => told(begin_at(Kind::Loop, bytes), question),
+        Op::If => told(begin_at(Kind::If, bytes), question),
+    }
+}
+
+#[inline(always)]
+fn meant_with<'a, Q: Ask<'a>>(
+    meaning: OpByte,
+    byte: u8,
+    bytes: &'a [u8],
+    question: Q,
+) -> Option<(Q::Answer, &'a [u8])>
+    requires { Q.ready question }
+    ensures { Tells (Q.answers question) (meant_front meaning byte bytes.now) (option_map seen result) }
+{
+    match meaning {
+        OpByte::Known(op) => known_with(op, bytes, question),
+        OpByte::Float => None,
+        OpByte::Unknown => match byte {
+            0x05 => Some((question.ask(Entry::Else), bytes)),
+            0x0b => Some((question.ask(Entry::End), bytes)),
+            _ => None,
+        },
+    }
+}
+
+/// The answer of the entry that the bytes begin with, and what follows it.
+#[inline(always)]
+#[tactic(auto, unfolding(crate::specs::Fronts::entry_front))]
+pub(crate) fn entry_with<'a, Q: Ask<'a>>(
+    bytes: &'a [u8],
+    question: Q,
+) -> Option<(Q::Answer, &'a [u8])>
+    requires { Q.ready question }
+    ensures { Tells (Q.answers question) (entry_front bytes.now) (option_map seen result) }
+{
+    let (byte, rest) = bytes.split_first()?;
+    meant_with(Op::of_byte(*byte), *byte, rest, question)
+}

@@ -1,0 +1,31 @@
+use Rattle.std.proofs.Common.{ℕ, arith}
+use Rattle.wc_leb128.specs.Integers.{U}
+use Rattle.wc_leb128.proofs.UnsignedLaws.{continues, unambiguous}
+use Rattle.wc_leb128.proofs.AtFront.{front-start, front-done, front-bad, front-more, front-end}
+use Rattle.wc_leb128.proofs.front.unsigned_at.Goals as goal
+
+pub loop-byte-init : goal.loop-byte-init
+loop-byte-init g c =
+    front-start ℕ (U g.row.N) (unambiguous g.row.N) _ _ (continues.nothing-unfinished g.row.N) c.new-so_far.ensures
+
+pub returns-in-Done : goal.returns-in-Done
+returns-in-Done g c =
+    let m = rw c.in-Some.ensures.cases.0 at c.loop-byte.invariant in
+    front-done ℕ (U g.row.N) (unambiguous g.row.N) _ _ _ _ _ _ m c.in-Done.ensures
+
+pub returns-in-Bad : goal.returns-in-Bad
+returns-in-Bad g c =
+    let m = rw c.in-Some.ensures.cases.0 at c.loop-byte.invariant in
+    front-bad ℕ (U g.row.N) (unambiguous g.row.N) _ _ _ _ _ m c.in-Bad.ensures
+
+pub loop-byte-smaller : goal.loop-byte-smaller
+loop-byte-smaller g c = omega (arith, c.in-Some.ensures.cases.1)
+
+pub loop-byte-preserved : goal.loop-byte-preserved
+loop-byte-preserved g c =
+    let m = rw c.in-Some.ensures.cases.0 at c.loop-byte.invariant in
+    front-more ℕ (U g.row.N) (unambiguous g.row.N) _ _ _ _ _ m c.in-More.ensures
+
+pub returns : goal.returns
+returns g c =
+    front-end ℕ (U g.row.N) (unambiguous g.row.N) _ _ _ c.loop-byte.invariant c.in_default.ensures.cases

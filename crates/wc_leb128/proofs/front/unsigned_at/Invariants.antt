@@ -1,0 +1,10 @@
+use Rattle.std.proofs.Common.{ℕ, length}
+use Rattle.wc_leb128.specs.Integers.{U}
+use Rattle.wc_leb128.proofs.AtFront.{IsMidway}
+use Rattle.wc_leb128.proofs.front.unsigned_at.Given as goal
+
+abbrev pub invariant-loop-byte : goal.invariant-loop-byte
+invariant-loop-byte g l = IsMidway ℕ (U g.row.N) l.bytes l.so_far l.rest
+
+abbrev pub decreases-loop-byte : goal.decreases-loop-byte
+decreases-loop-byte g l = length l.rest
