@@ -1,5 +1,6 @@
 //! Expressions from bytes.
 
+use crate::tests::checks::{fault_of, is_bad};
 use crate::tests::inputs::{module, repeat};
 use std::alloc::{AllocError, Global};
 use std::test::Fail;
@@ -93,33 +94,33 @@ fn value(module: &Module) -> Result<&Body, Fail> {
     }
 }
 
-fn entries(alloc: Global, body: &Body) -> Result<Vec<Entry<'_>>, Fail> {
-    let mut found = Vec::new(alloc);
-    for entry in body.entries() {
-        found.push(entry)?;
+/// How many entries the expression is kept as.
+fn count(alloc: Global, expression: &[u8]) -> Result<usize, Fail> {
+    let module = decode(alloc, &with_global(alloc, expression)?)?;
+    let mut found = 0usize;
+    for _ in value(&module)?.entries() {
+        found = found.saturating_add(1);
     }
     Ok(found)
 }
 
 #[test]
 fn expressions_are_read(rt: HostRuntime) -> Result<(), Fail> {
-    for (expression, count) in READ {
-        let input = with_global(rt.alloc(), expression)?;
-        let module = decode(rt.alloc(), &input)?;
-        let found = entries(rt.alloc(), value(&module)?)?;
-        assert_eq!(rt; found.len(), count);
+    for &(expression, entries) in &READ {
+        assert_eq!(rt; count(rt.alloc(), expression)?, entries);
     }
     Ok(())
 }
 
+/// Why the expression begins none.
+fn fault(alloc: Global, expression: &[u8]) -> Result<Option<BinFault>, Fail> {
+    Ok(fault_of(alloc, &with_global(alloc, expression)?))
+}
+
 #[test]
 fn expressions_are_refused(rt: HostRuntime) -> Result<(), Fail> {
-    for (expression, at, why) in REFUSED {
-        let input = with_global(rt.alloc(), expression)?;
-        let answer = decode(rt.alloc(), &input);
-        assert!(rt;
-            matches!(answer, Err(BinFault::Bad { at: a, why: w }) if a.wrapping_sub(START) == at && w == why)
-        );
+    for &(expression, at, why) in &REFUSED {
+        assert!(rt; is_bad(fault(rt.alloc(), expression)?, START.wrapping_add(at), why));
     }
     Ok(())
 }
@@ -141,10 +142,11 @@ fn each_form_is_read(rt: HostRuntime) -> Result<(), Fail> {
     let module = decode(rt.alloc(), &input)?;
     let body = value(&module)?;
     assert_eq!(rt; body.bytes(), CANONICAL_FORMS.as_slice());
-    let found = entries(rt.alloc(), body)?;
-    assert_eq!(rt; found.len(), 10);
-    for (entry, expected) in found.iter().zip(FIRST_FORMS) {
-        assert_eq!(rt; shown(entry), expected);
+    assert_eq!(rt; count(rt.alloc(), &FORMS)?, 10);
+    let mut entries = body.entries();
+    for expected in &FIRST_FORMS {
+        let entry = entries.next().ok_or("too few entries")?;
+        assert_eq!(rt; shown(&entry), *expected);
     }
     Ok(())
 }
@@ -153,11 +155,9 @@ fn each_form_is_read(rt: HostRuntime) -> Result<(), Fail> {
 fn as_many_are_open_as_may_be(rt: HostRuntime) -> Result<(), Fail> {
     let mut expression = Vec::new(rt.alloc());
     repeat(&mut expression, &[0x02, 0x40], 20_000)?;
-    let answer = decode(rt.alloc(), &with_global(rt.alloc(), &expression)?);
     let at = START + 40_000;
-    assert!(rt; matches!(answer, Err(BinFault::Bad { at: a, why: BinWhy::End }) if a == at));
+    assert!(rt; is_bad(fault(rt.alloc(), &expression)?, at, BinWhy::End));
     expression.push(0x03)?;
-    let answer = decode(rt.alloc(), &with_global(rt.alloc(), &expression)?);
-    assert!(rt; matches!(answer, Err(BinFault::Bad { at: a, why: BinWhy::Depth }) if a == at));
+    assert!(rt; is_bad(fault(rt.alloc(), &expression)?, at, BinWhy::Depth));
     Ok(())
 }

@@ -26,7 +26,7 @@ const NESTED: [(&[u8], u32); 3] = [
 
 #[test]
 fn blocks_are_nested(rt: HostRuntime) -> Result<(), Fail> {
-    for (sizes, blocks) in NESTED {
+    for &(sizes, blocks) in &NESTED {
         let input = nested(rt.alloc(), sizes, blocks)?;
         check_accepted(&rt, &input, &input)?;
     }

@@ -1,6 +1,7 @@
 //! Readers: how far they are read, and where they fail.
 
 use crate::tests::accepted;
+use crate::tests::checks::{fault_in_pieces, is_bad};
 use crate::tests::inputs::{PIECES, in_pieces, module};
 use std::io::Read;
 use std::test::Fail;
@@ -15,19 +16,10 @@ const TOO_LARGE: [u8; 11] = [
 fn a_fault_is_told_near_its_byte(rt: HostRuntime) -> Result<(), Fail> {
     let mut input = module(rt.alloc(), &TOO_LARGE)?;
     input.extend_from_slice(vec![in rt.alloc(); 0u8; 1_000_000]?.as_slice())?;
-    for piece in PIECES {
-        let mut device = in_pieces(&input, piece, 0);
-        let answer = decode_from(rt.alloc(), &[], &mut device);
-        assert!(rt;
-            matches!(
-                answer,
-                Err(BinFault::Bad {
-                    at: 18,
-                    why: BinWhy::Integer
-                })
-            )
-        );
-        assert!(rt; device.count() <= 4115);
+    for piece in &PIECES {
+        let (fault, count) = fault_in_pieces(rt.alloc(), &input, *piece);
+        assert!(rt; is_bad(fault, 18, BinWhy::Integer));
+        assert!(rt; count <= 4115);
     }
     Ok(())
 }

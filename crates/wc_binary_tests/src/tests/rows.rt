@@ -1,15 +1,16 @@
 //! Modules from bytes, by slices and by readers, and their canonical bytes.
 
-use crate::tests::checks::{check_accepted, check_refused};
+use crate::tests::checks::{check_accepted, check_refused, fault_of};
 use crate::tests::inputs::{function, module};
 use crate::tests::{accepted, refused};
+use std::alloc::Global;
 use std::process::Abort;
 use std::test::Fail;
 use wc_binary::{BinFault, BinWhy, decode, encode};
 
 #[test]
 fn modules_are_accepted(rt: HostRuntime) -> Result<(), Fail> {
-    for (rest, canonical) in accepted::MODULES {
+    for &(rest, canonical) in &accepted::MODULES {
         let input = module(rt.alloc(), rest)?;
         let want = module(rt.alloc(), canonical)?;
         check_accepted(&rt, &input, &want)?;
@@ -19,7 +20,7 @@ fn modules_are_accepted(rt: HostRuntime) -> Result<(), Fail> {
 
 #[test]
 fn bodies_are_accepted(rt: HostRuntime) -> Result<(), Fail> {
-    for (rest, canonical) in accepted::BODIES {
+    for &(rest, canonical) in &accepted::BODIES {
         let input = function(rt.alloc(), rest)?;
         let want = function(rt.alloc(), canonical)?;
         check_accepted(&rt, &input, &want)?;
@@ -29,11 +30,11 @@ fn bodies_are_accepted(rt: HostRuntime) -> Result<(), Fail> {
 
 #[test]
 fn modules_are_refused(rt: HostRuntime) -> Result<(), Fail> {
-    for (rest, at, why) in refused::MODULES {
+    for &(rest, at, why) in &refused::MODULES {
         let input = module(rt.alloc(), rest)?;
         check_refused(&rt, &input, at, why);
     }
-    for (input, at, why) in refused::PREAMBLES {
+    for &(input, at, why) in &refused::PREAMBLES {
         check_refused(&rt, input, at, why);
     }
     Ok(())
@@ -41,27 +42,25 @@ fn modules_are_refused(rt: HostRuntime) -> Result<(), Fail> {
 
 #[test]
 fn bodies_are_refused(rt: HostRuntime) -> Result<(), Fail> {
-    for (rest, at, why) in refused::BODIES {
+    for &(rest, at, why) in &refused::BODIES {
         let input = function(rt.alloc(), rest)?;
         check_refused(&rt, &input, at, why);
     }
     Ok(())
 }
 
-/// A copy has the module's canonical bytes.
-fn check_copied(rt: &(impl Abort + AllocGlobal), input: &[u8], want: &[u8]) -> Result<(), Fail> {
-    let copy = decode(rt.alloc(), input)?.try_clone()?;
-    let out = encode(rt.alloc(), &copy)?;
-    assert_eq!(rt; out.as_slice(), want);
-    Ok(())
+/// The canonical bytes of a copy of the module.
+fn copied(alloc: Global, input: &[u8]) -> Result<Vec<u8>, Fail> {
+    let copy = decode(alloc, input)?.try_clone()?;
+    Ok(encode(alloc, &copy)?)
 }
 
 #[test]
 fn copies_are_the_same(rt: HostRuntime) -> Result<(), Fail> {
-    for (rest, canonical) in accepted::MODULES {
+    for &(rest, canonical) in &accepted::MODULES {
         let input = module(rt.alloc(), rest)?;
         let want = module(rt.alloc(), canonical)?;
-        check_copied(&rt, &input, &want)?;
+        assert_eq!(rt; copied(rt.alloc(), &input)?, want);
     }
     Ok(())
 }
@@ -69,7 +68,7 @@ fn copies_are_the_same(rt: HostRuntime) -> Result<(), Fail> {
 /// A front is a module itself, or ends too early.
 fn check_fronts(rt: &(impl Abort + AllocGlobal), input: &[u8]) {
     for length in 1..input.len() {
-        if let Err(fault) = decode(rt.alloc(), &input[..length]) {
+        if let Some(fault) = fault_of(rt.alloc(), &input[..length]) {
             assert!(rt;
                 matches!(fault, BinFault::Bad { at, why: BinWhy::End | BinWhy::Counts } if at == length as u64)
             );
@@ -79,10 +78,10 @@ fn check_fronts(rt: &(impl Abort + AllocGlobal), input: &[u8]) {
 
 #[test]
 fn fronts_end_early(rt: HostRuntime) -> Result<(), Fail> {
-    for (rest, _canonical) in accepted::MODULES {
+    for &(rest, _canonical) in &accepted::MODULES {
         check_fronts(&rt, &module(rt.alloc(), rest)?);
     }
-    for (rest, _canonical) in accepted::BODIES {
+    for &(rest, _canonical) in &accepted::BODIES {
         check_fronts(&rt, &function(rt.alloc(), rest)?);
     }
     Ok(())
