@@ -125,7 +125,7 @@ const BUILT: [(&[u8], Option<BuildFault>, &[u8]); 14] = [
 
 #[test]
 fn entries_are_kept_or_refused(rt: HostRuntime) -> Result<(), Fail> {
-    for (letters_pushed, refused, kept) in BUILT {
+    for &(letters_pushed, refused, kept) in &BUILT {
         let mut builder = BodyBuilder::new(rt.alloc());
         let outcome = pushed(&mut builder, letters_pushed);
         assert_eq!(rt; outcome, (letters_pushed.len(), refused));

@@ -92,7 +92,7 @@ const OTHER_NAMES: &str =
 #[test]
 fn instructions_by_opcode_and_name(rt: HostRuntime) {
     let mut count = 0u32;
-    for (first, names) in INSTRUCTIONS {
+    for &(first, names) in &INSTRUCTIONS {
         let mut byte = first;
         for name in names.split(' ') {
             assert_eq!(rt;
@@ -130,7 +130,7 @@ fn every_byte_has_its_meaning(rt: HostRuntime) {
         }
     }
     assert_eq!(rt; (known, float), (107, 68));
-    for (first, last) in FLOAT_OPCODES {
+    for &(first, last) in &FLOAT_OPCODES {
         for byte in first..=last {
             assert_eq!(rt; Op::of_byte(byte), OpByte::Float, "{byte}");
         }
@@ -152,7 +152,7 @@ fn names_of_floats_and_others(rt: HostRuntime) {
 
 #[test]
 fn natural_alignments(rt: HostRuntime) {
-    for (alignment, names) in ALIGNMENTS {
+    for &(alignment, names) in &ALIGNMENTS {
         for name in names.split(' ') {
             assert_eq!(rt; alignment_of(name), Some(alignment));
         }

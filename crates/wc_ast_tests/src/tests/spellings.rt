@@ -252,10 +252,11 @@ const INSTRUCTIONS: [Row; 57] = [
 
 #[test]
 fn instructions_have_their_bytes(rt: HostRuntime) -> Result<(), Fail> {
-    for row in INSTRUCTIONS {
-        check_rows(&rt, &[IF, ELSE, row, END])?;
+    let rows = INSTRUCTIONS.as_slice();
+    for row in rows {
+        check_rows(&rt, &[IF, ELSE, *row, END])?;
     }
-    check_rows(&rt, &INSTRUCTIONS)
+    check_rows(&rt, rows)
 }
 
 /// What begins, with its type, and their bytes (Core 1.0, 5.4.1; Core 2.0, 5.4.1, for an index).
@@ -281,7 +282,7 @@ const BLOCKS: [(Kind, BlockType, &[u8]); 13] = [
 
 #[test]
 fn blocks_have_their_bytes(rt: HostRuntime) -> Result<(), Fail> {
-    for (kind, block_type, bytes) in BLOCKS {
+    for &(kind, block_type, bytes) in &BLOCKS {
         let begin = (Step::Begin(kind, block_type), bytes);
         check_rows(&rt, &[begin, END])?;
         check_rows(&rt, &[IF, ELSE, begin, END, END])?;
