@@ -35,11 +35,11 @@ fn told(alloc: Global, outcome: Result<u64, RunFault>) -> Result<String, AllocEr
 
 #[test]
 fn inputs_are_answered(rt: HostRuntime) -> Result<(), Fail> {
-    for (input, answer) in ACCEPTED {
+    for &(input, answer) in &ACCEPTED {
         let bytes = normalise(rt.alloc(), input)?;
         assert_eq!(rt; bytes.as_slice(), answer);
     }
-    for (input, text) in REFUSED {
+    for &(input, text) in &REFUSED {
         let refusal = normalise(rt.alloc(), input).expect_err(&rt, "a refusal");
         assert_eq!(rt; render(rt.alloc(), &refusal)?.as_str(), text);
     }
@@ -49,13 +49,13 @@ fn inputs_are_answered(rt: HostRuntime) -> Result<(), Fail> {
 #[test]
 fn pieces_are_joined(rt: HostRuntime) -> Result<(), Fail> {
     for piece in [1, 2, 3, 4095, 4096, 4097] {
-        for (input, answer) in ACCEPTED {
+        for &(input, answer) in &ACCEPTED {
             let mut r = Device::new(Reader::new(input, piece, 0));
             let mut w = Device::new(Vec::new(rt.alloc()));
             let n = run(rt.alloc(), Job::Binary, &mut r, &mut w)?;
             assert_eq!(rt; (n, w.inner().as_slice()), (answer.len() as u64, answer));
         }
-        for (input, text) in REFUSED {
+        for &(input, text) in &REFUSED {
             let mut r = Device::new(Reader::new(input, piece, 0));
             let mut w = Device::new(Vec::new(rt.alloc()));
             let outcome = run(rt.alloc(), Job::Binary, &mut r, &mut w);

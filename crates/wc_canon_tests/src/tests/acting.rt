@@ -131,7 +131,7 @@ fn is_told(rt: &impl Abort, told: Told, status: u8, answer: &[u8], fault: &str) 
 #[test]
 fn one_input_is_answered(rt: HostRuntime) {
     let alloc = rt.alloc();
-    for (input, status, answer, word, fault) in INPUTS {
+    for &(input, status, answer, word, fault) in &INPUTS {
         let told = to_output(alloc, whole(input), writer(alloc, 4096, 0));
         is_told(&rt, told, status, answer, fault);
         let told = to_file(alloc, whole(input), writer(alloc, 4096, 0));
@@ -151,7 +151,7 @@ fn a_refused_input_makes_no_call_of_the_writer(rt: HostRuntime) {
 #[test]
 fn two_inputs_are_compared(rt: HostRuntime) {
     let alloc = rt.alloc();
-    for (a, b, status, word, fault) in PAIRS {
+    for &(a, b, status, word, fault) in &PAIRS {
         let told = compared(alloc, whole(a), whole(b), writer(alloc, 4096, 0));
         is_told(&rt, told, status, word.as_bytes(), fault);
     }
