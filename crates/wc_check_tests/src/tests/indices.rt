@@ -93,7 +93,7 @@ const TYPE_INDICES: [(&[Part], Found); 16] = [
 
 #[test]
 fn type_indices(rt: HostRuntime) -> Result<(), Fail> {
-    for (parts, found) in TYPE_INDICES {
+    for &(parts, found) in &TYPE_INDICES {
         expect(&rt, rt.alloc(), parts, found)?;
     }
     Ok(())
@@ -265,7 +265,7 @@ const INDICES: [(&[Part], Found); 31] = [
 
 #[test]
 fn indices(rt: HostRuntime) -> Result<(), Fail> {
-    for (parts, found) in INDICES {
+    for &(parts, found) in &INDICES {
         expect(&rt, rt.alloc(), parts, found)?;
     }
     Ok(())

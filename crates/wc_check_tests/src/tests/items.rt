@@ -47,7 +47,7 @@ const SIZES: [(&[Part], Found); 11] = [
 
 #[test]
 fn sizes(rt: HostRuntime) -> Result<(), Fail> {
-    for (parts, found) in SIZES {
+    for &(parts, found) in &SIZES {
         expect(&rt, rt.alloc(), parts, found)?;
     }
     Ok(())
@@ -81,7 +81,7 @@ const ONE_TABLE_AND_ONE_MEMORY: [(&[Part], Found); 8] = [
 
 #[test]
 fn one_table_and_one_memory(rt: HostRuntime) -> Result<(), Fail> {
-    for (parts, found) in ONE_TABLE_AND_ONE_MEMORY {
+    for &(parts, found) in &ONE_TABLE_AND_ONE_MEMORY {
         expect(&rt, rt.alloc(), parts, found)?;
     }
     Ok(())
@@ -140,7 +140,7 @@ const CONSTANTS: [(&[Part], Found); 15] = [
 
 #[test]
 fn constants(rt: HostRuntime) -> Result<(), Fail> {
-    for (parts, found) in CONSTANTS {
+    for &(parts, found) in &CONSTANTS {
         expect(&rt, rt.alloc(), parts, found)?;
     }
     Ok(())
@@ -211,7 +211,7 @@ const GLOBALS_NAMES_AND_START: [(&[Part], Found); 12] = [
 
 #[test]
 fn globals_names_and_start(rt: HostRuntime) -> Result<(), Fail> {
-    for (parts, found) in GLOBALS_NAMES_AND_START {
+    for &(parts, found) in &GLOBALS_NAMES_AND_START {
         expect(&rt, rt.alloc(), parts, found)?;
     }
     Ok(())
@@ -284,7 +284,7 @@ const THE_FIRST_ITEM: [(&[Part], Found); 14] = [
 
 #[test]
 fn the_first_item(rt: HostRuntime) -> Result<(), Fail> {
-    for (parts, found) in THE_FIRST_ITEM {
+    for &(parts, found) in &THE_FIRST_ITEM {
         expect(&rt, rt.alloc(), parts, found)?;
     }
     Ok(())

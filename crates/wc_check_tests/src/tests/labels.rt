@@ -53,7 +53,7 @@ const LABELS: [(&[Part], Found); 12] = [
 
 #[test]
 fn labels(rt: HostRuntime) -> Result<(), Fail> {
-    for (parts, found) in LABELS {
+    for &(parts, found) in &LABELS {
         expect(&rt, rt.alloc(), parts, found)?;
     }
     Ok(())
@@ -144,7 +144,7 @@ const ALIGNMENTS: [(&[Part], Found); 12] = [
 
 #[test]
 fn alignments(rt: HostRuntime) -> Result<(), Fail> {
-    for (parts, found) in ALIGNMENTS {
+    for &(parts, found) in &ALIGNMENTS {
         expect(&rt, rt.alloc(), parts, found)?;
     }
     Ok(())
