@@ -173,7 +173,7 @@ fn shown(alloc: Global, text: &[u8]) -> Result<String, Fail> {
 
 #[test]
 fn tokens(rt: HostRuntime) -> Result<(), Fail> {
-    for (text, want) in TOKENS {
+    for &(text, want) in &TOKENS {
         let shown = shown(rt.alloc(), text.as_bytes())?;
         assert_eq!(rt; shown.as_str(), want, "{text}");
     }
@@ -182,7 +182,7 @@ fn tokens(rt: HostRuntime) -> Result<(), Fail> {
 
 #[test]
 fn faults(rt: HostRuntime) -> Result<(), Fail> {
-    for (text, want) in FAULTS {
+    for &(text, want) in &FAULTS {
         let shown = shown(rt.alloc(), text)?;
         assert_eq!(rt; shown.as_str(), want);
     }
@@ -191,7 +191,7 @@ fn faults(rt: HostRuntime) -> Result<(), Fail> {
 
 #[test]
 fn strings(rt: HostRuntime) -> Result<(), Fail> {
-    for (text, want) in STRINGS {
+    for &(text, want) in &STRINGS {
         let tokens = lex(rt.alloc(), text.as_bytes()).ok().ok_or("no tokens")?;
         assert_eq!(rt; tokens.as_slice().len(), 1);
         let token: &Token = &tokens.as_slice()[0];
