@@ -10,20 +10,24 @@ use Rattle.wc_ast.specs.declared.entry.Kind.TheVariants.{Block, Loop, If}
 use Rattle.wc_ast.specs.declared.entry.Entry.{Entry}
 use Rattle.wc_ast.specs.declared.entry.Entry.TheVariants.{Begin, Else, End}
 use Rattle.wc_ast.specs.declared.builder.Part.{Part}
+use Rattle.wc_ast.specs.declared.needs.Needs.{Needs}
 use Rattle.wc_ast.specs.declared.builder.Part.TheVariants.{Other}
 use Rattle.wc_ast.specs.declared.builder.BuildFault.{BuildFault}
 use Rattle.wc_ast.specs.declared.builder.BuildFault.TheVariants as BuildFaults
 use Rattle.wc_ast.specs.Nested.{nesting_limit, Code, empty, Mark, close}
 use Rattle.wc_ast.specs.Draft.{Frame, in_region, in_then, in_else, in_first_part, turned, Draft, whole, step, begins}
-use Rattle.wc_ast.specs.Draft.{adds, takes, is_otherwise, is_open, built, so_far, with_mark}
+use Rattle.wc_ast.specs.Draft.{adds, takes, is_otherwise, is_open, built, so_far, with_mark as more_marks}
 use Rattle.wc_ast.specs.NestedLaws.{steps-append}
 use Rattle.wc_ast.specs.Entries.{begin_of, mark, marks, drafted}
 use Rattle.wc_ast.specs.Building.{outermost, IsBuilding}
 use Rattle.wc_ast.specs.OpenParts.{part_of, part_in}
 use Rattle.wc_ast.specs.InstructionBytes.{opening_bytes, block_type_bytes, entry_bytes, FitsEntry, FitsBlockType}
+use Rattle.wc_ast.specs.Needed.{nothing, with_block, with_mark, needs_along}
 use Rattle.wc_ast.specs.Unpacked.{unpacked}
 use Rattle.wc_ast.specs.PackedBody.{ends_with_else, with_end, IsStarted}
-use Rattle.wc_ast.proofs.BuildingLemmas.{building-more, building-push, ended-built, kept, HeadPart, outermost-turned, outermost-closed}
+use Rattle.wc_ast.proofs.BuildingLemmas.{building-more, building-push, depth-is, ended-built, kept, HeadPart}
+use Rattle.wc_ast.proofs.BuildingLemmas.{outermost-turned, outermost-closed}
+use Rattle.wc_ast.proofs.NeedsLemmas.{needs-more, needs-ended}
 use Rattle.wc_ast.proofs.PackedLemmas.{packs-none, packs-more, ends-more, packs-end}
 
 pub drafted-push : (es : List Entry) (e : Entry) → drafted (es ++ e ∷ []) ≡ step (drafted es) (mark e)
@@ -41,28 +45,30 @@ entry-push es stack e new b can room stacked = rw (map-append mark es (e ∷ [])
 pub drafted-none : drafted (unpacked []) ≡ whole empty
 drafted-none = ap drafted packs-none.is
 
-pub started-none : IsStarted [] [] false
+pub started-none : IsStarted [] [] false nothing
 started-none = record {
   packed = packs-none.packed;
-  building = rw packs-none.is nothing;
+  building = rw packs-none.is none_open;
   last = ap ends_with_else (sym packs-none.is);
+  needed = ap (λ (es : List Entry). needs_along nothing 0 (marks es)) (sym packs-none.is);
 }
   where
-    nothing : IsBuilding part_in (marks []) []
-    nothing = record { each = tt; stacked = refl; within = omega arith; depth = omega arith }
+    none_open : IsBuilding part_in (marks []) []
+    none_open = record { each = tt; stacked = refl; within = omega arith; depth = omega arith }
 
 -- what a builder keeps, and what it stands for, behind one more entry
-pub record Pushed (x : List ℕ) (e : Entry) (new : List ℕ) (parts : List Part) (after_else : Bool) : Type 0 where
-  pub started : IsStarted new parts after_else
+pub record Pushed (x : List ℕ) (e : Entry) (new : List ℕ) (parts : List Part) (after_else : Bool) (needs : Needs)
+    : Type 0 where
+  pub started : IsStarted new parts after_else needs
   pub drafted : drafted (unpacked new) ≡ step (drafted (unpacked x)) (mark e)
 
-pub started-push : (x : List ℕ) (old : List Part) (b : Bool) → IsStarted x old b → (e : Entry) → FitsEntry e
-    → (new : List ℕ) (parts : List Part) (after_else : Bool) → new ≡ x ++ entry_bytes e
+pub started-push : (x : List ℕ) (old : List Part) (b : Bool) (n : Needs) → IsStarted x old b n → (e : Entry)
+    → FitsEntry e → (new : List ℕ) (parts : List Part) (after_else : Bool) → new ≡ x ++ entry_bytes e
     → adds (drafted (unpacked x)) (mark e) ≡ true
     → (begins (mark e) ≡ true → length (drafted (unpacked x)).around < nesting_limit)
     → parts ≡ outermost part_in (step (drafted (unpacked x)) (mark e)).around → after_else ≡ is_otherwise (mark e)
-    → Pushed x e new parts after_else
-started-push x old b s e f new parts after_else is can room stacked last =
+    → Pushed x e new parts after_else (with_mark n (length old) (mark e))
+started-push x old b n s e f new parts after_else is can room stacked last =
     let k = packs-more x s.packed e f new is in
     let building = entry-push (unpacked x) old e parts s.building can room stacked in
     record {
@@ -70,15 +76,22 @@ started-push x old b s e f new parts after_else is can room stacked last =
         packed = k.packed;
         building = subst (λ (es : List Entry). IsBuilding part_in (marks es) parts) (sym k.is) building;
         last = last ∙ sym (ends-more (unpacked x) e) ∙ ap ends_with_else (sym k.is);
+        needed =
+            ap (λ (m : Needs). with_mark m (length old) (mark e)) s.needed
+            ∙ ap (λ (d : ℕ). with_mark (needs_along nothing 0 (marks (unpacked x))) d (mark e))
+            (depth-is part_in (marks (unpacked x)) old s.building)
+            ∙ sym (needs-more (marks (unpacked x)) (mark e))
+            ∙ ap (λ (ms : List (Mark Instr BlockType)). needs_along nothing 0 ms)
+            (sym (map-append mark (unpacked x) (e ∷ [])) ∙ ap marks (sym k.is));
       };
       drafted = ap drafted k.is ∙ drafted-push (unpacked x) e;
     }
 
 -- and behind an end mark
-pub started-end : (x : List ℕ) (old : List Part) (b : Bool) → IsStarted x old b → (new : List ℕ) (parts : List Part)
-    → new ≡ with_end b x → is_open (drafted (unpacked x)).around ≡ true
-    → parts ≡ outermost part_in (step (drafted (unpacked x)) close).around → Pushed x End new parts false
-started-end x old b s new parts is open_ stacked =
+pub started-end : (x : List ℕ) (old : List Part) (b : Bool) (n : Needs) → IsStarted x old b n → (new : List ℕ)
+    (parts : List Part) → new ≡ with_end b x → is_open (drafted (unpacked x)).around ≡ true
+    → parts ≡ outermost part_in (step (drafted (unpacked x)) close).around → Pushed x End new parts false n
+started-end x old b n s new parts is open_ stacked =
     let k = packs-end x s.packed b s.last new is in
     let e = ended-built (marks (unpacked x)) s.building.each open_ in
     let same : built (marks (unpacked new)) ≡ step (drafted (unpacked x)) close =
@@ -89,6 +102,9 @@ started-end x old b s new parts is open_ stacked =
         building = building-more part_in (marks (unpacked x)) old (marks (unpacked new)) parts close s.building
             (rw k.marks e.each) same (λ e. absurd cc) stacked;
         last = sym k.last;
+        needed =
+            s.needed ∙ sym (needs-ended (marks (unpacked x)))
+            ∙ ap (λ (ms : List (Mark Instr BlockType)). needs_along nothing 0 ms) (sym k.marks);
       };
       drafted = same;
     }
@@ -119,41 +135,48 @@ begin-parts d If t = refl
 
 -- ---- each kind of entry
 
-pub begin-pushed : (x : List ℕ) (old : List Part) (b : Bool) → IsStarted x old b → (kind : Kind) (t : BlockType)
-    → FitsBlockType t → (new : List ℕ) (parts : List Part) → new ≡ x ++ (opening_bytes kind ++ block_type_bytes t)
-    → length (drafted (unpacked x)).around < nesting_limit → parts ≡ old ++ part_of kind ∷ []
-    → Pushed x (Begin kind t) new parts false
-begin-pushed x old b s kind t f new parts is room stacked =
-    let d = drafted (unpacked x) in
-    started-push x old b s (Begin kind t) f new parts false is (begin-adds d kind t) (λ _. room)
-    (stacked ∙ ap (λ (ps : List Part). ps ++ part_of kind ∷ []) s.building.stacked ∙ begin-parts d kind t)
-    (begin-last kind t)
+begin-needs : (n : Needs) (k : ℕ) (kind : Kind) (t : BlockType) → with_block n t ≡ with_mark n k (begin_of kind t)
+begin-needs n k Block t = refl
+begin-needs n k Loop t = refl
+begin-needs n k If t = refl
 
-pub else-pushed : (x : List ℕ) (old : List Part) (b : Bool) → IsStarted x old b → (new : List ℕ) (k : ℕ)
-    → new ≡ x ++ 0x05 ∷ [] → in_first_part (drafted (unpacked x)).around ≡ true → k + 1 ≡ length old
-    → Pushed x Else new (set old k Other) true
-else-pushed x old b s new k is can last =
+pub begin-pushed : (x : List ℕ) (old : List Part) (b : Bool) (n : Needs) → IsStarted x old b n → (kind : Kind)
+    (t : BlockType) → FitsBlockType t → (new : List ℕ) (parts : List Part)
+    → new ≡ x ++ (opening_bytes kind ++ block_type_bytes t)
+    → length (drafted (unpacked x)).around < nesting_limit → parts ≡ old ++ part_of kind ∷ []
+    → Pushed x (Begin kind t) new parts false (with_block n t)
+begin-pushed x old b n s kind t f new parts is room stacked =
     let d = drafted (unpacked x) in
-    started-push x old b s Else tt new (set old k Other) true is can (λ e. absurd cc)
+    rw (begin-needs n (length old) kind t)
+    (started-push x old b n s (Begin kind t) f new parts false is (begin-adds d kind t) (λ _. room)
+    (stacked ∙ ap (λ (ps : List Part). ps ++ part_of kind ∷ []) s.building.stacked ∙ begin-parts d kind t)
+    (begin-last kind t))
+
+pub else-pushed : (x : List ℕ) (old : List Part) (b : Bool) (n : Needs) → IsStarted x old b n → (new : List ℕ) (k : ℕ)
+    → new ≡ x ++ 0x05 ∷ [] → in_first_part (drafted (unpacked x)).around ≡ true → k + 1 ≡ length old
+    → Pushed x Else new (set old k Other) true n
+else-pushed x old b n s new k is can last =
+    let d = drafted (unpacked x) in
+    started-push x old b n s Else tt new (set old k Other) true is can (λ e. absurd cc)
     (rw s.building.stacked (outermost-turned part_in d.around d.last Other k can (head-other d.around d.last can)
     (last ∙ ap (λ (ps : List Part). length ps) s.building.stacked)))
     refl
 
-pub end-pushed : (x : List ℕ) (old : List Part) (b : Bool) → IsStarted x old b → (new : List ℕ) (k : ℕ)
+pub end-pushed : (x : List ℕ) (old : List Part) (b : Bool) (n : Needs) → IsStarted x old b n → (new : List ℕ) (k : ℕ)
     → new ≡ with_end b x → is_open (drafted (unpacked x)).around ≡ true → k + 1 ≡ length old
-    → Pushed x End new (take k old) false
-end-pushed x old b s new k is can last =
+    → Pushed x End new (take k old) false n
+end-pushed x old b n s new k is can last =
     let d = drafted (unpacked x) in
-    started-end x old b s new (take k old) is can
+    started-end x old b n s new (take k old) is can
     (rw s.building.stacked (outermost-closed part_in d.around d.last k
     (last ∙ ap (λ (ps : List Part). length ps) s.building.stacked)))
 
 module _ {P H : Type 0} where
   pub kept-where : (r : Result (Unit {0}) BuildFault) (old new : Draft P H) (m : Mark P H) → OnOk r (new ≡ step old m)
-      → (takes old m ≡ false → IsErrOf r BuildFaults.Mark) → OnOk r (so_far new ≡ with_mark (so_far old) m)
+      → (takes old m ≡ false → IsErrOf r BuildFaults.Mark) → OnOk r (so_far new ≡ more_marks (so_far old) m)
   kept-where (Err f) old new m ok mark_fault = tt
   kept-where (Ok t) old new m ok mark_fault = go (takes old m) refl
     where
-      go : (b : Bool) → takes old m ≡ b → so_far new ≡ with_mark (so_far old) m
+      go : (b : Bool) → takes old m ≡ b → so_far new ≡ more_marks (so_far old) m
       go true e = rw ok (kept old m e)
       go false e = absurd (let k = mark_fault e in cc)

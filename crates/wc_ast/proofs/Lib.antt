@@ -6,7 +6,6 @@ mod Integers
 mod Unpacking
 mod PutBytes
 mod PackedLemmas
-mod TellingLemmas
 pub mod GroupLemmas
 mod EntryLemmas
 pub mod BuildingLemmas
@@ -17,3 +16,4 @@ pub mod Walks
 pub mod Emitting
 pub mod PartLemmas
 mod EntryBytes
+mod NeedsLemmas

@@ -1,20 +1,19 @@
 -- Bytes that were put behind others.
-use Rattle.std.specs.Prelude.{ℤ, pos, Result, Ok, Err, OnOk}
-use Rattle.std.proofs.Common.{◌≡◌, ℕ, ◌+◌, ◌/◌, ◌%◌, ◌<◌, ◌≤◌, false, List, [], ◌∷◌, ◌++◌, append_assoc, length}
+use Rattle.std.specs.Prelude.{Result, Ok, Err, OnOk}
+use Rattle.std.proofs.Common.{◌≡◌, ℕ, ◌+◌, ◌/◌, ◌%◌, ◌<◌, ◌≤◌, Bool, List, [], ◌∷◌, ◌++◌, append_assoc, length}
 use Rattle.std.proofs.Common.{refl, ap, sym, ◌∙◌, arith}
 use Rattle.std.proofs.lemmas.List.{append-nil}
 use Rattle.std.specs.List.{AllByRecursion, flat_map}
-use Rattle.wc_leb128.specs.Shortest.{unsigned_bytes, signed_bytes}
-use Rattle.wc_leb128.proofs.SignedShortest.{signed_bytes-low}
+use Rattle.wc_leb128.specs.Shortest.{unsigned_bytes, signed_bytes, signed_of, group_of}
+use Rattle.wc_leb128.proofs.SignedShortest.{signed_bytes-low, signed_bytes-high}
 use Rattle.wc_leb128.proofs.UnsignedShortest.{unsigned_bytes-low, unsigned_bytes-high}
 use Rattle.wc_ast.specs.ValueBytes.{vector_bytes, Fits32}
 
-one-byte : (n : ℤ) (b : ℕ) → n ≡ pos b → b < 64 → signed_bytes n ≡ b ∷ []
-one-byte n b is lt = rw is (signed_bytes-low false b lt)
-
-pub low-put : {E : Type 0} (r : Result (Unit {0}) E) (old new : List ℕ) (byte b : ℕ) (n : ℤ)
-    → OnOk r (new ≡ old ++ byte ∷ b ∷ []) → n ≡ pos b → b < 64 → OnOk r (new ≡ old ++ byte ∷ signed_bytes n)
-low-put r old new byte b n h is lt = rw (one-byte n b is lt) h
+-- a number of two groups of bits: as they are, or each turned over
+pub signed-two : (s : Bool) (b : ℕ) → 64 ≤ b → b < 8192
+    → signed_bytes (signed_of s b) ≡ (128 + group_of s (b % 128)) ∷ group_of s (b / 128) ∷ []
+signed-two s b le lt = signed_bytes-high s b le
+    ∙ ap (λ (x : List ℕ). (128 + group_of s (b % 128)) ∷ x) (signed_bytes-low s (b / 128) (omega arith))
 
 -- one by one is all at once
 pub three : (old : List ℕ) (a b c : ℕ) → ((old ++ a ∷ []) ++ b ∷ []) ++ c ∷ [] ≡ old ++ a ∷ b ∷ c ∷ []

@@ -10,10 +10,8 @@ use Rattle.wc_leb128.specs.Shortest.{unsigned_bytes, signed_bytes, HoldsSigned}
 use Rattle.wc_leb128.proofs.UnsignedShortest.{unsigned_bytes-spelled}
 use Rattle.wc_leb128.proofs.SignedShortest.{signed_bytes-spelled, signed_bytes-low, signed_bytes-high}
 use Rattle.wc_ast.specs.declared.val_type.ValType.TheVariants.{I32, I64}
-use Rattle.wc_ast.specs.declared.op.Op.{Op}
 use Rattle.wc_ast.specs.declared.op.Op.TheVariants as ops
 use Rattle.wc_ast.specs.declared.op.OpByte.{OpByte}
-use Rattle.wc_ast.specs.declared.op.OpByte.TheVariants as bytes
 use Rattle.wc_ast.specs.declared.op.SimpleOp.{SimpleOp}
 use Rattle.wc_ast.specs.declared.op.SimpleOp.TheVariants.{MemorySize, MemoryGrow}
 use Rattle.wc_ast.specs.declared.instr.Instr.{Instr}
@@ -24,7 +22,6 @@ use Rattle.wc_ast.specs.declared.entry.Kind.{Kind}
 use Rattle.wc_ast.specs.declared.entry.Kind.TheVariants.{Block, Loop, If}
 use Rattle.wc_ast.specs.declared.entry.Entry.{Entry}
 use Rattle.wc_ast.specs.declared.entry.Entry.TheVariants.{Plain, Begin, Else, End}
-use Rattle.wc_ast.specs.Opcodes.{row}
 use Rattle.wc_ast.specs.ByteMeaning.{IsOpByte}
 use Rattle.wc_ast.specs.OpcodeMeaning.{meaning}
 use Rattle.wc_ast.specs.ValueBytes.{Fits32}

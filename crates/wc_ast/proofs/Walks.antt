@@ -1,9 +1,6 @@
 -- A walk over the marks, which knows what encloses it, meets the instructions as they are placed.
-use Rattle.std.proofs.Common.{◌≡◌, ℕ, ◌+◌, ◌-◌, ◌≤◌, List, [], ◌∷◌, ◌++◌, refl, sym, ap, ◌∙◌, append_assoc, arith, Bool}
-use Rattle.std.proofs.Common.{true, position, suc, ◌<◌, length, get_or, drop}
-use Rattle.std.specs.List.{position_from}
-use Rattle.std.proofs.lemmas.Iterator.Adapters.{position_from-zero}
-use Rattle.std.proofs.Math.Seq.{drop-cons}
+use Rattle.std.proofs.Common.{◌≡◌, ℕ, ◌+◌, ◌-◌, ◌≤◌, List, [], ◌∷◌, ◌++◌, refl, sym, ap, ◌∙◌, append_assoc, arith}
+use Rattle.std.proofs.Common.{true, ◌<◌, length}
 use Rattle.std.proofs.lemmas.List.{append-nil}
 use Rattle.wc_ast.specs.Nested.{Code, empty, op, region, choice, Mark, plain, begin, begin_if, otherwise, close}
 use Rattle.wc_ast.specs.Nested.{else_mark, flat, flatten, nesting, ◌⧺◌}
@@ -62,11 +59,6 @@ module _ {S P H : Type 0} (enter : S → H → S) (leave : S → S) (back : (s :
   pub met-flatten : (s : S) (is : Code P H) → met enter leave s (flatten is) ≡ placed enter s is
   met-flatten s is = met-flat s is [] ∙ append-nil (placed enter s is)
 
-  pub met_first : (test : S × Mark P H → Bool) (s : S) (is : Code P H)
-      → position_from test 0 (met enter leave s (flatten is)) ≡ position test (placed enter s is)
-  met_first test s is = ap (λ x. position_from test 0 x) (met-flatten s is)
-      ∙ sym (position_from-zero test (placed enter s is))
-
   -- the marks that a walk writes are those of the mapped instructions
   written-flat : {Q I : Type 0} (f : S → P → Q) (k : S → H → I) (s : S) (is : Code P H) (after : List (Mark P H))
       → written enter leave f k s (flat is after) ≡ flat (mapped enter f k s is) (written enter leave f k s after)
@@ -118,10 +110,6 @@ mapped-nesting enter f k s (choice h first second next) = omega (
 
 pub deeper-back : {H : Type 0} (n : ℕ) (h : H) → deeper n h - 1 ≡ n
 deeper-back n h = omega arith
-
-pub next_is : {X : Type 0} (xs : List X) (i : ℕ) (x y : X) → i < length xs → x ≡ get_or xs i x → x ≡ y
-    → drop i xs ≡ y ∷ drop (suc i) xs
-next_is xs i x y lt is e = drop-cons xs i x lt ∙ ap (λ z. z ∷ drop (suc i) xs) (sym is ∙ e)
 
 -- ---- marks that build instructions
 module _ {P H : Type 0} (limit : ℕ) where

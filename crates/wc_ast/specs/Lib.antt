@@ -12,7 +12,6 @@ pub mod Entries
 pub mod InstrCode
 pub mod InstructionBytes
 pub mod Fronts
-pub mod Told
 pub mod Unpacked
 pub mod LabelItems
 pub mod Building
@@ -21,4 +20,5 @@ pub mod Grammar
 pub mod Placed
 pub mod Pieces
 pub mod Parts
+pub mod Needed
 pub mod PackedBody

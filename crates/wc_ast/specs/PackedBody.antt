@@ -2,16 +2,19 @@
 use Rattle.std.specs.Prelude.{◌≡◌, ℕ, ◌-◌, Bool, true, false, List, [], ◌∷◌, ◌++◌, length, set}
 use Rattle.wc_ast.specs.declared.entry.Entry.{Entry}
 use Rattle.wc_ast.specs.declared.builder.Part.{Part}
+use Rattle.wc_ast.specs.declared.needs.Needs.{Needs}
 use Rattle.wc_ast.specs.Draft.{is_otherwise}
-use Rattle.wc_ast.specs.Entries.{mark, marks}
+use Rattle.wc_ast.specs.Entries.{mark, marks, nested}
 use Rattle.wc_ast.specs.Building.{IsWhole, IsBuilding}
+use Rattle.wc_ast.specs.Needed.{nothing, needs_of, needs_along}
 use Rattle.wc_ast.specs.OpenParts.{part_in}
 use Rattle.wc_ast.specs.Unpacked.{unpacked, IsPacked}
 
--- the bytes are those of whole instructions
-pub record IsBody (x : List ℕ) : Type 0 where
+-- the bytes are those of whole instructions, which need this
+pub record IsBody (x : List ℕ) (needs : Needs) : Type 0 where
   pub packed : IsPacked x
   pub whole : IsWhole (marks (unpacked x))
+  pub needed : needs ≡ needs_of (nested (unpacked x))
 
 -- does the last of the entries begin an else part
 abbrev pub ends_with_else : List Entry → Bool
@@ -24,9 +27,10 @@ abbrev pub with_end : Bool → List ℕ → List ℕ
 with_end false x = x ++ 0x0B ∷ []
 with_end true x = set x (length x - 1) 0x0B
 
--- the bytes are those of a body that is being built, the parts are those of what is open, and it is known whether an
--- else mark stands last
-pub record IsStarted (x : List ℕ) (parts : List Part) (after_else : Bool) : Type 0 where
+-- the bytes are those of a body that is being built, the parts are those of what is open, it is known whether an else
+-- mark stands last, and what is needed so far
+pub record IsStarted (x : List ℕ) (parts : List Part) (after_else : Bool) (needs : Needs) : Type 0 where
   pub packed : IsPacked x
   pub building : IsBuilding part_in (marks (unpacked x)) parts
   pub last : after_else ≡ ends_with_else (unpacked x)
+  pub needed : needs ≡ needs_along nothing 0 (marks (unpacked x))

@@ -3,6 +3,7 @@
 ghost use Rattle.std.specs.Prelude.{◌≡◌, IfOk};
 
 use crate::entries::Entries;
+use crate::needs::Needs;
 use crate::try_clone::TryClone;
 use std::alloc::AllocError;
 use std::marker::Model;
@@ -16,6 +17,7 @@ pub const NESTING_LIMIT: usize = 20_000;
 #[derive(Debug, Drop)]
 pub struct Body {
     bytes: Vec<u8>,
+    needs: Needs,
 }
 
 impl Model for Body {
@@ -36,7 +38,7 @@ impl Model for Body {
 
     ghost view = { λ body. nested (unpacked body.bytes.items) };
 
-    ghost invariant = { λ body. IsBody body.bytes.items };
+    ghost invariant = { λ body. IsBody body.bytes.items body.needs };
 }
 
 impl Body {
@@ -44,14 +46,15 @@ impl Body {
     ghost use Rattle.wc_ast.specs.Nested.{flatten, nesting, nesting_limit};
     ghost use Rattle.wc_ast.specs.Entries.{nested};
     ghost use Rattle.wc_ast.specs.InstructionBytes.{code_bytes, FitsExpr};
+    ghost use Rattle.wc_ast.specs.Needed.{needs_of};
     ghost use Rattle.wc_ast.specs.Unpacked.{unpacked};
     ghost use Rattle.wc_ast.specs.PackedBody.{IsBody};
 
-    pub(crate) fn from_bytes(bytes: Vec<u8>) -> Body
-        requires { IsBody bytes.items }
+    pub(crate) fn from_bytes(bytes: Vec<u8>, needs: Needs) -> Body
+        requires { IsBody bytes.items needs }
         ensures { result ≡ nested (unpacked bytes.items) }
     {
-        Body { bytes }
+        Body { bytes, needs }
     }
 
     /// The entries, in order. Each `Begin` has its `End`; the end of the body itself has no entry. An `Else` stands
@@ -71,11 +74,21 @@ impl Body {
     {
         self.bytes.as_slice()
     }
+
+    /// What the instructions need of what is around them (Core 1.0, 3.3). It is at hand: it takes no time.
+    pub fn needs(&self) -> Needs
+        ensures { result ≡ needs_of self.now }
+    {
+        self.needs
+    }
 }
 
 impl TryClone for Body {
     fn try_clone(&self) -> Result<Body, AllocError> {
         let bytes = Vec::from_slice(*self.bytes.allocator(), self.bytes.as_slice())?;
-        Ok(Body { bytes })
+        Ok(Body {
+            bytes,
+            needs: self.needs,
+        })
     }
 }

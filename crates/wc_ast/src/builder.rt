@@ -9,6 +9,7 @@ use crate::body::{Body, NESTING_LIMIT};
 use crate::bytes::put::{put_begin, put_instr};
 use crate::entry::{Entry, Kind};
 use crate::instr::{BlockType, Instr};
+use crate::needs::Needs;
 use std::alloc::{AllocError, AllocFailed, Global};
 use std::marker::Model;
 
@@ -61,6 +62,8 @@ pub struct BodyBuilder {
     parts: Vec<Part>,
     // Whether the last entry is an `Else`.
     after_else: bool,
+    // What the entries so far need.
+    needs: Needs,
 }
 
 impl Model for BodyBuilder {
@@ -81,7 +84,7 @@ impl Model for BodyBuilder {
 
     ghost view = { λ builder. drafted (unpacked builder.bytes.items) };
 
-    ghost invariant = { λ builder. IsStarted builder.bytes.items builder.parts.items builder.after_else };
+    ghost invariant = { λ builder. IsStarted builder.bytes.items builder.parts.items builder.after_else builder.needs };
 }
 
 impl BodyBuilder {
@@ -100,6 +103,7 @@ impl BodyBuilder {
             bytes: Vec::new(alloc),
             parts: Vec::new(alloc),
             after_else: false,
+            needs: Needs::nothing(),
         }
     }
 
@@ -126,7 +130,8 @@ impl BodyBuilder {
         ensures err { OnErr result (self.new ≡ self.old) }
         ensures memory { IfErr result (λ fault. fault ≡ faults.Memory) }
     {
-        put_instr(&mut self.bytes, instr)?;
+        put_instr(&mut self.bytes, &instr)?;
+        self.needs.note_instr(self.parts.len(), &instr);
         self.after_else = false;
         Ok(())
     }
@@ -144,6 +149,7 @@ impl BodyBuilder {
         self.parts.reserve(1)?;
         put_begin(&mut self.bytes, kind, block_type)?;
         self.parts.push_reserved(first_part_of(kind));
+        self.needs.note_block(block_type);
         self.after_else = false;
         Ok(())
     }
@@ -220,7 +226,7 @@ impl BodyBuilder {
         }
         let mut bytes = self.bytes;
         bytes.shrink_to_fit();
-        Ok(Body::from_bytes(bytes))
+        Ok(Body::from_bytes(bytes, self.needs))
     }
 }
 

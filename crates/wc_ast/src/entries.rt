@@ -4,8 +4,7 @@ ghost use Rattle.std.specs.Prelude.{◌≡◌};
 ghost use Rattle.std.specs.Iterator.{YieldsFirstBy, item_count};
 ghost use Rattle.wc_ast.specs.Entries.{mark};
 
-use crate::ask::{Ask, Itself};
-use crate::bytes::find::entry_with;
+use crate::bytes::find::entry_at;
 use crate::entry::Entry;
 use std::marker::Model;
 
@@ -41,7 +40,6 @@ impl<'a> Entries<'a> {
     ghost use Rattle.std.specs.Prelude.{[], ◌∷◌, IsNone, IfSome};
     ghost use Rattle.wc_ast.specs.Entries.{marks};
     ghost use Rattle.wc_ast.specs.Unpacked.{unpacked, IsPacked};
-    ghost use Rattle.wc_ast.specs.declared.entry.Entry.{Entry};
 
     pub(crate) fn of_bytes(bytes: &'a [u8]) -> Entries<'a>
         requires { IsPacked bytes.now }
@@ -50,17 +48,13 @@ impl<'a> Entries<'a> {
         Entries { bytes }
     }
 
-    /// Takes the next entry and answers a question to it, or answers none where no entry is left. That is faster than
-    /// to look at what `next` answers, where the question is short.
-    #[inline(always)]
-    pub fn next_with<Q: Ask<'a>>(&mut self, question: Q) -> Option<Q::Answer>
-        requires { Q.ready question }
+    fn take_first(&mut self) -> Option<Entry<'a>>
         ensures none { IsNone result → (self.old ≡ []) × (self.new ≡ []) }
-        ensures some { IfSome result (λ answer. (e : Entry) × Q.answers question e answer × (self.old ≡ mark e ∷ self.new)) }
+        ensures some { IfSome result (λ entry. self.old ≡ mark entry ∷ self.new) }
     {
-        let (answer, rest) = entry_with(self.bytes, question)?;
+        let (entry, rest) = entry_at(self.bytes)?;
         self.bytes = rest;
-        Some(answer)
+        Some(entry)
     }
 }
 
@@ -71,8 +65,7 @@ impl<'a> Iterator for Entries<'a> {
 
     ghost remaining = { item_count (λ entries. entries) };
 
-    #[inline(always)]
     fn next(&mut self) -> Option<Entry<'a>> {
-        self.next_with(Itself)
+        self.take_first()
     }
 }

@@ -60,6 +60,13 @@ impl<'a> Labels<'a> {
         }
     }
 
+    /// The same labels, while these stay as they are.
+    pub(crate) fn again(&self) -> Labels<'a>
+        ensures { result ≡ self.now }
+    {
+        Labels { items: self.items }
+    }
+
     pub(crate) fn from_items(items: Items<'a>) -> Labels<'a>
         requires { AreLabels items }
         ensures { result ≡ labels_of items.entry }

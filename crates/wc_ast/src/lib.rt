@@ -1,7 +1,6 @@
 //! The abstract module of WebAssembly: its types, its instructions and their opcodes, and the bodies of functions.
 #![tactic(auto)]
 
-pub mod ask;
 pub mod body;
 pub mod body_law;
 pub mod builder;
@@ -20,6 +19,7 @@ pub mod locals;
 pub mod locals_law;
 pub mod module;
 pub mod name;
+pub mod needs;
 pub mod op;
 pub mod op_law;
 pub mod op_of_byte;
@@ -29,7 +29,6 @@ pub mod segment;
 pub mod try_clone;
 pub mod val_type;
 
-pub use crate::ask::Ask;
 pub use crate::body::{Body, NESTING_LIMIT};
 pub use crate::body_law::entries_tell_bodies;
 pub use crate::builder::{BodyBuilder, BuildFault};
@@ -47,6 +46,7 @@ pub use crate::locals::{Group, LOCALS_LIMIT, Locals, LocalsFault};
 pub use crate::locals_law::one_grouping;
 pub use crate::module::Module;
 pub use crate::name::Name;
+pub use crate::needs::Needs;
 pub use crate::op::{IndexOp, MemOp, Op, OpByte, OpName, SimpleOp};
 pub use crate::op_law::{leads_back, one_meaning, rows_differ};
 pub use crate::segment::{Data, Elem};

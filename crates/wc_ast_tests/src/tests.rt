@@ -2,5 +2,6 @@
 
 mod bodies;
 mod lists;
+mod needs;
 mod opcodes;
 mod spellings;

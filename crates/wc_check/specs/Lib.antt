@@ -3,6 +3,7 @@ pub mod Spaces
 pub mod SizeRules
 pub mod InstructionRules
 pub mod Judging
+pub mod Enough
 pub mod ConstantRules
 pub mod ExportRules
 pub mod Broken

@@ -1,13 +1,16 @@
 //! The bodies of functions.
 
-ghost use Rattle.std.specs.Prelude.{◌≡◌};
-ghost use Rattle.wc_check.specs.Rules.{verdict};
+ghost use Rattle.std.specs.Prelude.{◌≡◌, ◌+◌, ◌<◌, ◌≤◌, ◌^◌, ◌-◌, ◌↔◌, true, length};
+ghost use Rattle.wc_ast.specs.Entries.{mark};
+ghost use Rattle.wc_check.specs.Enough.{HasRoom, IsEnough, settable_count};
 ghost use Rattle.wc_check.specs.InstructionRules.{broken_in_body};
+ghost use Rattle.wc_check.specs.Judging.{judged_mark};
+ghost use Rattle.wc_check.specs.Rules.{verdict};
 
 use crate::context::Context;
 use crate::fault::{CheckFault, CheckWhy, Item, judge};
 use crate::instructions::{block_rule, instr_rule};
-use wc_ast::{Ask, Body, Entry};
+use wc_ast::{Body, Entry, Needs};
 
 /// What an entry comes to.
 #[derive(Clone, Copy, Debug)]
@@ -20,55 +23,37 @@ struct Judgement {
     enclosing: usize,
 }
 
-/// What an entry stands in: so many blocks enclose it, in a function of so many locals.
-#[derive(Debug, Drop)]
-struct Surroundings<'c> {
-    context: &'c Context,
-    locals: usize,
-    enclosing: usize,
-}
-
-impl<'a, 'c> Ask<'a> for Surroundings<'c> {
-    ghost use Rattle.std.specs.Prelude.{◌≡◌, ◌+◌, ◌<◌, ◌^◌};
-    ghost use Rattle.wc_ast.specs.Entries.{mark};
-    ghost use Rattle.wc_check.specs.Judging.{judged_mark};
-
-    type Answer = Judgement;
-
-    ghost ready = { λ around. around.enclosing + 1 < 2 ^ 64 };
-
-    ghost answers = { λ around entry answer. answer ≡ judged_mark around.context.now around.locals around.enclosing (mark entry) };
-
-    #[inline(always)]
-    fn ask(self, entry: Entry<'a>) -> Judgement {
-        let enclosing = self.enclosing;
-        match entry {
-            Entry::Plain(instr) => Judgement {
-                why: instr_rule(self.context, self.locals, enclosing, instr),
-                counts: true,
-                enclosing,
-            },
-            Entry::Begin(_, block_type) => Judgement {
-                why: block_rule(self.context, block_type),
-                counts: true,
-                enclosing: enclosing + 1,
-            },
-            Entry::Else => Judgement {
-                why: None,
-                counts: false,
-                enclosing,
-            },
-            Entry::End => Judgement {
-                why: None,
-                counts: false,
-                enclosing: enclosing.saturating_sub(1),
-            },
-        }
+/// So many blocks enclose the entry, in a function of so many locals.
+fn judge_entry(context: &Context, locals: usize, enclosing: usize, entry: Entry<'_>) -> Judgement
+    requires { enclosing + 1 < 2 ^ 64 }
+    ensures { result ≡ judged_mark context.now locals enclosing (mark entry.entry) }
+{
+    match entry {
+        Entry::Plain(instr) => Judgement {
+            why: instr_rule(context, locals, enclosing, instr),
+            counts: true,
+            enclosing,
+        },
+        Entry::Begin(_, block_type) => Judgement {
+            why: block_rule(context, block_type),
+            counts: true,
+            enclosing: enclosing + 1,
+        },
+        Entry::Else => Judgement {
+            why: None,
+            counts: false,
+            enclosing,
+        },
+        Entry::End => Judgement {
+            why: None,
+            counts: false,
+            enclosing: enclosing.saturating_sub(1),
+        },
     }
 }
 
-/// The body of the function of this index, which has so many locals, parameters counted.
-pub(crate) fn check_body(
+/// The body of the function of this index, which has so many locals, parameters counted: entry by entry.
+fn check_entries(
     context: &Context,
     locals: usize,
     func: usize,
@@ -81,11 +66,8 @@ pub(crate) fn check_body(
     let mut enclosing: usize = 0;
     let mut number: usize = 0;
     let mut entries = body.entries();
-    while let Some(found) = entries.next_with(Surroundings {
-        context,
-        locals,
-        enclosing,
-    }) {
+    while let Some(entry) = entries.next() {
+        let found = judge_entry(context, locals, enclosing, entry);
         judge(Item::Instr { func, number }, found.why)?;
         enclosing = found.enclosing;
         if found.counts {
@@ -93,4 +75,46 @@ pub(crate) fn check_body(
         }
     }
     Ok(())
+}
+
+/// Whether there are as many as are needed, where it is told how many are.
+fn has_room(count: usize, needed: u32) -> bool
+    ensures { result ≡ true ↔ HasRoom count needed }
+{
+    needed < u32::MAX && needed as usize <= count
+}
+
+/// Whether all is there that instructions need, in a function of so many locals, where so many globals stand before
+/// the first constant one.
+fn is_enough(context: &Context, settable: usize, locals: usize, needs: Needs) -> bool
+    requires { settable ≡ settable_count context.now.globals }
+    ensures { result ≡ true ↔ IsEnough context.now locals needs }
+{
+    has_room(context.types, needs.types)
+        && has_room(context.funcs, needs.funcs)
+        && has_room(context.globals.len(), needs.globals)
+        && has_room(settable, needs.set_globals)
+        && has_room(locals, needs.locals)
+        && (!needs.table || context.tables > 0)
+        && (!needs.memory || context.mems > 0)
+        && !needs.outer_label
+        && !needs.over_aligned
+}
+
+/// The body of the function of this index, which has so many locals, parameters counted, where so many globals stand
+/// before the first constant one. Entries are looked at only where one of them may break a rule.
+pub(crate) fn check_body(
+    context: &Context,
+    settable: usize,
+    locals: usize,
+    func: usize,
+    body: &Body,
+) -> Result<(), CheckFault>
+    requires { settable ≡ settable_count context.now.globals }
+    ensures { result ≡ verdict (broken_in_body context.now locals func body.now) }
+{
+    if is_enough(context, settable, locals, body.needs()) {
+        return Ok(());
+    }
+    check_entries(context, locals, func, body)
 }

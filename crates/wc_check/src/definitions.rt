@@ -4,12 +4,13 @@ ghost use Rattle.std.specs.Prelude.{◌≡◌, ◌+◌, length};
 ghost use Rattle.wc_check.specs.Rules.{each, verdict};
 ghost use Rattle.wc_check.specs.Spaces.{module_context, param_count, imported_funcs, imported_globals};
 ghost use Rattle.wc_check.specs.Broken.{broken_func, broken_global};
+ghost use Rattle.wc_check.specs.Enough.{settable_count};
 
 use crate::bodies::check_body;
 use crate::constants::has_constant;
 use crate::context::Context;
 use crate::fault::{CheckFault, CheckWhy, Item, broken_if, judge};
-use wc_ast::{Func, FuncType, Locals, Module, ValType};
+use wc_ast::{Func, FuncType, GlobalType, Locals, Module, ValType};
 
 /// How many locals there are, where these are the parameters.
 fn count_locals(params: &[ValType], locals: &Locals) -> usize
@@ -28,20 +29,33 @@ fn locals_of(types: &[FuncType], func: &Func) -> usize
     }
 }
 
-/// The function of this index, and then its instructions.
+/// The function of this index, and then its instructions, where so many globals stand before the first constant one.
 fn check_func(
     module: &Module,
     context: &Context,
+    settable: usize,
     index: usize,
     func: &Func,
 ) -> Result<(), CheckFault>
-    requires { context.now ≡ module_context «module».now }
+    requires rules { context.now ≡ module_context «module».now }
+    requires settable { settable ≡ settable_count context.now.globals }
     ensures { result ≡ verdict (broken_func «module».now index func.now) }
 {
     let why = broken_if(CheckWhy::TypeIndex, context.types <= func.ty as usize);
     judge(Item::Func(index), why)?;
     let locals = locals_of(module.types.as_slice(), func);
-    check_body(context, locals, index, &func.body)
+    check_body(context, settable, locals, index, &func.body)
+}
+
+/// How many globals stand before the first constant one.
+fn count_settable(globals: &[GlobalType]) -> usize
+    ensures { result ≡ settable_count globals.now }
+{
+    let mut count: usize = 0;
+    while count < globals.len() && globals[count].mutable {
+        count += 1;
+    }
+    count
 }
 
 /// The functions that the module defines.
@@ -51,8 +65,9 @@ pub(crate) fn check_funcs(module: &Module, context: &Context) -> Result<(), Chec
         ≡ verdict (each (broken_func «module».now) (length (imported_funcs «module».now.imports)) «module».now.funcs) }
 {
     let start = context.funcs - module.funcs.len();
+    let settable = count_settable(context.globals.as_slice());
     for (place, func) in module.funcs.as_slice().iter().enumerate() {
-        check_func(module, context, start + place, func)?;
+        check_func(module, context, settable, start + place, func)?;
     }
     Ok(())
 }

@@ -4,9 +4,7 @@ ghost use Rattle.std.specs.Prelude.{◌≡◌, option_map};
 ghost use Rattle.wc_ast.specs.Fronts.{seen, behind_labels, behind_byte, simple_front, index_front, memory_front};
 ghost use Rattle.wc_ast.specs.Fronts.{table_front, call_indirect_front, i32_front, i64_front, type_index_front};
 ghost use Rattle.wc_ast.specs.Fronts.{block_type_front, begin_front, known_front, meant_front, entry_front};
-ghost use Rattle.wc_ast.specs.Told.{Tells};
 
-use crate::ask::Ask;
 use crate::bytes::number::{i32_at, i33_at, i64_at, u32_at};
 use crate::entry::{Entry, Kind};
 use crate::instr::{BlockType, Instr, MemArg};
@@ -125,71 +123,46 @@ fn begin_at(kind: Kind, bytes: &[u8]) -> Option<(Entry<'_>, &[u8])>
     Some((Entry::Begin(kind, block_type), rest))
 }
 
-/// The answer of the entry that was found, and what follows it.
+/// The entry of an instruction whose opcode stands before these bytes, and what follows it.
 #[inline(always)]
-fn told<'a, Q: Ask<'a>>(
-    found: Option<(Entry<'a>, &'a [u8])>,
-    question: Q,
-) -> Option<(Q::Answer, &'a [u8])>
-    requires { Q.ready question }
-    ensures { Tells (Q.answers question) (option_map seen found.entry) (option_map seen result) }
-{
-    let (entry, rest) = found?;
-    Some((question.ask(entry), rest))
-}
-
-/// The answer of the entry of an instruction whose opcode stands before these bytes, and what follows it. The question
-/// is put where the form of the entry is known.
-#[inline(always)]
-fn known_with<'a, Q: Ask<'a>>(op: Op, bytes: &'a [u8], question: Q) -> Option<(Q::Answer, &'a [u8])>
-    requires { Q.ready question }
-    ensures { Tells (Q.answers question) (known_front op bytes.now) (option_map seen result) }
+fn known_at(op: Op, bytes: &[u8]) -> Option<(Entry<'_>, &[u8])>
+    ensures { option_map seen result ≡ known_front op bytes.now }
 {
     match op {
-        Op::Simple(op) => told(simple_at(op, bytes), question),
-        Op::Index(op) => told(index_at(op, bytes), question),
-        Op::Mem(op) => told(memory_at(op, bytes), question),
-        Op::BrTable => told(table_at(bytes), question),
-        Op::CallIndirect => told(call_indirect_at(bytes), question),
-        Op::I32Const => told(i32_const_at(bytes), question),
-        Op::I64Const => told(i64_const_at(bytes), question),
-        Op::Block => told(begin_at(Kind::Block, bytes), question),
-        Op::Loop => told(begin_at(Kind::Loop, bytes), question),
-        Op::If => told(begin_at(Kind::If, bytes), question),
+        Op::Simple(op) => simple_at(op, bytes),
+        Op::Index(op) => index_at(op, bytes),
+        Op::Mem(op) => memory_at(op, bytes),
+        Op::BrTable => table_at(bytes),
+        Op::CallIndirect => call_indirect_at(bytes),
+        Op::I32Const => i32_const_at(bytes),
+        Op::I64Const => i64_const_at(bytes),
+        Op::Block => begin_at(Kind::Block, bytes),
+        Op::Loop => begin_at(Kind::Loop, bytes),
+        Op::If => begin_at(Kind::If, bytes),
     }
 }
 
 #[inline(always)]
-fn meant_with<'a, Q: Ask<'a>>(
-    meaning: OpByte,
-    byte: u8,
-    bytes: &'a [u8],
-    question: Q,
-) -> Option<(Q::Answer, &'a [u8])>
-    requires { Q.ready question }
-    ensures { Tells (Q.answers question) (meant_front meaning byte bytes.now) (option_map seen result) }
+fn meant_at(meaning: OpByte, byte: u8, bytes: &[u8]) -> Option<(Entry<'_>, &[u8])>
+    ensures { option_map seen result ≡ meant_front meaning byte bytes.now }
 {
     match meaning {
-        OpByte::Known(op) => known_with(op, bytes, question),
+        OpByte::Known(op) => known_at(op, bytes),
         OpByte::Float => None,
         OpByte::Unknown => match byte {
-            0x05 => Some((question.ask(Entry::Else), bytes)),
-            0x0b => Some((question.ask(Entry::End), bytes)),
+            0x05 => Some((Entry::Else, bytes)),
+            0x0b => Some((Entry::End, bytes)),
             _ => None,
         },
     }
 }
 
-/// The answer of the entry that the bytes begin with, and what follows it.
+/// The entry that the bytes begin with, and what follows it.
 #[inline(always)]
 #[tactic(auto, unfolding(crate::specs::Fronts::entry_front))]
-pub(crate) fn entry_with<'a, Q: Ask<'a>>(
-    bytes: &'a [u8],
-    question: Q,
-) -> Option<(Q::Answer, &'a [u8])>
-    requires { Q.ready question }
-    ensures { Tells (Q.answers question) (entry_front bytes.now) (option_map seen result) }
+pub(crate) fn entry_at(bytes: &[u8]) -> Option<(Entry<'_>, &[u8])>
+    ensures { option_map seen result ≡ entry_front bytes.now }
 {
     let (byte, rest) = bytes.split_first()?;
-    meant_with(Op::of_byte(*byte), *byte, rest, question)
+    meant_at(Op::of_byte(*byte), *byte, rest)
 }

@@ -1,7 +1,7 @@
 //! Canonical bytes put behind others: all of an entry's, or none (Core 1.0, 5.4; Core 2.0 for block types).
 
-ghost use Rattle.std.specs.Prelude.{◌≡◌, ◌++◌, ◌∷◌, [], OnOk, OnErr};
-ghost use Rattle.wc_leb128.specs.Shortest.{unsigned_bytes, signed_bytes};
+ghost use Rattle.std.specs.Prelude.{◌≡◌, ◌<◌, ◌++◌, ◌∷◌, [], OnOk, OnErr};
+ghost use Rattle.wc_leb128.specs.Shortest.{unsigned_bytes, signed_bytes, signed_of, group_of};
 ghost use Rattle.wc_ast.specs.ValueBytes.{value_type_bytes};
 ghost use Rattle.wc_ast.specs.InstructionBytes.{instr_bytes, opening_bytes, block_type_bytes, FitsInstr, FitsBlockType};
 ghost use Rattle.wc_ast.specs.declared.instr.Instr.TheVariants.{Simple, Index, Mem, BrTable, CallIndirect, I32Const, I64Const};
@@ -68,13 +68,38 @@ fn put_unsigned(bytes: &mut Vec<u8>, byte: u8, n: u32) -> Result<(), AllocError>
     put_all(bytes, byte, shortest_u(u64::from(n)).as_slice(), &[])
 }
 
-/// Puts a byte and a signed integer.
+/// Seven bits of a byte, turned over in a negative number.
+fn group(negative: bool, bits: u8) -> u8
+    requires { bits < 128 }
+    ensures { result ≡ group_of negative bits }
+{
+    if negative { 127 - bits } else { bits }
+}
+
+/// Puts a byte and a signed integer of one byte or two, by its sign and its bits, which are turned over in a negative
+/// number.
+fn put_groups(bytes: &mut Vec<u8>, byte: u8, negative: bool, bits: u64) -> Result<(), AllocError>
+    requires { bits < 8192 }
+    ensures ok { OnOk result (bytes.new.items ≡ bytes.old.items ++ byte ∷ signed_bytes (signed_of negative bits)) }
+    ensures err { OnErr result (bytes.new.items ≡ bytes.old.items) }
+{
+    if bits < 64 {
+        return put_two(bytes, byte, group(negative, bits as u8));
+    }
+    let first = 128 + group(negative, (bits % 128) as u8);
+    put_three(bytes, byte, first, group(negative, (bits / 128) as u8))
+}
+
+/// Puts a byte and a signed integer. Most have one byte or two.
 fn put_signed(bytes: &mut Vec<u8>, byte: u8, n: i64) -> Result<(), AllocError>
     ensures ok { OnOk result (bytes.new.items ≡ bytes.old.items ++ byte ∷ signed_bytes n) }
     ensures err { OnErr result (bytes.new.items ≡ bytes.old.items) }
 {
-    if 0 <= n && n < 64 {
-        return put_two(bytes, byte, n as u8);
+    if 0 <= n && n < 8_192 {
+        return put_groups(bytes, byte, false, n as u64);
+    }
+    if -8_193 < n && n < 0 {
+        return put_groups(bytes, byte, true, (-1 - n) as u64);
     }
     put_all(bytes, byte, shortest_s(n).as_slice(), &[])
 }
@@ -94,6 +119,7 @@ fn put_simple(bytes: &mut Vec<u8>, op: SimpleOp) -> Result<(), AllocError>
 #[inline(always)]
 fn put_access(bytes: &mut Vec<u8>, op: MemOp, arg: MemArg) -> Result<(), AllocError>
     ensures ok { OnOk result (bytes.new.items ≡ bytes.old.items ++ instr_bytes (Mem op arg)) }
+    ensures fits { FitsInstr (Mem op arg) }
     ensures err { OnErr result (bytes.new.items ≡ bytes.old.items) }
 {
     if arg.align < 128 && arg.offset < 128 {
@@ -127,16 +153,16 @@ fn put_table(bytes: &mut Vec<u8>, default: u32, labels: Labels<'_>) -> Result<()
 
 /// Puts an instruction. The error is want of memory, and then the bytes are as they were.
 #[inline(always)]
-pub(crate) fn put_instr(bytes: &mut Vec<u8>, instr: Instr<'_>) -> Result<(), AllocError>
-    ensures ok { OnOk result (bytes.new.items ≡ bytes.old.items ++ instr_bytes instr.entry) }
-    ensures fits { OnOk result (FitsInstr instr.entry) }
+pub(crate) fn put_instr(bytes: &mut Vec<u8>, instr: &Instr<'_>) -> Result<(), AllocError>
+    ensures ok { OnOk result (bytes.new.items ≡ bytes.old.items ++ instr_bytes instr.now) }
+    ensures fits { OnOk result (FitsInstr instr.now) }
     ensures err { OnErr result (bytes.new.items ≡ bytes.old.items) }
 {
-    match instr {
+    match *instr {
         Instr::Simple(op) => put_simple(bytes, op),
         Instr::Index(op, index) => put_unsigned(bytes, op.byte(), index),
         Instr::Mem(op, arg) => put_access(bytes, op, arg),
-        Instr::BrTable(default, labels) => put_table(bytes, default, labels),
+        Instr::BrTable(default, ref labels) => put_table(bytes, default, labels.again()),
         Instr::CallIndirect(ty) => {
             put_all(bytes, 0x11, shortest_u(u64::from(ty)).as_slice(), &[0x00])
         }

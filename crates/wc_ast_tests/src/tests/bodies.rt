@@ -3,7 +3,7 @@
 use std::alloc::Global;
 use std::test::Fail;
 use wc_ast::{
-    Ask, BlockType, Body, BodyBuilder, BuildFault, Entry, Instr, Kind, NESTING_LIMIT, SimpleOp,
+    BlockType, Body, BodyBuilder, BuildFault, Entry, Instr, Kind, NESTING_LIMIT, SimpleOp,
     TryClone, ValType,
 };
 
@@ -16,24 +16,6 @@ fn letter_of(entry: &Entry) -> u8 {
         Entry::Begin(Kind::If, _) => b'i',
         Entry::Else => b'e',
         Entry::End => b'.',
-    }
-}
-
-/// Asks an entry for its letter.
-#[derive(Drop)]
-struct Letter;
-
-impl<'a> Ask<'a> for Letter {
-    ghost use Rattle.std.specs.Prelude.{⊤};
-
-    type Answer = u8;
-
-    ghost ready = { λ _. ⊤ };
-
-    ghost answers = { λ _ _ _. ⊤ };
-
-    fn ask(self, entry: Entry<'a>) -> u8 {
-        letter_of(&entry)
     }
 }
 
@@ -133,20 +115,6 @@ fn entries_are_kept_or_refused(rt: HostRuntime) -> Result<(), Fail> {
         assert_eq!(rt; letters(rt.alloc(), &copy)?.as_slice(), kept);
         assert_eq!(rt; copy.bytes(), spelled(rt.alloc(), kept)?.as_slice());
     }
-    Ok(())
-}
-
-#[test]
-fn entries_are_asked_in_turn(rt: HostRuntime) -> Result<(), Fail> {
-    let mut builder = BodyBuilder::new(rt.alloc());
-    let (_, refused) = pushed(&mut builder, b"bplp.ipep.");
-    assert_eq!(rt; refused, None);
-    let body = ended(builder)?;
-    let mut entries = body.entries();
-    for letter in b"bplp.ipep.." {
-        assert_eq!(rt; entries.next_with(Letter), Some(*letter));
-    }
-    assert_eq!(rt; entries.next_with(Letter), None);
     Ok(())
 }
 

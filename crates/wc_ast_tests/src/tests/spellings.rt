@@ -11,7 +11,7 @@ use wc_ast::{
 
 /// An entry that a table tells.
 #[derive(Clone, Copy, Debug)]
-enum Step {
+pub(super) enum Step {
     Simple(SimpleOp),
     Index(IndexOp, u32),
     /// The exponent of the alignment, and the offset.
@@ -39,7 +39,7 @@ fn labels(items: &[u32]) -> Result<Labels<'_>, Fail> {
     Ok(Labels::of(items).ok_or("too many labels")?)
 }
 
-fn entry_of(step: Step) -> Result<Entry<'static>, Fail> {
+pub(super) fn entry_of(step: Step) -> Result<Entry<'static>, Fail> {
     let instr = match step {
         Step::Simple(op) => Instr::Simple(op),
         Step::Index(op, index) => Instr::Index(op, index),

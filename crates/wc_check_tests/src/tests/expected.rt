@@ -52,6 +52,8 @@ pub(crate) const READ_SECOND: Part = Part::Index(IndexOp::GlobalGet, 1);
 
 pub(crate) const WRITE: Part = Part::Index(IndexOp::GlobalSet, 0);
 
+pub(crate) const WRITE_SECOND: Part = Part::Index(IndexOp::GlobalSet, 1);
+
 pub(crate) const LIMITS: Part = Part::Memory(2, Some(1));
 
 pub(crate) const BRANCH: Part = Part::Index(IndexOp::Br, 1);

@@ -4,7 +4,7 @@ use crate::tests::building::Part;
 use crate::tests::expected::{
     BLOCK, BRANCH, CONSTANT, DROP, END, EXPORT, FUNC, Found, I32, I64, IMPORT, IMPORT_CONSTANT,
     IMPORT_MEMORY, IMPORT_TABLE, IMPORT_VARIABLE, LIMITS, MEMORY, READ, READ_SECOND, TABLE, TYPE,
-    VARIABLE, WRITE, expect,
+    VARIABLE, WRITE, WRITE_SECOND, expect,
 };
 use std::test::Fail;
 use wc_ast::{ExportKind, MemOp, ValType};
@@ -146,7 +146,33 @@ fn constants(rt: HostRuntime) -> Result<(), Fail> {
     Ok(())
 }
 
-const GLOBALS_NAMES_AND_START: [(&[Part], Found); 12] = [
+const GLOBALS_NAMES_AND_START: [(&[Part], Found); 15] = [
+    (
+        &[TYPE, IMPORT_VARIABLE, IMPORT_CONSTANT, I32, WRITE, FUNC],
+        None,
+    ),
+    (
+        &[
+            TYPE,
+            IMPORT_VARIABLE,
+            IMPORT_CONSTANT,
+            I32,
+            WRITE_SECOND,
+            FUNC,
+        ],
+        Some((Item::Instr { func: 0, number: 1 }, CheckWhy::Immutable)),
+    ),
+    (
+        &[
+            TYPE,
+            IMPORT_CONSTANT,
+            IMPORT_VARIABLE,
+            I32,
+            WRITE_SECOND,
+            FUNC,
+        ],
+        None,
+    ),
     (
         &[TYPE, I32, CONSTANT, I32, WRITE, FUNC],
         Some((Item::Instr { func: 0, number: 1 }, CheckWhy::Immutable)),

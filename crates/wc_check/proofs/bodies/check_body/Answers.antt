@@ -1,13 +1,9 @@
-use Rattle.std.proofs.Common.{◌≤◌, length, arith}
-use Rattle.wc_check.proofs.BodyLemmas.{few-marks, walked-all}
+use Rattle.std.proofs.Common.{sym, ap}
+use Rattle.wc_check.specs.Rules.{verdict}
+use Rattle.wc_check.proofs.EnoughLemmas.{enough-breaks-none}
 use Rattle.wc_check.proofs.bodies.check_body.Goals as goal
 
-pub loop-found-init : goal.loop-found-init
-loop-found-init c =
-    let few : length c.entries-entries.result ≤ length c.bytes.result.now
-    = rw (c.entries-entries.ensures.marks, c.bytes.ensures.bytes) (few-marks c.args.body.now) in
-    record {
-      shallow = omega (arith, few, c.bytes.type_inv);
-      few = omega (arith, few, c.bytes.type_inv);
-      rest = rw c.entries-entries.ensures.marks (walked-all c.args.context.now c.args.locals c.args.func c.args.body.now);
-    }
+pub returns-then-is_enough : goal.returns-then-is_enough
+returns-then-is_enough c =
+    let enough = rw c.needs.ensures at (c.is_enough.ensures.0 c.if-is_enough.true) in
+    ap verdict (sym (enough-breaks-none c.args.context.now c.args.locals c.args.func c.args.body.now enough))

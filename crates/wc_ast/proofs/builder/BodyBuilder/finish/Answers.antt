@@ -1,8 +1,10 @@
-use Rattle.std.proofs.Common.{◌≡◌, length, arith}
-use Rattle.wc_ast.specs.Entries.{drafted}
+use Rattle.std.proofs.Common.{◌≡◌, length, sym, ap, ◌∙◌, arith}
+use Rattle.wc_ast.specs.Entries.{nested, drafted}
+use Rattle.wc_ast.specs.Needed.{nothing, needs_along}
 use Rattle.wc_ast.specs.OpenParts.{part_in}
 use Rattle.wc_ast.specs.Unpacked.{unpacked}
 use Rattle.wc_ast.proofs.BuildingLemmas.{building-whole}
+use Rattle.wc_ast.proofs.NeedsLemmas.{needs-flatten}
 use Rattle.wc_ast.proofs.builder.BodyBuilder.finish.Goals as goal
 
 pub from_bytes-requires : goal.from_bytes-requires
@@ -12,6 +14,11 @@ from_bytes-requires c =
     (record {
       packed = c.self.invariant.packed;
       whole = (building-whole part_in _ _ c.self.invariant.building z).0;
+      needed =
+          c.self.invariant.needed
+          ∙ ap (λ ms. needs_along nothing 0 ms)
+          (sym (building-whole part_in _ _ c.self.invariant.building z).0.whole)
+          ∙ needs-flatten (nested (unpacked c.self.inside.bytes.items));
     })
 
 pub returns-clause-ok : goal.returns-clause-ok

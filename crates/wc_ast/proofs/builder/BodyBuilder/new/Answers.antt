@@ -5,7 +5,7 @@ use Rattle.wc_ast.proofs.BuilderLemmas.{started-none, drafted-none}
 use Rattle.wc_ast.proofs.builder.BodyBuilder.new.Goals as goal
 
 pub invariant_of-result : goal.invariant_of-result
-invariant_of-result c = rw (c.new.ensures.items, c.new-2.ensures.items) started-none
+invariant_of-result c = rw (c.new.ensures.items, c.new-2.ensures.items, c.nothing.ensures) started-none
 
 pub returns : goal.returns
 returns c = ap (λ x. drafted (unpacked x)) c.new.ensures.items ∙ drafted-none

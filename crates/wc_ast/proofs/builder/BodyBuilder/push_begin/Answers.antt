@@ -12,15 +12,16 @@ invariant_of-self-2 c =
     let room : length (drafted (unpacked x)).around < nesting_limit = rw c.self.view_is (omega arith) in
     let parts : c.push_reserved.new.self.items ≡ c.self.inside.parts.items ++ part_of c.args.kind ∷ [] =
     rw (c.push_reserved.ensures.items, c.in_ok-reserve.ensures.items, c.first_part_of.ensures) refl in
-    (begin-pushed x c.self.inside.parts.items c.self.inside.after_else c.self.invariant c.args.kind c.args.block_type
-    c.put_begin.ensures.fits c.put_begin.new.bytes.items c.push_reserved.new.self.items c.in_ok-put_begin.ensures.ok
-    room parts).started
+    rw c.note_block.ensures
+    (begin-pushed x c.self.inside.parts.items c.self.inside.after_else c.self.inside.needs c.self.invariant c.args.kind
+    c.args.block_type c.put_begin.ensures.fits c.put_begin.new.bytes.items c.push_reserved.new.self.items
+    c.in_ok-put_begin.ensures.ok room parts).started
 
 pub returns-clause-ok : goal.returns-clause-ok
 returns-clause-ok c =
     let x = c.self.inside.bytes.items in
     let room : length (drafted (unpacked x)).around < nesting_limit = rw c.self.view_is (omega arith) in
     rw (← c.self.view_is)
-    (begin-pushed x c.self.inside.parts.items c.self.inside.after_else c.self.invariant c.args.kind c.args.block_type
-    c.put_begin.ensures.fits c.put_begin.new.bytes.items (c.self.inside.parts.items ++ part_of c.args.kind ∷ [])
+    (begin-pushed x c.self.inside.parts.items c.self.inside.after_else c.self.inside.needs c.self.invariant c.args.kind
+    c.args.block_type c.put_begin.ensures.fits c.put_begin.new.bytes.items (c.self.inside.parts.items ++ part_of c.args.kind ∷ [])
     c.in_ok-put_begin.ensures.ok room refl).drafted

@@ -2,10 +2,10 @@ use Rattle.std.proofs.Common.{◌≡◌, ◌+◌, ◌^◌, ◌<◌, length}
 use Rattle.wc_check.specs.Rules.{verdict}
 use Rattle.wc_check.specs.InstructionRules.{broken_in_body}
 use Rattle.wc_check.proofs.BodyLemmas.{walked}
-use Rattle.wc_check.proofs.bodies.check_body.Given as goal
+use Rattle.wc_check.proofs.bodies.check_entries.Given as goal
 
-abbrev pub invariant-loop-found : goal.invariant-loop-found
-invariant-loop-found l = record {
+abbrev pub invariant-loop-entry : goal.invariant-loop-entry
+invariant-loop-entry l = record {
   shallow : l.enclosing + length l.entries + 1 < 2 ^ 64;
   few : l.number + length l.entries < 2 ^ 64;
   rest :
@@ -13,5 +13,5 @@ invariant-loop-found l = record {
       ≡ verdict (broken_in_body l.context l.locals l.func l.body);
 }
 
-abbrev pub decreases-loop-found : goal.decreases-loop-found
-decreases-loop-found l = length l.entries
+abbrev pub decreases-loop-entry : goal.decreases-loop-entry
+decreases-loop-entry l = length l.entries
