@@ -1,4 +1,4 @@
--- What is around a body gives all that its instructions need, so that they break no rule.
+-- What is around a body gives all that its instructions need, so that they break no rule (Core 1.0, 3.3).
 use Rattle.std.specs.Prelude.{ℕ, suc, ◌≡◌, ◌-◌, ◌<◌, ◌≤◌, ◌^◌, true, false, cond, List, [], ◌∷◌, length}
 use Rattle.wc_ast.specs.declared.limits.GlobalType.{GlobalType}
 use Rattle.wc_ast.specs.declared.needs.Needs.{Needs}

@@ -1,4 +1,4 @@
--- What one mark comes to, in a walk over those of a body.
+-- What one mark comes to, in a walk over those of a body (Core 1.0, 3.3).
 use Rattle.std.specs.Prelude.{ℕ, ◌+◌, ◌-◌, true, false, None}
 use Rattle.wc_ast.specs.declared.instr.BlockType.{BlockType}
 use Rattle.wc_ast.specs.declared.instr.Instr.{Instr}
