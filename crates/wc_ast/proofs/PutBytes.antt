@@ -19,6 +19,10 @@ signed-two s b le lt = signed_bytes-high s b le
 pub three : (old : List ℕ) (a b c : ℕ) → ((old ++ a ∷ []) ++ b ∷ []) ++ c ∷ [] ≡ old ++ a ∷ b ∷ c ∷ []
 three old a b c = simp append_assoc
 
+pub four : (old : List ℕ) (a b c d : ℕ)
+    → (((old ++ a ∷ []) ++ b ∷ []) ++ c ∷ []) ++ d ∷ [] ≡ old ++ a ∷ b ∷ c ∷ d ∷ []
+four old a b c d = simp append_assoc
+
 -- a number of two groups
 pub two-bytes : (n : ℕ) → 128 ≤ n → n < 16384 → unsigned_bytes n ≡ (128 + n % 128) ∷ n / 128 ∷ []
 two-bytes n le lt = unsigned_bytes-high n le

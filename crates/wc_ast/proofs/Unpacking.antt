@@ -1,14 +1,14 @@
 -- Entries that were packed are found again.
 use Rattle.std.specs.Prelude.{ℤ, pos}
-use Rattle.std.proofs.Common.{◌≡◌, ℕ, zero, suc, ◌+◌, ◌/◌, ◌%◌, ◌≤◌, List, [], ◌∷◌, ◌++◌, length, Some}
+use Rattle.std.proofs.Common.{◌≡◌, ℕ, zero, suc, ◌<◌, ◌≤◌, ◌⊎◌, List, [], ◌∷◌, ◌++◌, length, Some}
 use Rattle.std.proofs.Common.{false, nat_eq, inl, inr, refl, append_assoc, arith}
-use Rattle.std.proofs.lemmas.Bool.{cases_lt, ne_eqb}
+use Rattle.std.proofs.lemmas.Bool.{ne_eqb}
 use Rattle.std.proofs.lemmas.Int.{ints}
 use Rattle.std.proofs.lemmas.List.{length-append}
 use Rattle.std.specs.List.{AllByRecursion, flat_map}
 use Rattle.wc_leb128.specs.Shortest.{unsigned_bytes, signed_bytes, HoldsSigned}
 use Rattle.wc_leb128.proofs.UnsignedShortest.{unsigned_bytes-spelled}
-use Rattle.wc_leb128.proofs.SignedShortest.{signed_bytes-spelled, signed_bytes-low, signed_bytes-high}
+use Rattle.wc_leb128.proofs.SignedShortest.{signed_bytes-spelled, signed_bytes-begin}
 use Rattle.wc_ast.specs.declared.val_type.ValType.TheVariants.{I32, I64}
 use Rattle.wc_ast.specs.declared.op.Op.TheVariants as ops
 use Rattle.wc_ast.specs.declared.op.OpByte.{OpByte}
@@ -80,35 +80,21 @@ instr-found (I64Const n) y f = rw (integer-found 64 n y f) refl
 abbrev IsLong : ℕ → Type 0
 IsLong b = (nat_eq b 0x40 ≡ false) × (nat_eq b 0x7F ≡ false) × (nat_eq b 0x7E ≡ false)
 
-abbrev BeginsLong : List ℕ → Type 0
-BeginsLong a = (b : ℕ) × (c : List ℕ) × (a ≡ b ∷ c) × IsLong b
-
-begins-long : (i : ℕ) → BeginsLong (signed_bytes (pos i))
-begins-long i =
-    elim (cases_lt i 64) [
-      | inl lt ↦ (
-        i,
-        [],
-        signed_bytes-low false i lt,
-        (ne_eqb i 0x40 (λ e. omega (arith, e)), ne_eqb i 0x7F (λ e. omega (arith, e)), ne_eqb i 0x7E (λ e. omega (arith, e))),
-      )
-      | inr le ↦
-          let b = 128 + i % 128 in (
-            b,
-            signed_bytes (pos (i / 128)),
-            signed_bytes-high false i le,
-            (ne_eqb b 0x40 (λ e. omega (arith, e)), ne_eqb b 0x7F (λ e. omega (arith, e)), ne_eqb b 0x7E (λ e. omega (arith, e))),
-          )
-    ]
+not-short : (b : ℕ) → (b < 64) ⊎ (128 ≤ b) → IsLong b
+not-short b (inl lt) =
+    (ne_eqb b 0x40 (λ e. omega (arith, e)), ne_eqb b 0x7F (λ e. omega (arith, e)), ne_eqb b 0x7E (λ e. omega (arith, e)))
+not-short b (inr le) =
+    (ne_eqb b 0x40 (λ e. omega (arith, e)), ne_eqb b 0x7F (λ e. omega (arith, e)), ne_eqb b 0x7E (λ e. omega (arith, e)))
 
 index-found : (i : ℕ) (y : List ℕ) → Fits32 i → block_type_front (signed_bytes (pos i) ++ y) ≡ Some (block_types.Index i, y)
 index-found i y f =
-    let b = begins-long i in
+    let b = signed_bytes-begin i in
+    let long = not-short b.0 b.3 in
     let found : signed_front 33 (signed_bytes (pos i) ++ y) ≡ Some (pos i, y) =
     integer-found 33 (pos i) y (omega (arith, ints), omega (arith, ints)) in
     let is = b.2 in
     let at_front : signed_front 33 (b.0 ∷ (b.1 ++ y)) ≡ Some (pos i, y) = rw is at found in
-    rw (b.2, b.3.0, b.3.1, b.3.2, at_front) refl
+    rw (b.2, long.0, long.1, long.2, at_front) refl
 
 block_type-found : (t : BlockType) (y : List ℕ) → FitsBlockType t
     → block_type_front (block_type_bytes t ++ y) ≡ Some (t, y)

@@ -107,6 +107,15 @@ impl BodyBuilder {
         }
     }
 
+    /// Nothing so far, and room for so many bytes of entries. The error is want of memory.
+    pub fn with_room(alloc: Global, bytes: usize) -> Result<BodyBuilder, AllocError>
+        ensures { IfOk result (λ builder. builder ≡ whole empty) }
+    {
+        let mut builder = BodyBuilder::new(alloc);
+        builder.bytes.reserve(bytes)?;
+        Ok(builder)
+    }
+
     /// How many blocks, loops and ifs are open.
     pub fn depth(&self) -> usize
         ensures count { result ≡ length self.now.around }

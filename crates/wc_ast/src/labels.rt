@@ -35,6 +35,8 @@ impl<'a> Model for Labels<'a> {
 }
 
 impl<'a> Labels<'a> {
+    ghost use Rattle.std.specs.Prelude.{nat_lt};
+    ghost use Rattle.std.specs.List.{list_any};
     ghost use Rattle.wc_ast.specs.LabelItems.{labels_of, AreLabels};
 
     /// These labels, or none where there are `2^32` or more.
@@ -58,6 +60,14 @@ impl<'a> Labels<'a> {
             Items::Listed(items) => items.len() as u32,
             Items::Spelled(count, _) => count,
         }
+    }
+
+    /// Whether any of those that are left is above this number of enclosing blocks: that label itself is the body's own
+    /// and is in reach (Core 1.0, 3.3.5.8).
+    pub fn any_above(mut self, enclosing: usize) -> bool
+        ensures { result ≡ list_any (λ n. nat_lt enclosing n) self.entry }
+    {
+        self.any(|n| enclosing < n as usize)
     }
 
     /// The same labels, while these stay as they are.

@@ -1,12 +1,9 @@
 //! What instructions need of what is around them.
 
 ghost use Rattle.std.specs.Prelude.{◌≡◌};
-ghost use Rattle.std.specs.List.{list_any};
-ghost use Rattle.std.specs.Prelude.{nat_lt, ◌||◌};
 ghost use Rattle.wc_ast.specs.Needed.{nothing, enough, with_simple, with_index, with_instr, with_block};
 
 use crate::instr::{BlockType, Instr};
-use crate::labels::Labels;
 use crate::op::{IndexOp, SimpleOp};
 
 /// What the instructions of a body need of the function and of the module around them, so that the rules on each of them
@@ -89,7 +86,7 @@ impl Needs {
                 self.over_aligned = self.over_aligned || op.natural_alignment() < arg.align;
             }
             Instr::BrTable(default, ref labels) => {
-                let is_outer = any_above(labels.again(), enclosing) || enclosing < default as usize;
+                let is_outer = labels.again().any_above(enclosing) || enclosing < default as usize;
                 self.outer_label = self.outer_label || is_outer;
             }
             Instr::CallIndirect(ty) => {
@@ -119,10 +116,4 @@ fn enough(count: u32, index: u32) -> u32
     ensures { result ≡ enough count index }
 {
     count.max(index.saturating_add(1))
-}
-
-fn any_above(mut labels: Labels<'_>, enclosing: usize) -> bool
-    ensures { result ≡ list_any (λ n. nat_lt enclosing n) labels.entry }
-{
-    labels.any(|n| enclosing < n as usize)
 }

@@ -1,12 +1,12 @@
 -- The canonical bytes of block types.
 use Rattle.std.specs.Prelude.{ℤ, pos, negsuc}
-use Rattle.std.proofs.Common.{◌≡◌, ℕ, ◌+◌, ◌/◌, ◌%◌, ◌≤◌, Bool, true, false, nat_eq, List, [], ◌∷◌, None, Result, Ok}
+use Rattle.std.proofs.Common.{◌≡◌, ℕ, ◌<◌, ◌≤◌, ◌⊎◌, Bool, true, false, nat_eq, List, [], ◌∷◌, None, Result, Ok}
 use Rattle.std.proofs.Common.{inl, inr, refl, sym, arith}
 use Rattle.std.proofs.lemmas.List.{append-nil}
-use Rattle.std.proofs.lemmas.Bool.{eqb-true, cases_lt, lt-ltb, le-ltb}
+use Rattle.std.proofs.lemmas.Bool.{eqb-true, lt-ltb, le-ltb}
 use Rattle.std.proofs.lemmas.Int.{ints}
 use Rattle.wc_leb128.specs.Shortest.{signed_bytes, HoldsSigned}
-use Rattle.wc_leb128.proofs.SignedShortest.{signed_bytes-low, signed_bytes-high}
+use Rattle.wc_leb128.proofs.SignedShortest.{signed_bytes-begin}
 use Rattle.wc_ast.specs.declared.val_type.ValType.TheVariants.{I32, I64}
 use Rattle.wc_ast.specs.declared.instr.BlockType.{BlockType}
 use Rattle.wc_ast.specs.declared.instr.BlockType.TheVariants.{Empty, Value, Index}
@@ -25,20 +25,9 @@ block_head = byte_or_signed is_short head_of 33 (λ z. whole z)
 
 -- ---- an index begins with no byte that tells another block type
 
-abbrev BeginsLong : List ℕ → Type 0
-BeginsLong b = (x : ℕ) × (c : List ℕ) × (b ≡ x ∷ c) × (is_short x ≡ false)
-
-begins-long : (i : ℕ) → BeginsLong (signed_bytes (pos i))
-begins-long i =
-    elim (cases_lt i 64) [
-      | inl lt ↦ (i, [], signed_bytes-low false i lt, rw (lt-ltb i 64 lt) refl)
-      | inr le ↦
-          let up : 64 ≤ 128 + i % 128 = omega arith in
-          let past : 128 ≤ 128 + i % 128 = omega arith in
-          let long : is_short (128 + i % 128) ≡ false =
-          rw (le-ltb (128 + i % 128) 64 up, le-ltb (128 + i % 128) 128 past) refl in
-          (128 + i % 128, signed_bytes (pos (i / 128)), signed_bytes-high false i le, long)
-    ]
+not-short : (b : ℕ) → (b < 64) ⊎ (128 ≤ b) → is_short b ≡ false
+not-short b (inl lt) = rw (lt-ltb b 64 lt) refl
+not-short b (inr le) = let up : 64 ≤ b = omega (arith, le) in rw (le-ltb b 64 up, le-ltb b 128 le) refl
 
 index-held : (i : ℕ) → Fits32 i → HoldsSigned 33 (pos i)
 index-held i f = (omega (arith, ints), omega (arith, ints))
@@ -48,10 +37,10 @@ index-fits i h = omega (arith, ints, h.1)
 
 index-written : (i : ℕ) → Fits32 i → SpellsBy canonical block_head (signed_bytes (pos i)) (whole (pos i))
 index-written i f =
-    let b = begins-long i in
+    let b = signed_bytes-begin i in
     let spelled = (signed-writes 33).written (pos i) (index-held i f) in
     let is = b.2 in
-    (b.0, b.1, b.2, inr (b.3, pos i, rw is at spelled, refl))
+    (b.0, b.1, b.2, inr (not-short b.0 b.3, pos i, rw is at spelled, refl))
 
 head-written : (b : List ℕ) (u : BlockHead) → SpellsBy canonical block_head b u → index_fault u ≡ None
     → SpellsBy canonical block_type b (type_of u)

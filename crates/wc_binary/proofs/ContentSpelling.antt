@@ -84,7 +84,8 @@ elem-writes =
     (λ o e. vector_bytes unsigned_bytes e.funcs)
     (λ e. e.offset)
     expr-writes
-    (λ o. seen-writes (vector u32) (FitsVector Fits32) (vector_bytes unsigned_bytes) indices-writes (λ fs. record { table = x; offset = o; funcs = fs }) (λ e. e.funcs) (λ fs. refl))
+    (λ o. seen-writes (vector u32) (FitsVector Fits32) (vector_bytes unsigned_bytes) indices-writes
+    (λ fs. record { table = x; offset = o; funcs = fs }) (λ e. e.funcs) (λ fs. refl))
     (λ s o b v h. sym (ap (λ (y : Elem). y.offset) h.5.1)))
     (λ s x b v h. sym (ap (λ (y : Elem). y.table) h.5.5.1)))
     (λ e h. (h.0, (h.1.0, h.1.1.0))) (λ e h. (h.0, (h.1.0, (h.1.1, refl)))) (λ e. refl)

@@ -131,7 +131,9 @@ module _ {O P H : Type 0} (table : ℕ → Result (Begun O) BinWhy) (f : O → P
           (λ m b. loop-told n (step d m.value) m.place (a ++ b) m.left)
         where
           go : (r : Result (Got (Mark P H)) Halt) → NextTold d (room_in d) (in_first_part d.around) p y r
-              → ((m : Got (Mark P H)) (b : List ℕ) → x ≡ (a ++ b) ++ m.left → SpellsDraft g (a ++ b) (step d m.value) → reach (step d m.value).around (nesting (step d m.value).last) ≤ nesting_limit → m.place ≡ o + length (a ++ b) → length m.left < n
+              → ((m : Got (Mark P H)) (b : List ℕ) → x ≡ (a ++ b) ++ m.left → SpellsDraft g (a ++ b) (step d m.value)
+              → reach (step d m.value).around (nesting (step d m.value).last) ≤ nesting_limit
+              → m.place ≡ o + length (a ++ b) → length m.left < n
               → IsTold (expression table f h) o x (all_at n (step d m.value) m.place m.left))
               → IsTold (expression table f h) o x
               (r and_then λ m. cond (is_last d m.value) (got d.last m.place m.left) (all_at n (step d m.value) m.place m.left))

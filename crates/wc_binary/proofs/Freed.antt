@@ -48,7 +48,14 @@ freed-code k l plains regions ifs elses ends liberties b (choice t first second 
   freed-code k l plains regions ifs elses ends liberties s.1 first s.7,
   elim s.8 [
     | inl none ↦ inl none
-    | inr some ↦ inr (some.0, some.1, some.2, elses some.0 t some.3, freed-code k l plains regions ifs elses ends liberties some.1 second some.4, liberties (second ≢ empty))
+    | inr some ↦ inr (
+      some.0,
+      some.1,
+      some.2,
+      elses some.0 t some.3,
+      freed-code k l plains regions ifs elses ends liberties some.1 second some.4,
+      liberties (second ≢ empty),
+    )
   ],
   ends s.3 t s.9,
   freed-code k l plains regions ifs elses ends liberties s.4 next s.10,

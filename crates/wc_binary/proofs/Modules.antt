@@ -44,8 +44,14 @@ exactly-spelled (b ∷ bytes) why =
 
 preamble-spelled : SpellsBy canonical preamble preamble_bytes tt
 unfolding preamble
-preamble-spelled =
-    (0x00 ∷ 0x61 ∷ 0x73 ∷ 0x6D ∷ [], 0x01 ∷ 0x00 ∷ 0x00 ∷ 0x00 ∷ [], tt, refl, exactly-spelled (0x00 ∷ 0x61 ∷ 0x73 ∷ 0x6D ∷ []) Magic, exactly-spelled (0x01 ∷ 0x00 ∷ 0x00 ∷ 0x00 ∷ []) Version)
+preamble-spelled = (
+  0x00 ∷ 0x61 ∷ 0x73 ∷ 0x6D ∷ [],
+  0x01 ∷ 0x00 ∷ 0x00 ∷ 0x00 ∷ [],
+  tt,
+  refl,
+  exactly-spelled (0x00 ∷ 0x61 ∷ 0x73 ∷ 0x6D ∷ []) Magic,
+  exactly-spelled (0x01 ∷ 0x00 ∷ 0x00 ∷ 0x00 ∷ []) Version,
+)
 
 pub canon-written : (m : Module) → FitsModule m → Canon (module_bytes m) m
 canon-written m fits =

@@ -132,7 +132,17 @@ module _ (s : Style) {A : Type 0} (k : SectionKind) (id : ℕ) (p : Phrase A) (n
         elim r [
           | inl rest ↦
               let same : id ≡ max id (number v) = omega (arith, number-is, z) in
-              inl (h.0, h.1, h.2, h.3, h.4, id-stands id h.0 h.1 first.kind_is (λ ne. absurd (ne z)), h.6, h.7, subst (λ (l : ℕ). AreSections s l vs h.3) same rest)
+              inl (
+                h.0,
+                h.1,
+                h.2,
+                h.3,
+                h.4,
+                id-stands id h.0 h.1 first.kind_is (λ ne. absurd (ne z)),
+                h.6,
+                h.7,
+                subst (λ (l : ℕ). AreSections s l vs h.3) same rest,
+              )
           | inr rest ↦
               let front : b ≡ 0 ∷ (h.2 ++ h.3) = h.4 ∙ ap (λ (x : ℕ). x ∷ (h.2 ++ h.3)) z in
               let split : b ≡ (0 ∷ (h.2 ++ rest.0)) ++ ((id ∷ rest.1) ++ rest.2) =
@@ -234,8 +244,15 @@ module _ (s : Style) {A : Type 0} (k : SectionKind) (id : ℕ) (p : Phrase A) (n
             let v-is : get n ≡ r.3 = ap get (sym e ∙ r.10 base)
             ∙ kept-all some r.4 id r.2 (put base (make r.3)) (omega arith) r.9 ∙ is.got base r.3 in
             let spelled = subst (λ (x : A). SpellsBy s (sized SectionSize p) r.1 x) (sym v-is) r.7 in
-            let neat = subst (λ (x : A). s.Neat (x ≢ none)) (sym v-is) r.8 in
-            (r.0, id ∷ r.1, r.2, r.5, r.6, inr (r.1, refl, spelled, neat), rest r.4 r.2 r.9 (ap (λ (x : A). put_all (put base (make x)) r.4) v-is ∙ sym (r.10 base) ∙ e))
+            let neat = subst (λ (x : A). s.Neat (x ≢ none)) (sym v-is) r.8 in (
+              r.0,
+              id ∷ r.1,
+              r.2,
+              r.5,
+              r.6,
+              inr (r.1, refl, spelled, neat),
+              rest r.4 r.2 r.9 (ap (λ (x : A). put_all (put base (make x)) r.4) v-is ∙ sym (r.10 base) ∙ e),
+            )
       ]
 
 abbrev some_kind_of : SectionKind → Option SectionKind

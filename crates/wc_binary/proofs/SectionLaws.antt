@@ -18,8 +18,17 @@ pub sections-snoc : (last : ℕ) (ss : List Section) (a : List ℕ) (x : ℕ) (i
     → AreSections free last (ss ++ s ∷ []) (a ++ x ∷ c)
 sections-snoc last [] a x id c s h e k =
     (x, id, c, [], rw h (ap (λ (y : List ℕ). x ∷ y) (sym (append-nil c))), e, k, tt, refl)
-sections-snoc last (t ∷ ss) a x id c s h e k =
-    (h.0, h.1, h.2, h.3 ++ x ∷ c, rw h.4 (ap (λ (y : List ℕ). h.0 ∷ y) (append_assoc h.2 h.3 (x ∷ c))), h.5, h.6, tt, sections-snoc (after last t) ss h.3 x id c s h.8 e k)
+sections-snoc last (t ∷ ss) a x id c s h e k = (
+  h.0,
+  h.1,
+  h.2,
+  h.3 ++ x ∷ c,
+  rw h.4 (ap (λ (y : List ℕ). h.0 ∷ y) (append_assoc h.2 h.3 (x ∷ c))),
+  h.5,
+  h.6,
+  tt,
+  sections-snoc (after last t) ss h.3 x id c s h.8 e k,
+)
 
 pub reached-snoc : (last : ℕ) (ss : List Section) (s : Section)
     → reached last (ss ++ s ∷ []) ≡ after (reached last ss) s
@@ -46,8 +55,15 @@ found-none o x =
 
 module _ (o : ℕ) (x : List ℕ) (p : ℕ) (y : List ℕ) (last : ℕ) (m : Parts) (b : ℕ) (z : List ℕ) (here : y ≡ b ∷ z) where
   pub id-stops : Found o x p y last m → (r : BinWhy) → id_of last b ≡ Err r → StopsSections 0 o x (halt p r (p + 1))
-  id-stops f r e =
-      (f.before, f.front, z, b, f.split ∙ ap (λ (w : List ℕ). f.front ++ w) here, f.spelled, inl (r, rw f.last_is at e, ap (λ (q : ℕ). halt q r (q + 1)) f.place))
+  id-stops f r e = (
+    f.before,
+    f.front,
+    z,
+    b,
+    f.split ∙ ap (λ (w : List ℕ). f.front ++ w) here,
+    f.spelled,
+    inl (r, rw f.last_is at e, ap (λ (q : ℕ). halt q r (q + 1)) f.place),
+  )
 
   pub content-stops : Found o x p y last m → (id : SectionKind) → id_of last b ≡ Ok id → (e : Halt)
       → read (content id) (p + 1) z ≡ Err e → StopsSections 0 o x e

@@ -135,7 +135,17 @@ module _ {A : Type 0} (p : Phrase A) (fit : A → Type 0) (w : A → List ℕ) (
           [],
           (length b, (length b, v)),
           sym (append-nil (unsigned_bytes (length b) ++ b)),
-          ((unsigned_bytes (length b), b, length b, refl, shortest-is (length b) h.0, (b, [], (length b, v), sym (append-nil b), (v, writes.written v h.1, refl), (refl, refl))), size),
+          (
+            (
+              unsigned_bytes (length b),
+              b,
+              length b,
+              refl,
+              shortest-is (length b) h.0,
+              (b, [], (length b, v), sym (append-nil b), (v, writes.written v h.1, refl), (refl, refl)),
+            ),
+            size,
+          ),
           (refl, refl),
         );
     told = λ s V j b v h.

@@ -74,7 +74,8 @@ func_type-writes =
     (λ ps s. vector_bytes value_type_bytes s.results)
     (λ s. s.params)
     types-writes
-    (λ ps. seen-writes (vector value_type) (FitsVector Anything) (vector_bytes value_type_bytes) types-writes (λ rs. record { params = ps; results = rs }) (λ s. s.results) (λ rs. refl))
+    (λ ps. seen-writes (vector value_type) (FitsVector Anything) (vector_bytes value_type_bytes) types-writes
+    (λ rs. record { params = ps; results = rs }) (λ s. s.results) (λ rs. refl))
     (λ s ps b v h. sym (ap (λ (x : FuncType). x.params) h.5.1)))
     (λ s u b v h. refl))
     (λ s h. (h.1.0, h.1.1.0)) (λ s h. (tt, (h.0, (h.1, refl)))) (λ s. refl)

@@ -22,8 +22,19 @@ stands-begins N b h =
 -- a byte that no spelling has there
 module _ (N o b : ℕ) (x : List ℕ) where
   barred : (MayStand N b → ⊥) → StopsInteger (U N) o (b ∷ x) (halt o Integer (o + 1))
-  barred bars =
-      ([], b ∷ x, refl, continues.nothing-unfinished N, inr (b, x, refl, λ h. bars (begins-stands N b [] h), ap (λ (p : ℕ). halt p Integer (p + 1)) (sym (add-zero o))))
+  barred bars = (
+    [],
+    b ∷ x,
+    refl,
+    continues.nothing-unfinished N,
+    inr (
+      b,
+      x,
+      refl,
+      λ h. bars (begins-stands N b [] h),
+      ap (λ (p : ℕ). halt p Integer (p + 1)) (sym (add-zero o)),
+    ),
+  )
 
   pub last : b < 128 → b < 2 ^ N → unsigned_at N o (b ∷ x) ≡ got b (o + 1) x
   last lt fits = rw (lt-ltb b 128 lt, lt-ltb b (2 ^ N) fits) refl

@@ -1,13 +1,12 @@
 //! The instructions of functions.
 
-ghost use Rattle.std.specs.Prelude.{◌≡◌, nat_lt};
-ghost use Rattle.std.specs.List.{list_any};
+ghost use Rattle.std.specs.Prelude.{◌≡◌};
 ghost use Rattle.wc_check.specs.Rules.{first};
 ghost use Rattle.wc_check.specs.InstructionRules.{simple_rules, index_rules, instr_rules, block_rules, is_constant_at};
 
 use crate::context::Context;
 use crate::fault::{CheckWhy, broken_if};
-use wc_ast::{BlockType, GlobalType, IndexOp, Instr, Labels, SimpleOp};
+use wc_ast::{BlockType, GlobalType, IndexOp, Instr, SimpleOp};
 
 /// The first rule that an instruction breaks, in which none is nested: so many blocks enclose it, and its function has
 /// so many locals, parameters counted.
@@ -28,7 +27,7 @@ pub(crate) fn instr_rule(
             space.or(broken_if(CheckWhy::Align, op.natural_alignment() < arg.align))
         }
         Instr::BrTable(default, labels) => {
-            let is_above = any_above(labels, enclosing) || enclosing < default as usize;
+            let is_above = labels.any_above(enclosing) || enclosing < default as usize;
             broken_if(CheckWhy::Label, is_above)
         }
         Instr::CallIndirect(index) => {
@@ -85,12 +84,6 @@ fn is_constant_global(globals: &[GlobalType], index: usize) -> bool
         Some(global) => !global.mutable,
         None => false,
     }
-}
-
-fn any_above(mut labels: Labels<'_>, enclosing: usize) -> bool
-    ensures { result ≡ list_any (λ n. nat_lt enclosing n) labels.entry }
-{
-    labels.any(|n| enclosing < n as usize)
 }
 
 /// The rule that the type of a block, a loop or an if breaks.

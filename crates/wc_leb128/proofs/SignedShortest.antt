@@ -1,6 +1,6 @@
 -- The shortest spelling of a signed integer.
 use Rattle.std.proofs.Common.{◌≡◌, ℕ, zero, suc, ◌+◌, ◌-◌, ◌*◌, ◌/◌, ◌%◌, ◌^◌, ◌<◌, ◌≤◌, ℤ, pos, negsuc, Bool, true}
-use Rattle.std.proofs.Common.{false, List, [], ◌∷◌, length, inl, inr, refl, sym, ap, ◌∙◌, arith}
+use Rattle.std.proofs.Common.{false, List, [], ◌∷◌, length, ◌⊎◌, inl, inr, refl, sym, ap, ◌∙◌, arith}
 use Rattle.std.proofs.lemmas.Bool.{cases_lt, lt-ltb, le-ltb}
 use Rattle.std.proofs.lemmas.Nat.{pow-add}
 use Rattle.std.proofs.lemmas.Int.{ints}
@@ -54,6 +54,14 @@ pub signed_bytes-high : (s : Bool) (n : ℕ) → 64 ≤ n
 signed_bytes-high s n le =
     bytes_within s n ∙ high s n le
     ∙ ap (λ (x : List ℕ). (128 + group_of s (n % 128)) ∷ x) (sym (bytes_within s (n / 128)))
+
+-- what a number begins with that isn't negative: no byte from 64 to 127
+pub signed_bytes-begin : (n : ℕ) → (b : ℕ) × (rest : List ℕ) × (signed_bytes (pos n) ≡ b ∷ rest) × ((b < 64) ⊎ (128 ≤ b))
+signed_bytes-begin n =
+    elim (cases_lt n 64) [
+      | inl lt ↦ (n, [], signed_bytes-low false n lt, inl lt)
+      | inr le ↦ (128 + n % 128, signed_bytes (pos (n / 128)), signed_bytes-high false n le, inr (omega arith))
+    ]
 
 fits_down : (N n : ℕ) → 7 < N → n < 2 ^ (N - 1) → n / 128 < 2 ^ (N - 7 - 1)
 fits_down N n lt h =

@@ -65,8 +65,11 @@ module _ (base : ℕ) (pos : 0 < base) (low : base ≤ 36) where
       (base * b.0 + digit_of c, more c b.1 d, ap (λ v. extended base v (digit_of c)) b.2 ∙ extended-fitting base b.0 (digit_of c) pos)
   Before-digit false value front c d (inl b) =
       (digit_of c, rw b.0 (one c d), ap (λ v. extended base v (digit_of c)) b.1 ∙ ap fitting (omega arith))
-  Before-digit false value front c d (inr b) =
-      (base * b.1 + digit_of c, rw (b.2, append_assoc b.0 (95 ∷ []) (c ∷ [])) (apart c b.3 d), ap (λ v. extended base v (digit_of c)) b.4 ∙ extended-fitting base b.1 (digit_of c) pos)
+  Before-digit false value front c d (inr b) = (
+    base * b.1 + digit_of c,
+    rw (b.2, append_assoc b.0 (95 ∷ []) (c ∷ [])) (apart c b.3 d),
+    ap (λ v. extended base v (digit_of c)) b.4 ∙ extended-fitting base b.1 (digit_of c) pos,
+  )
 
   Before-apart : (value : Option ℕ) (front : List ℕ) → Before true value front → Before false value (front ++ 95 ∷ [])
   Before-apart value front b = inr (front, b.0, refl, b.1, b.2)
@@ -98,7 +101,9 @@ module _ (base : ℕ) (pos : 0 < base) (low : base ≤ 36) where
   Found-scan [] true value front rest v b e = Found-none front rest value v [] b (sym (scan-end base value) ∙ e)
   Found-scan [] false value front rest v b e = let f = scan-none base value in absurd cc
   Found-scan (c ∷ text) after_digit value front rest v b e = elim (cases_lt (digit_of c) base) [
-    | inl d ↦ Found-more c front text rest v (Found-scan text true (extended base value (digit_of c)) (front ++ c ∷ []) rest v (Before-digit after_digit value front c d b) (sym (scan-digit base after_digit value c text d) ∙ e))
+    | inl d ↦ Found-more c front text rest v
+        (Found-scan text true (extended base value (digit_of c)) (front ++ c ∷ []) rest v
+        (Before-digit after_digit value front c d b) (sym (scan-digit base after_digit value c text d) ∙ e))
     | inr d ↦ Found-other c text after_digit value front rest v b e d (λ w. Found-scan text false value (front ++ 95 ∷ []) rest v w)
   ]
     where

@@ -109,7 +109,11 @@ read_byte-is high (low ∷ text) value rest e = elim (cases_lt (digit_of high) 1
         (lt-true (digit_of high) 16 h, lt-true (digit_of low) 16 l) at e in
         let same : text ≡ rest = cc in
         let is : (16 * digit_of high + digit_of low) ∷ [] ≡ value = cc in
-        record { part = 92 ∷ high ∷ low ∷ []; text_is = ap (λ (t : List ℕ). 92 ∷ high ∷ low ∷ t) same; element = subst (Element (92 ∷ high ∷ low ∷ [])) is (byte high low h l) }
+        record {
+          part = 92 ∷ high ∷ low ∷ [];
+          text_is = ap (λ (t : List ℕ). 92 ∷ high ∷ low ∷ t) same;
+          element = subst (Element (92 ∷ high ∷ low ∷ [])) is (byte high low h l);
+        }
     | inr l ↦ let f : None ≡ Some (Takes value rest) = rw (lt-true (digit_of high) 16 h, lt-false (digit_of low) 16 l) at e in absurd cc
   ]
   | inr h ↦ let f : None ≡ Some (Takes value rest) = rw (lt-false (digit_of high) 16 h) at e in absurd cc
@@ -136,7 +140,11 @@ read_closed-is text value rest (Some n) (c ∷ after) s e = elim (cases_eq c 125
         let is : encode_utf8 n ≡ value = cc in
         let whole : text ≡ (found.run ++ 125 ∷ []) ++ rest = found.text_is ∙ cc (b, same)
         ∙ sym (append_assoc found.run (125 ∷ []) rest) in
-        record { part = 92 ∷ 117 ∷ 123 ∷ (found.run ++ 125 ∷ []); text_is = ap (λ (t : List ℕ). 92 ∷ 117 ∷ 123 ∷ t) whole; element = subst (Element (92 ∷ 117 ∷ 123 ∷ (found.run ++ 125 ∷ []))) is (unicode digits t) }
+        record {
+          part = 92 ∷ 117 ∷ 123 ∷ (found.run ++ 125 ∷ []);
+          text_is = ap (λ (t : List ℕ). 92 ∷ 117 ∷ 123 ∷ t) whole;
+          element = subst (Element (92 ∷ 117 ∷ 123 ∷ (found.run ++ 125 ∷ []))) is (unicode digits t);
+        }
     go false t f b = absurd cc
 
 read_unicode-is : (text value rest : List ℕ) → read_unicode text ≡ Some (Takes value rest)
@@ -266,8 +274,12 @@ pub EndsElements-step : (text rest : List ℕ) {r : Option Taken} (value after :
     → ((body bytes : List ℕ) × (text ≡ body ++ rest) × Elements body bytes) → r ≡ read_element rest
     → r ≡ Some (Takes value after) → (body bytes : List ℕ) × (text ≡ body ++ after) × Elements body bytes
 EndsElements-step text rest value after (body, bytes, is, es) e f =
-    let i = read_element-is rest value after (sym e ∙ f) in
-    (body ++ i.part, bytes ++ value, is ∙ ap (λ (t : List ℕ). body ++ t) i.text_is ∙ sym (append_assoc body i.part after), Elements-append es (Elements-one i.element))
+    let i = read_element-is rest value after (sym e ∙ f) in (
+      body ++ i.part,
+      bytes ++ value,
+      is ∙ ap (λ (t : List ℕ). body ++ t) i.text_is ∙ sym (append_assoc body i.part after),
+      Elements-append es (Elements-one i.element),
+    )
 
 pub EndsElements-end : (text rest : List ℕ) {r : Option Taken}
     → ((body bytes : List ℕ) × (text ≡ body ++ rest) × Elements body bytes) → r ≡ read_element rest → r ≡ None

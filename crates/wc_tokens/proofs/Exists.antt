@@ -31,13 +31,29 @@ line-ends : (text : List ℕ) → (rest : List ℕ) × LineEnds text rest
 line-ends [] = ([], record { line = []; text_is = refl; no_feed = tt; ended = tt })
 line-ends (c ∷ text) = elim (cases_eq c 10) [
   | inl e ↦ (c ∷ text, record { line = []; text_is = refl; no_feed = tt; ended = e })
-  | inr e ↦ let w = line-ends text in (w.0, record { line = c ∷ w.1.line; text_is = ap (λ (t : List ℕ). c ∷ t) w.1.text_is; no_feed = (e, w.1.no_feed); ended = w.1.ended })
+  | inr e ↦ let w = line-ends text in (
+    w.0,
+    record {
+      line = c ∷ w.1.line;
+      text_is = ap (λ (t : List ℕ). c ∷ t) w.1.text_is;
+      no_feed = (e, w.1.no_feed);
+      ended = w.1.ended;
+    },
+  )
 ]
 
 run-ends : (text : List ℕ) → (rest : List ℕ) × RunEnds text rest
 run-ends [] = ([], record { run = []; text_is = refl; idchars = tt; ended = tt })
 run-ends (c ∷ text) = elim (cases_Bool (is_idchar c)) [
-  | inl e ↦ let w = run-ends text in (w.0, record { run = c ∷ w.1.run; text_is = ap (λ (t : List ℕ). c ∷ t) w.1.text_is; idchars = (e, w.1.idchars); ended = w.1.ended })
+  | inl e ↦ let w = run-ends text in (
+    w.0,
+    record {
+      run = c ∷ w.1.run;
+      text_is = ap (λ (t : List ℕ). c ∷ t) w.1.text_is;
+      idchars = (e, w.1.idchars);
+      ended = w.1.ended;
+    },
+  )
   | inr e ↦ (c ∷ text, record { run = []; text_is = refl; idchars = tt; ended = e })
 ]
 

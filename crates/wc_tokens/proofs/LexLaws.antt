@@ -153,7 +153,9 @@ judged-go zero size (c ∷ text) l = absurd (omega arith)
 judged-go (suc steps) size text l = elim (outcome text) [
   | at_end e ↦ subst (Judged size) (sym e) (inl ([], ended))
   | a_gap rest g ↦ judged-gap g (judged-go steps size rest (omega (arith, l, Gap-shorter g)))
-  | a_token kind rest b ↦ judged-token b.1 b.2 (judged-go steps size rest (omega (arith, l, ap length b.1, length-append b.0 rest, token-some kind b.0 rest b.2)))
+  | a_token kind rest b ↦ judged-token b.1 b.2
+      (judged-go steps size rest
+      (omega (arith, l, ap length b.1, length-append b.0 rest, token-some kind b.0 rest b.2)))
   | a_fault rest why s ↦ inr (place size rest, why, stuck s)
 ]
 

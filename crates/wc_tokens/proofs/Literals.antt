@@ -187,12 +187,26 @@ pub record IsWidth (bits max : ℕ) : Type 0 where
 
 pub IsWidth-bits : (bits max : ℕ) → (bits ≡ 32) ⊎ (bits ≡ 64) → max + 1 ≡ 2 ^ bits → IsWidth bits max
 IsWidth-bits bits max (inl e) top =
-    subst (λ (b : ℕ). IsWidth b max) (sym e) (record { within = lit≤ tt; half = omega (arith, top'); half_within = lit< tt; complement = λ n h k. omega (arith, top', h, k); zero_complement = refl })
+    subst (λ (b : ℕ). IsWidth b max) (sym e)
+    (record {
+      within = lit≤ tt;
+      half = omega (arith, top');
+      half_within = lit< tt;
+      complement = λ n h k. omega (arith, top', h, k);
+      zero_complement = refl;
+    })
   where
     top' : max + 1 ≡ 2 ^ 32
     top' = subst (λ (b : ℕ). max + 1 ≡ 2 ^ b) e top
 IsWidth-bits bits max (inr e) top =
-    subst (λ (b : ℕ). IsWidth b max) (sym e) (record { within = lit≤ tt; half = omega (arith, top'); half_within = lit< tt; complement = λ n h k. omega (arith, top', h, k); zero_complement = refl })
+    subst (λ (b : ℕ). IsWidth b max) (sym e)
+    (record {
+      within = lit≤ tt;
+      half = omega (arith, top');
+      half_within = lit< tt;
+      complement = λ n h k. omega (arith, top', h, k);
+      zero_complement = refl;
+    })
   where
     top' : max + 1 ≡ 2 ^ 64
     top' = subst (λ (b : ℕ). max + 1 ≡ 2 ^ b) e top
@@ -277,7 +291,8 @@ IsInteger-plus bits max text bytes digits number width top same front reads is =
     let answer = Reads-limited digits number (max / 2) (2 ^ (bits - 1)) w.half half reads in
     let a = Answers-plus bits digits (limited number (max / 2)) answer in
     subst (IsInteger bits text) (sym is)
-    (IsInteger-answers bits Plus text digits (limited number (max / 2)) (HasSign-plus text digits (sym same ∙ front)) (λ n f. omega (arith, f, w.half_within)) a)
+    (IsInteger-answers bits Plus text digits (limited number (max / 2)) (HasSign-plus text digits (sym same ∙ front))
+    (λ n f. omega (arith, f, w.half_within)) a)
 
 pub IsInteger-minus : (bits max : ℕ) (text bytes digits : List ℕ) (number : Num) {result : Num}
     → (bits ≡ 32) ⊎ (bits ≡ 64) → max + 1 ≡ 2 ^ bits → bytes ≡ text → bytes ≡ 45 ∷ digits

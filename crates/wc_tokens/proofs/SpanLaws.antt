@@ -46,7 +46,16 @@ HasEnds-form Close text f =
     record { first = 41; tail = []; begins = f; first_ascii = omega arith; front = []; last = 41; ends = f; last_ascii = omega arith }
 HasEnds-form Id text f = HasEnds-run Id text f
 HasEnds-form Str text f =
-    record { first = 34; tail = f.1.body ++ 34 ∷ []; begins = f.1.text_is; first_ascii = omega arith; front = 34 ∷ f.1.body; last = 34; ends = f.1.text_is; last_ascii = omega arith }
+    record {
+      first = 34;
+      tail = f.1.body ++ 34 ∷ [];
+      begins = f.1.text_is;
+      first_ascii = omega arith;
+      front = 34 ∷ f.1.body;
+      last = 34;
+      ends = f.1.text_is;
+      last_ascii = omega arith;
+    }
 HasEnds-form Word text f = HasEnds-run Word text f
 
 pub boundary-start : (text : List ℕ) (kind : TokenKind) (here rest : List ℕ) → StandsIn text kind here rest
@@ -91,5 +100,7 @@ InOrder-Lexed ended short within from l = tt
 InOrder-Lexed (gap {rest = rest} g h) short within from l =
     InOrder-Lexed h short (omega (arith, within, Gap-shorter g)) from (omega (arith, l, Gap-shorter g))
 InOrder-Lexed (token {size = size} {kind = kind} {text = text} {rest = rest} t h) short within from l =
-    let lengths = length-append text rest in
-    (record { follows = l; spans = omega (arith, lengths, within); short = omega (arith, short); form = t.form }, InOrder-Lexed h short (omega (arith, lengths, within)) (size - length rest) (omega arith))
+    let lengths = length-append text rest in (
+      record { follows = l; spans = omega (arith, lengths, within); short = omega (arith, short); form = t.form },
+      InOrder-Lexed h short (omega (arith, lengths, within)) (size - length rest) (omega arith),
+    )

@@ -138,7 +138,14 @@ next-run kind (c ∷ run) rest r e =
 next-quote : (body bytes rest : List ℕ) → Elements body bytes → next (34 ∷ (body ++ 34 ∷ rest)) ≡ Take Str rest
 next-quote body bytes rest es =
     let i = no-idchar.7 in
-    let e = elements-end-is (body ++ 34 ∷ rest) (34 ∷ rest) (record { body = body; bytes = bytes; text_is = refl; elements = es; ended = NoElement-read (34 ∷ rest) (read_element-quote rest) }) in
+    let e = elements-end-is (body ++ 34 ∷ rest) (34 ∷ rest)
+    (record {
+      body = body;
+      bytes = bytes;
+      text_is = refl;
+      elements = es;
+      ended = NoElement-read (34 ∷ rest) (read_element-quote rest);
+    }) in
     rw (i, e)
 
 next-string : (text bytes rest : List ℕ) → IsString text bytes → next (text ++ rest) ≡ Take Str rest
@@ -186,7 +193,14 @@ next-Stuck (character c {text = text} b) = next-character c text b
 next-Stuck (comment_open {inside = inside} n) = let i = no-idchar.4 in let f = unclosed inside n in rw (i, f)
 next-Stuck (string_open {body = body} {bytes = bytes} es) =
     let i = no-idchar.7 in
-    let e = elements-end-is body [] (record { body = body; bytes = bytes; text_is = sym (append-nil body); elements = es; ended = NoElement-read [] read_element-nil }) in
+    let e = elements-end-is body []
+    (record {
+      body = body;
+      bytes = bytes;
+      text_is = sym (append-nil body);
+      elements = es;
+      ended = NoElement-read [] read_element-nil;
+    }) in
     rw (i, e)
 next-Stuck (escape c {text = text} {rest = rest} s n) =
     let i = no-idchar.7 in

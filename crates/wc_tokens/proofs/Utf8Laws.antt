@@ -23,7 +23,12 @@ longest-up-to : (bytes : List ℕ) (most : ℕ) → LongestUpTo bytes most
 longest-up-to bytes zero =
     record { len = 0; within = omega arith; front = IsUtf8-nil; longest = λ m l k. absurd (omega (arith, l, k)) }
 longest-up-to bytes (suc most) = elim (cases_Bool (is_utf8 (take (suc most) bytes))) [
-  | inl e ↦ record { len = suc most; within = omega arith; front = IsUtf8-from_is_utf8 (take (suc most) bytes) e; longest = λ m l k. absurd (omega (arith, l, k)) }
+  | inl e ↦ record {
+    len = suc most;
+    within = omega arith;
+    front = IsUtf8-from_is_utf8 (take (suc most) bytes) e;
+    longest = λ m l k. absurd (omega (arith, l, k));
+  }
   | inr e ↦
       let w = longest-up-to bytes most in
       record {
@@ -47,7 +52,9 @@ IsUtf8-or-front bytes =
           short = l;
           front = w.front;
           longest = λ m k. elim (cases_lt (length bytes) m) [
-            | inl past ↦ λ u. w.longest (length bytes) l (omega arith) (subst IsUtf8 (take_all m bytes (omega (arith, past)) ∙ sym (take_all (length bytes) bytes (omega arith))) u)
+            | inl past ↦ λ u. w.longest (length bytes) l (omega arith)
+                (subst IsUtf8 (take_all m bytes (omega (arith, past)) ∙ sym
+                (take_all (length bytes) bytes (omega arith))) u)
             | inr within ↦ w.longest m k within
           ];
         },

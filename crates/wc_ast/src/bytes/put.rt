@@ -39,6 +39,26 @@ fn put_three(bytes: &mut Vec<u8>, first: u8, second: u8, third: u8) -> Result<()
     Ok(())
 }
 
+/// Puts four bytes.
+#[inline(always)]
+fn put_four(
+    bytes: &mut Vec<u8>,
+    first: u8,
+    second: u8,
+    third: u8,
+    fourth: u8,
+) -> Result<(), AllocError>
+    ensures ok { OnOk result (bytes.new.items ≡ bytes.old.items ++ first ∷ second ∷ third ∷ fourth ∷ []) }
+    ensures err { OnErr result (bytes.new.items ≡ bytes.old.items) }
+{
+    bytes.reserve(4)?;
+    bytes.push_reserved(first);
+    bytes.push_reserved(second);
+    bytes.push_reserved(third);
+    bytes.push_reserved(fourth);
+    Ok(())
+}
+
 /// Puts a byte, and then both of these.
 #[inline(never)]
 fn put_all(bytes: &mut Vec<u8>, byte: u8, one: &[u8], other: &[u8]) -> Result<(), AllocError>
@@ -69,6 +89,7 @@ fn put_unsigned(bytes: &mut Vec<u8>, byte: u8, n: u32) -> Result<(), AllocError>
 }
 
 /// Seven bits of a byte, turned over in a negative number.
+#[inline(always)]
 fn group(negative: bool, bits: u8) -> u8
     requires { bits < 128 }
     ensures { result ≡ group_of negative bits }
@@ -78,6 +99,7 @@ fn group(negative: bool, bits: u8) -> u8
 
 /// Puts a byte and a signed integer of one byte or two, by its sign and its bits, which are turned over in a negative
 /// number.
+#[inline(always)]
 fn put_groups(bytes: &mut Vec<u8>, byte: u8, negative: bool, bits: u64) -> Result<(), AllocError>
     requires { bits < 8192 }
     ensures ok { OnOk result (bytes.new.items ≡ bytes.old.items ++ byte ∷ signed_bytes (signed_of negative bits)) }
@@ -91,6 +113,7 @@ fn put_groups(bytes: &mut Vec<u8>, byte: u8, negative: bool, bits: u64) -> Resul
 }
 
 /// Puts a byte and a signed integer. Most have one byte or two.
+#[inline(always)]
 fn put_signed(bytes: &mut Vec<u8>, byte: u8, n: i64) -> Result<(), AllocError>
     ensures ok { OnOk result (bytes.new.items ≡ bytes.old.items ++ byte ∷ signed_bytes n) }
     ensures err { OnErr result (bytes.new.items ≡ bytes.old.items) }
@@ -116,14 +139,22 @@ fn put_simple(bytes: &mut Vec<u8>, op: SimpleOp) -> Result<(), AllocError>
     Ok(())
 }
 
+/// Puts an access of memory. Most have an offset of one byte or two.
 #[inline(always)]
 fn put_access(bytes: &mut Vec<u8>, op: MemOp, arg: MemArg) -> Result<(), AllocError>
     ensures ok { OnOk result (bytes.new.items ≡ bytes.old.items ++ instr_bytes (Mem op arg)) }
     ensures fits { FitsInstr (Mem op arg) }
     ensures err { OnErr result (bytes.new.items ≡ bytes.old.items) }
 {
-    if arg.align < 128 && arg.offset < 128 {
-        return put_three(bytes, op.byte(), arg.align as u8, arg.offset as u8);
+    if arg.align < 128 {
+        let align = arg.align as u8;
+        if arg.offset < 128 {
+            return put_three(bytes, op.byte(), align, arg.offset as u8);
+        }
+        if arg.offset < 16_384 {
+            let low = 128 + (arg.offset % 128) as u8;
+            return put_four(bytes, op.byte(), align, low, (arg.offset / 128) as u8);
+        }
     }
     let align = shortest_u(u64::from(arg.align));
     let offset = shortest_u(u64::from(arg.offset));

@@ -118,6 +118,21 @@ fn entries_are_kept_or_refused(rt: HostRuntime) -> Result<(), Fail> {
     Ok(())
 }
 
+/// Room for nothing, for less than is put, for as much and for more.
+const ROOMS: [usize; 4] = [0, 3, 6, 65_536];
+
+#[test]
+fn room_changes_no_entry(rt: HostRuntime) -> Result<(), Fail> {
+    for &room in &ROOMS {
+        let mut builder = BodyBuilder::with_room(rt.alloc(), room)?;
+        assert_eq!(rt; builder.depth(), 0);
+        assert_eq!(rt; pushed(&mut builder, b"ipep."), (5, None));
+        let body = builder.finish()?;
+        assert_eq!(rt; body.bytes(), spelled(rt.alloc(), b"ipep.")?.as_slice());
+    }
+    Ok(())
+}
+
 #[test]
 fn an_open_block_is_not_finished(rt: HostRuntime) -> Result<(), Fail> {
     let builder = nested_blocks(rt.alloc(), 1)?;

@@ -134,7 +134,7 @@ fn check_rows(rt: &(impl Abort + AllocGlobal), rows: &[Row]) -> Result<(), Fail>
 }
 
 /// Instructions with immediates of each length, of any sign, and of the bytes of marks.
-const INSTRUCTIONS: [Row; 57] = [
+const INSTRUCTIONS: [Row; 63] = [
     (Step::Simple(SimpleOp::Unreachable), &[0x00]),
     (Step::Simple(SimpleOp::Nop), &[0x01]),
     (Step::Simple(SimpleOp::Return), &[0x0f]),
@@ -170,6 +170,14 @@ const INSTRUCTIONS: [Row; 57] = [
     (
         Step::Access(MemOp::I64Load16U, 1, 128),
         &[0x33, 0x01, 0x80, 0x01],
+    ),
+    (
+        Step::Access(MemOp::I32Load8S, 0, 16_383),
+        &[0x2c, 0x00, 0xff, 0x7f],
+    ),
+    (
+        Step::Access(MemOp::I64Load32U, 2, 16_384),
+        &[0x35, 0x02, 0x80, 0x80, 0x01],
     ),
     (
         Step::Access(MemOp::I64Store, 128, 1),
@@ -213,6 +221,10 @@ const INSTRUCTIONS: [Row; 57] = [
     (Step::I32Const(64), &[0x41, 0xc0, 0x00]),
     (Step::I32Const(-64), &[0x41, 0x40]),
     (Step::I32Const(-65), &[0x41, 0xbf, 0x7f]),
+    (Step::I32Const(8191), &[0x41, 0xff, 0x3f]),
+    (Step::I32Const(8192), &[0x41, 0x80, 0xc0, 0x00]),
+    (Step::I32Const(-8192), &[0x41, 0x80, 0x40]),
+    (Step::I32Const(-8193), &[0x41, 0xff, 0xbf, 0x7f]),
     (
         Step::I32Const(i32::MIN),
         &[0x41, 0x80, 0x80, 0x80, 0x80, 0x78],

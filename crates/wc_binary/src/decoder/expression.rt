@@ -5,9 +5,11 @@ ghost use Rattle.std.specs.Prelude.{◌≡◌, ◌+◌, ◌<◌, true, false, If
 ghost use Rattle.wc_ast.specs.Nested.{nesting_limit};
 ghost use Rattle.wc_ast.specs.Draft.{step, takes, begins};
 ghost use Rattle.wc_ast.specs.Entries.{mark};
+ghost use Rattle.wc_ast.specs.declared.op.Op.TheVariants as ops;
 ghost use Rattle.wc_ast.specs.declared.op.OpByte.TheVariants as bytes;
 ghost use Rattle.wc_binary.specs.Instructions.{opcode, begun_of, expr};
 ghost use Rattle.wc_binary.specs.NextMark.{begun_by, GivesEntry, MayStand, Takes};
+ghost use Rattle.wc_binary.specs.Source.{Gives};
 ghost use Rattle.wc_binary.specs.declared.fault.BinFault.TheVariants as faults;
 
 use crate::decoder::immediates::{
@@ -17,7 +19,9 @@ use crate::decoder::part::Part;
 use crate::fault::{BinFault, BinWhy};
 use crate::source::Source;
 use std::alloc::Global;
-use wc_ast::{Body, BodyBuilder, BuildFault, Entry, Kind, List, NESTING_LIMIT, Op, OpByte};
+use wc_ast::{
+    Body, BodyBuilder, BuildFault, Entry, IndexOp, Kind, List, NESTING_LIMIT, Op, OpByte,
+};
 
 /// What begins a block, a loop or an if, whose opcode stands at this place and was read.
 #[inline(always)]
@@ -57,6 +61,21 @@ fn add(builder: &mut BodyBuilder, entry: Entry<'_>) -> Result<bool, BinFault>
     }
 }
 
+/// Adds the instruction of an index whose opcode stands at this place and was read.
+#[inline(always)]
+fn indexed<S: Source>(
+    op: IndexOp,
+    at: u64,
+    builder: &mut BodyBuilder,
+    source: &mut S,
+) -> Result<bool, BinFault>
+    requires { (S.input source.old).place ≡ at + 1 }
+    ensures { Takes builder.old (begun_of (bytes.Known (ops.Index op))) at (S.input source.old) (S.input source.new) builder.new result }
+{
+    let instr = index(op, source)?;
+    add(builder, Entry::Plain(instr))
+}
+
 /// Adds the instruction whose opcode stands at this place and was read. Each form is added where it was read, so that it
 /// isn't told apart twice.
 #[inline(always)]
@@ -76,10 +95,17 @@ fn instruction<S: Source>(
             let instr = simple(op, source)?;
             add(builder, Entry::Plain(instr))
         }
-        Op::Index(op) => {
-            let instr = index(op, source)?;
-            add(builder, Entry::Plain(instr))
-        }
+        // An arm for each, so that it isn't told apart once more when it is added.
+        Op::Index(op) => match op {
+            IndexOp::LocalGet => indexed(IndexOp::LocalGet, at, builder, source),
+            IndexOp::LocalSet => indexed(IndexOp::LocalSet, at, builder, source),
+            IndexOp::LocalTee => indexed(IndexOp::LocalTee, at, builder, source),
+            IndexOp::GlobalGet => indexed(IndexOp::GlobalGet, at, builder, source),
+            IndexOp::GlobalSet => indexed(IndexOp::GlobalSet, at, builder, source),
+            IndexOp::Call => indexed(IndexOp::Call, at, builder, source),
+            IndexOp::Br => indexed(IndexOp::Br, at, builder, source),
+            IndexOp::BrIf => indexed(IndexOp::BrIf, at, builder, source),
+        },
         Op::Mem(op) => {
             let instr = memory(op, source)?;
             add(builder, Entry::Plain(instr))
@@ -149,31 +175,38 @@ fn entry<S: Source>(
     }
 }
 
+/// The instructions up to the end at which none is open. Room is made for so many bytes of them at once.
+pub fn body<S: Source>(alloc: Global, room: usize, source: &mut S) -> Result<Body, BinFault>
+    ensures { Gives expr (S.input source.old) (S.input source.new) result }
+{
+    let mut builder = BodyBuilder::with_room(alloc, room)?;
+    let mut labels = List::new(alloc);
+    'entries: loop {
+        let at = source.place();
+        let byte = match source.next()? {
+            None => {
+                return Err(BinFault::Bad {
+                    at,
+                    why: BinWhy::End,
+                })
+            }
+            Some(byte) => byte,
+        };
+        if !entry(alloc, byte, at, &mut builder, &mut labels, source)? {
+            break;
+        }
+    }
+    match builder.finish() {
+        Ok(body) => Ok(body),
+        Err(_) => unreachable!(),
+    }
+}
+
 impl Part for Body {
     ghost phrase = { expr };
 
     /// The instructions up to the end at which none is open.
     fn read<S: Source>(alloc: Global, source: &mut S) -> Result<Body, BinFault> {
-        let mut builder = BodyBuilder::new(alloc);
-        let mut labels = List::new(alloc);
-        'entries: loop {
-            let at = source.place();
-            let byte = match source.next()? {
-                None => {
-                    return Err(BinFault::Bad {
-                        at,
-                        why: BinWhy::End,
-                    })
-                }
-                Some(byte) => byte,
-            };
-            if !entry(alloc, byte, at, &mut builder, &mut labels, source)? {
-                break;
-            }
-        }
-        match builder.finish() {
-            Ok(body) => Ok(body),
-            Err(_) => unreachable!(),
-        }
+        body(alloc, 0, source)
     }
 }

@@ -11,6 +11,7 @@ use crate::source::Source;
 use wc_leb128::{Signed, Step};
 
 /// A signed integer of N bits, whose first byte was read at this place.
+#[inline(never)]
 pub fn signed_from<const N: u32, S: Source>(
     start: u64,
     first: u8,
@@ -49,7 +50,8 @@ pub fn signed_from<const N: u32, S: Source>(
     }
 }
 
-/// A signed integer of 32 bits.
+/// A signed integer of 32 bits. Most have one byte, so that case comes first and is inlined.
+#[inline(always)]
 #[tactic(auto, unfolding(crate::specs::Instructions::s32))]
 pub fn s32<S: Source>(source: &mut S) -> Result<i32, BinFault>
     ensures { Gives s32_phrase (S.input source.old) (S.input source.new) result }
@@ -61,13 +63,20 @@ pub fn s32<S: Source>(source: &mut S) -> Result<i32, BinFault>
             why: BinWhy::End,
         }),
         Some(first) => {
+            if first < 64 {
+                return Ok(i32::from(first));
+            }
+            if first < 128 {
+                return Ok(i32::from(first) - 128);
+            }
             let n = signed_from::<32, S>(at, first, source)?;
             Ok(n as i32)
         }
     }
 }
 
-/// A signed integer of 64 bits.
+/// A signed integer of 64 bits. Most have one byte, so that case comes first and is inlined.
+#[inline(always)]
 #[tactic(auto, unfolding(crate::specs::Instructions::s64))]
 pub fn s64<S: Source>(source: &mut S) -> Result<i64, BinFault>
     ensures { Gives s64_phrase (S.input source.old) (S.input source.new) result }
@@ -78,6 +87,14 @@ pub fn s64<S: Source>(source: &mut S) -> Result<i64, BinFault>
             at,
             why: BinWhy::End,
         }),
-        Some(first) => signed_from::<64, S>(at, first, source),
+        Some(first) => {
+            if first < 64 {
+                return Ok(i64::from(first));
+            }
+            if first < 128 {
+                return Ok(i64::from(first) - 128);
+            }
+            signed_from::<64, S>(at, first, source)
+        }
     }
 }

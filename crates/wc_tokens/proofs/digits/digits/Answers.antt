@@ -9,7 +9,8 @@ pub returns-else-after_digit-clause-scanned : goal.returns-else-after_digit-clau
 returns-else-after_digit-clause-scanned c =
     let text = c.args.text.now in
     let at = c.loop-at.at in
-    let ended = ends-other c.args.base c.loop-at.after_digit c.loop-at.value text at c.loop-at.invariant.read c.loop-at-test.true c.digit_of-digit.ensures c.if-digit-base.false in
+    let ended = ends-other c.args.base c.loop-at.after_digit c.loop-at.value text at c.loop-at.invariant.read
+    c.loop-at-test.true c.digit_of-digit.ensures c.if-digit-base.false in
     run_to-is c.loop-at.after_digit c.loop-at.value text at c.run.ensures
     (ended (λ after. elim c.else-after_digit.branch [
       | else-after_digit-via-then-after_digit+else-text-at-eq95 w ↦ w.if-text-at-eq95.false

@@ -49,7 +49,9 @@ loop-step-preserved c =
     let stands = StandsIn-token text rest after (lexemes_of c.loop-step.items.items) kind c.loop-step.invariant b in
     let t : Token = record { kind = kind; text = c.span_of-span.result.text; start = c.span_of-span.result.start; stop = c.span_of-span.result.stop } in
     let items = c.push_reserved.ensures.items ∙ ap (λ (ts : List Token). ts ++ t ∷ []) c.reserve.ensures.items in
-    let r = IsReadTo-token text rest after c.loop-step.items.items c.push_reserved.new.self.items t kind c.loop-step.invariant b items refl (c.span_of-span.ensures.text kind stands) c.span_of-span.ensures.start c.span_of-span.ensures.stop in
+    let r = IsReadTo-token text rest after c.loop-step.items.items c.push_reserved.new.self.items t kind
+    c.loop-step.invariant b items refl
+    (c.span_of-span.ensures.text kind stands) c.span_of-span.ensures.start c.span_of-span.ensures.stop in
     IsReadTo-blanks text after c.after_blanks-rest-in-Token.result.now
     (lexemes_of c.push_reserved.new.self.items) r c.after_blanks-rest-in-Token.ensures
 
@@ -72,4 +74,5 @@ pub returns-clause-tokens : goal.returns-clause-tokens
 returns-clause-tokens c =
     let text = c.args.text.now in
     subst (Lexed (length text) text) (sym c.new.ensures)
-    (Lexed-end text c.loop-step.rest.now (lexemes_of c.loop-step.items.items) c.loop-step.invariant (subst (MayStep c.loop-step.rest.now) c.in_default.is c.next_step.ensures))
+    (Lexed-end text c.loop-step.rest.now (lexemes_of c.loop-step.items.items) c.loop-step.invariant
+    (subst (MayStep c.loop-step.rest.now) c.in_default.is c.next_step.ensures))

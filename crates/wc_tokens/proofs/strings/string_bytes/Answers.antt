@@ -25,7 +25,8 @@ loop-element-preserved c =
 pub returns-clause-string : goal.returns-clause-string
 returns-clause-string c =
     let value = c.requires.0 in
-    let same = IsBegun-end c.args.token.now.text.now c.loop-element.rest.now c.loop-element.bytes.items c.loop-element.invariant c.read_element.ensures (ap (option_map taken) c.in_default.is) value c.requires.1 in
+    let same = IsBegun-end c.args.token.now.text.now c.loop-element.rest.now c.loop-element.bytes.items
+    c.loop-element.invariant c.read_element.ensures (ap (option_map taken) c.in_default.is) value c.requires.1 in
     subst (IsString c.args.token.now.text.now) (sym same) c.requires.1
 
 pub returns-clause-only : goal.returns-clause-only

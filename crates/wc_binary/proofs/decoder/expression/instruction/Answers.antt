@@ -10,13 +10,6 @@ returns-in_ok-instr-in-Simple g c =
     c.in_ok-instr-in-Simple.instr c.add.result c.requires refl c.in_ok-instr-in-Simple.ensures kept.more kept.ok kept.last
     kept.memory)
 
-pub returns-in_ok-instr-in-Index : goal.returns-in_ok-instr-in-Index
-returns-in_ok-instr-in-Index g c =
-    let kept = c.add-in-Index.ensures in
-    rw c.in-Index.is (plain-taken c.args.builder.now c.add-in-Index.new.builder (ops.Index c.in-Index.op) c.args.at _ _
-    c.in_ok-instr-in-Index.instr c.add-in-Index.result c.requires refl c.in_ok-instr-in-Index.ensures kept.more kept.ok kept.last
-    kept.memory)
-
 pub returns-in_ok-instr-in-Mem : goal.returns-in_ok-instr-in-Mem
 returns-in_ok-instr-in-Mem g c =
     let kept = c.add-in-Mem.ensures in

@@ -36,6 +36,9 @@ returns g c = (
       let count = c.in_ok-count.ensures.1 w in
       let raw = c.in_ok-bytes.ensures.gives.1 count.0 in
       let bytes-is = c.as_slice.ensures in
-      let good = rw bytes-is at c.in_default.ensures.cases.1 in
-      (raw.0, rw (c.from_string.ensures, c.from_utf8_unchecked-text.ensures.value, c.into_vec.ensures) (name-good _ c.in_ok-count.count _ _ _ _ _ c.in_ok-bytes.bytes count.1 raw.1 good)),
+      let good = rw bytes-is at c.in_default.ensures.cases.1 in (
+        raw.0,
+        rw (c.from_string.ensures, c.from_utf8_unchecked-text.ensures.value, c.into_vec.ensures)
+            (name-good _ c.in_ok-count.count _ _ _ _ _ c.in_ok-bytes.bytes count.1 raw.1 good),
+      ),
 )

@@ -2,10 +2,10 @@ use Rattle.std.proofs.Common.{◌≡◌, true, false, sym, ◌∙◌, rules}
 use Rattle.std.proofs.lemmas.Result.{err_from_is_err_and}
 use Rattle.wc_binary.proofs.ReadingEntries.{draws-none, next-none, entry-fails, entry-adds, entry-ends, goes-on}
 use Rattle.wc_binary.proofs.ReadingEntries.{comes-last}
-use Rattle.wc_binary.proofs.decoder.expression.BodyPart.read.Goals as goal
+use Rattle.wc_binary.proofs.decoder.expression.body.Goals as goal
 
 pub entries-init : goal.entries-init
-entries-init g c = rw c.new-builder.ensures (draws-none _)
+entries-init g c = rw c.in_ok-builder.ensures (draws-none _)
 
 pub returns-in-None : goal.returns-in-None
 returns-in-None g c =

@@ -2,7 +2,7 @@ use Rattle.std.proofs.Common.{◌-◌, ◌^◌}
 use Rattle.wc_binary.specs.Reading.{read}
 use Rattle.wc_binary.specs.Instructions.{expr}
 use Rattle.wc_binary.proofs.ReadingEntries.{Draws}
-use Rattle.wc_binary.proofs.decoder.expression.BodyPart.read.Given as goal
+use Rattle.wc_binary.proofs.decoder.expression.body.Given as goal
 
 abbrev pub invariant-entries : goal.invariant-entries
 invariant-entries g l =
