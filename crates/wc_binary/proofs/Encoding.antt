@@ -9,7 +9,7 @@ use Rattle.wc_binary.specs.declared.fault.EncFault.TheVariants.{Oversize, Memory
 use Rattle.wc_binary.specs.Module.{parts_of, Canon, IsShortestOf}
 use Rattle.wc_ast.specs.ValueBytes.{FitsVector}
 use Rattle.wc_binary.specs.WrittenModule.{module_bytes, sections_bytes, FitsSections, FitsModule}
-use Rattle.wc_binary.specs.Encoding.{Writes, EncodesModule}
+use Rattle.wc_binary.specs.Encoding.{Writes, Measures, EncodesModule}
 use Rattle.wc_binary.proofs.Modules.{canon-written, shortest-and-only, bin-longer}
 
 -- where a part doesn't fit, nothing that has it does
@@ -61,6 +61,14 @@ pub mapped-fails : {A B : Type 0} (f : A → B) (Fits : B → Type 0) (items : L
 mapped-fails f Fits items i v is lt mid new bytes old last whole e h =
     part-fails (Fits (f v)) (FitsVector Fits (map f items))
     (λ g. subst (λ x. Fits (f x)) (sym is) (mapped-at f Fits items i v lt g.1)) mid new bytes old last whole e h
+
+-- where the code of a function has no size, no vector that has it does
+pub mapped-unmeasured : {A B : Type 0} (f : A → B) (Fits : B → Type 0) (items : List A) (i : ℕ) (v : A)
+    → v ≡ get_or items i v → i < length items → (count whole : ℕ) (e : EncFault)
+    → Measures (Fits (f v)) count (Err e) → Measures (FitsVector Fits (map f items)) whole (Err e)
+mapped-unmeasured f Fits items i v is lt count whole Oversize h =
+    λ g. h (subst (λ x. Fits (f x)) (sym is) (mapped-at f Fits items i v lt g.1))
+mapped-unmeasured f Fits items i v is lt count whole Memory h = tt
 
 -- ---- sections one after the other
 

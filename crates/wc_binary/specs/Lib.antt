@@ -16,6 +16,7 @@ pub mod Decoding
 pub mod Written
 pub mod WrittenLocals
 pub mod WrittenContents
+pub mod Heads
 pub mod WrittenModule
 pub mod Encoding
 pub mod Feed

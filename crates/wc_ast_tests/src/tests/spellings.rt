@@ -262,13 +262,17 @@ const INSTRUCTIONS: [Row; 63] = [
     ),
 ];
 
+/// Each of these entries has its bytes, in an else part and among the others.
+fn check_each(rt: &(impl Abort + AllocGlobal), rows: &[Row]) -> Result<(), Fail> {
+    for row in rows {
+        check_rows(rt, &[IF, ELSE, *row, END])?;
+    }
+    check_rows(rt, rows)
+}
+
 #[test]
 fn instructions_have_their_bytes(rt: HostRuntime) -> Result<(), Fail> {
-    let rows = INSTRUCTIONS.as_slice();
-    for row in rows {
-        check_rows(&rt, &[IF, ELSE, *row, END])?;
-    }
-    check_rows(&rt, rows)
+    check_each(&rt, &INSTRUCTIONS)
 }
 
 /// What begins, with its type, and their bytes (Core 1.0, 5.4.1; Core 2.0, 5.4.1, for an index).
@@ -337,6 +341,25 @@ fn labels_are_told(rt: HostRuntime) -> Result<(), Fail> {
         check_labels(&rt, labels(items)?, items)?;
         let body = table(rt.alloc(), labels(items)?)?;
         check_labels(&rt, table_labels(&body)?, items)?;
+    }
+    Ok(())
+}
+
+/// Labels, a number of enclosing blocks, and whether one of the labels is above it.
+const ABOVE: [(&[u32], usize, bool); 5] = [
+    (&[], 0, false),
+    (&[0], 0, false),
+    (&[0, 3, 1], 2, true),
+    (&[0, 3, 1], 3, false),
+    (&[0xffff_ffff], 0xffff_fffe, true),
+];
+
+#[test]
+fn labels_above(rt: HostRuntime) -> Result<(), Fail> {
+    for &(items, enclosing, is_above) in &ABOVE {
+        assert_eq!(rt; labels(items)?.any_above(enclosing), is_above);
+        let body = table(rt.alloc(), labels(items)?)?;
+        assert_eq!(rt; table_labels(&body)?.any_above(enclosing), is_above);
     }
     Ok(())
 }
