@@ -1,13 +1,14 @@
 -- How the encoder's answers follow.
 use Rattle.std.proofs.Common.{◌≡◌, ℕ, zero, suc, ◌<◌, List, [], ◌∷◌, ◌++◌, length, map, get_or, Result, Ok, Err, refl}
 use Rattle.std.proofs.Common.{sym, ap, subst, ◌∙◌, append_assoc, arith}
-use Rattle.std.proofs.lemmas.List.{append-nil}
-use Rattle.std.specs.List.{AllByRecursion}
+use Rattle.std.proofs.lemmas.List.{append-nil, length-map}
+use Rattle.std.specs.List.{AllByRecursion, flat_map}
 use Rattle.wc_ast.specs.declared.module.Module.{Module}
 use Rattle.wc_binary.specs.declared.fault.EncFault.{EncFault}
 use Rattle.wc_binary.specs.declared.fault.EncFault.TheVariants.{Oversize, Memory}
 use Rattle.wc_binary.specs.Module.{parts_of, Canon, IsShortestOf}
-use Rattle.wc_ast.specs.ValueBytes.{FitsVector}
+use Rattle.wc_ast.specs.ValueBytes.{vector_bytes, FitsVector}
+use Rattle.wc_binary.specs.Written.{sized_bytes, section_bytes, FitsSection}
 use Rattle.wc_binary.specs.WrittenModule.{module_bytes, sections_bytes, FitsSections, FitsModule}
 use Rattle.wc_binary.specs.Encoding.{Writes, Measures, EncodesModule}
 use Rattle.wc_binary.proofs.Modules.{canon-written, shortest-and-only, bin-longer}
@@ -54,7 +55,7 @@ mapped-at f Fits [] i d lt h = absurd (omega arith)
 mapped-at f Fits (v ∷ vs) zero d lt h = h.0
 mapped-at f Fits (v ∷ vs) (suc i) d lt h = mapped-at f Fits vs i d (omega arith) h.1
 
--- where the code of a function doesn't fit, no vector that has it does
+-- where the type of a function doesn't fit, no vector that has it does
 pub mapped-fails : {A B : Type 0} (f : A → B) (Fits : B → Type 0) (items : List A) (i : ℕ) (v : A)
     → v ≡ get_or items i v → i < length items → (mid new bytes old last whole : List ℕ) (e : EncFault)
     → Writes (Fits (f v)) mid new bytes (Err e) → Writes (FitsVector Fits (map f items)) old last whole (Err e)
@@ -62,13 +63,52 @@ mapped-fails f Fits items i v is lt mid new bytes old last whole e h =
     part-fails (Fits (f v)) (FitsVector Fits (map f items))
     (λ g. subst (λ x. Fits (f x)) (sym is) (mapped-at f Fits items i v lt g.1)) mid new bytes old last whole e h
 
--- where the code of a function has no size, no vector that has it does
-pub mapped-unmeasured : {A B : Type 0} (f : A → B) (Fits : B → Type 0) (items : List A) (i : ℕ) (v : A)
-    → v ≡ get_or items i v → i < length items → (count whole : ℕ) (e : EncFault)
-    → Measures (Fits (f v)) count (Err e) → Measures (FitsVector Fits (map f items)) whole (Err e)
-mapped-unmeasured f Fits items i v is lt count whole Oversize h =
-    λ g. h (subst (λ x. Fits (f x)) (sym is) (mapped-at f Fits items i v lt g.1))
-mapped-unmeasured f Fits items i v is lt count whole Memory h = tt
+-- where an item has no size, no vector that has it does
+pub item-unmeasured : {A : Type 0} (Fits : A → Type 0) (items : List A) (i : ℕ) (v : A) → v ≡ get_or items i v
+    → i < length items → (count whole : ℕ) (e : EncFault)
+    → Measures (Fits v) count (Err e) → Measures (FitsVector Fits items) whole (Err e)
+item-unmeasured Fits items i v is lt count whole Oversize h =
+    λ f. h (subst Fits (sym is) (fits-at Fits items i v lt f.1))
+item-unmeasured Fits items i v is lt count whole Memory h = tt
+
+-- ---- the section of what a function makes of the items
+
+module _ {A B : Type 0} (f : A → B) (w : B → List ℕ) (Fits : B → Type 0) where
+  flat-mapped : (vs : List A) → flat_map w (map f vs) ≡ flat_map (λ v. w (f v)) vs
+  flat-mapped [] = refl
+  flat-mapped (v ∷ vs) = ap (λ (x : List ℕ). w (f v) ++ x) (flat-mapped vs)
+
+  all-mapped : (vs : List A) → AllByRecursion (λ v. Fits (f v)) vs → AllByRecursion Fits (map f vs)
+  all-mapped [] h = tt
+  all-mapped (v ∷ vs) h = (h.0, all-mapped vs h.1)
+
+  all-unmapped : (vs : List A) → AllByRecursion Fits (map f vs) → AllByRecursion (λ v. Fits (f v)) vs
+  all-unmapped [] h = tt
+  all-unmapped (v ∷ vs) h = (h.0, all-unmapped vs h.1)
+
+  vector-mapped : (vs : List A) → vector_bytes w (map f vs) ≡ vector_bytes (λ v. w (f v)) vs
+  vector-mapped vs = rw (flat-mapped vs, length-map vs f) refl
+
+  section-mapped : (id : ℕ) (vs : List A) → section_bytes id w (map f vs) ≡ section_bytes id (λ v. w (f v)) vs
+  section-mapped id [] = refl
+  section-mapped id (v ∷ vs) = ap (λ (x : List ℕ). (id ∷ []) ++ sized_bytes x) (vector-mapped (v ∷ vs))
+
+  fits-mapped : (vs : List A) → FitsSection (λ v. w (f v)) (λ v. Fits (f v)) vs → FitsSection w Fits (map f vs)
+  fits-mapped [] h = tt
+  fits-mapped (v ∷ vs) h =
+      (rw (vector-mapped (v ∷ vs)) h.0, (rw (length-map (v ∷ vs) f) h.1.0, all-mapped (v ∷ vs) h.1.1))
+
+  fits-unmapped : (vs : List A) → FitsSection w Fits (map f vs) → FitsSection (λ v. w (f v)) (λ v. Fits (f v)) vs
+  fits-unmapped [] h = tt
+  fits-unmapped (v ∷ vs) h =
+      (rw (vector-mapped (v ∷ vs)) at h.0, (rw (length-map (v ∷ vs) f) at h.1.0, all-unmapped (v ∷ vs) h.1.1))
+
+  pub mapped-written : (id : ℕ) (vs : List A) (old new : List ℕ) (r : Result (Unit {0}) EncFault)
+      → Writes (FitsSection (λ v. w (f v)) (λ v. Fits (f v)) vs) old new (section_bytes id (λ v. w (f v)) vs) r
+      → Writes (FitsSection w Fits (map f vs)) old new (section_bytes id w (map f vs)) r
+  mapped-written id vs old new (Ok u) h = (fits-mapped vs h.0, rw (section-mapped id vs) h.1)
+  mapped-written id vs old new (Err Oversize) h = λ k. h (fits-unmapped vs k)
+  mapped-written id vs old new (Err Memory) h = tt
 
 -- ---- sections one after the other
 

@@ -5,6 +5,7 @@ pub mod Signed
 pub mod SignedTaking
 pub mod UnsignedTaking
 pub mod Expressions
+pub mod Feeding
 pub mod Laws
 pub mod ReadingEntries
 pub mod Times

@@ -1,5 +1,6 @@
 -- What a source of bytes is to contracts, what it answers, and what a reader of a phrase answers over it.
-use Rattle.std.specs.Prelude.{◌≡◌, ℕ, ◌+◌, ◌≤◌, Bool, IsTrue, List, [], ◌∷◌, Option, Some, None, Result, Ok, Err}
+use Rattle.std.specs.Prelude.{◌≡◌, ℕ, ◌+◌, ◌≤◌, Bool, IsTrue, List, [], ◌∷◌, ◌++◌, length, drop, Option, Some, None}
+use Rattle.std.specs.Prelude.{Result, Ok, Err}
 use Rattle.wc_binary.specs.declared.fault.BinFault.{BinFault}
 use Rattle.wc_binary.specs.declared.fault.BinFault.TheVariants.{Bad, Read, Memory}
 use Rattle.wc_binary.specs.Phrase.{Phrase, Halt, halt}
@@ -42,6 +43,24 @@ NextGives old new (Ok (Some b)) =
     GoesOn old new × (new.place ≡ old.place + 1) × (IsTrue old.known → IsTrue new.known × (old.left ≡ b ∷ new.left))
 NextGives old new (Err (Read at)) = ReadFailed old new at
 NextGives old new (Err e) = ⊥
+
+-- these bytes were taken
+abbrev pub Takes : Input → Input → List ℕ → Type 0
+Takes old new bytes =
+    GoesOn old new × (new.place ≡ old.place + length bytes)
+    × (IsTrue old.known → IsTrue new.known × (old.left ≡ bytes ++ new.left))
+
+-- at most so many bytes were taken, and put behind those before
+abbrev pub TakesBehind : {E : Type 0} → ℕ → Input → Input → List ℕ → List ℕ → Result (Unit {0}) E → Type 0
+TakesBehind most old new before after (Ok u) =
+    (bytes : List ℕ) × (after ≡ before ++ bytes) × (length bytes ≤ most) × Takes old new bytes
+TakesBehind most old new before after (Err e) = GoesOn old new
+
+-- so many bytes were dropped, which is at most so many
+abbrev pub Passes : ℕ → Input → Input → ℕ → Type 0
+Passes most old new count =
+    GoesOn old new × (count ≤ most) × (new.place ≡ old.place + count)
+    × (IsTrue old.known → IsTrue new.known × (count ≤ length old.left) × (new.left ≡ drop count old.left))
 
 -- what was told in place of what the reading `r` gives
 abbrev pub Fails : {A : Type 0} → Input → Input → BinFault → Result (Got A) Halt → Type 0

@@ -7,6 +7,7 @@ mod funcs;
 mod index;
 mod item;
 mod locals;
+mod measured;
 mod sections;
 mod types;
 mod value;

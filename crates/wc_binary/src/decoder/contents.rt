@@ -3,7 +3,7 @@
 ghost use Rattle.wc_binary.specs.Contents.{global as global_phrase, elem_segment, data_segment};
 
 use crate::decoder::integer::u32;
-use crate::decoder::part::Part;
+use crate::decoder::part::{Part, byte_vector};
 use crate::decoder::types::global_type;
 use crate::fault::BinFault;
 use crate::source::Source;
@@ -44,7 +44,7 @@ impl Part for Data {
     fn read<S: Source>(alloc: alloc::Global, source: &mut S) -> Result<Data, BinFault> {
         let memory = u32(source)?;
         let offset = Body::read(alloc, source)?;
-        let bytes = List::read(alloc, source)?;
+        let bytes = byte_vector(alloc, source)?;
         Ok(Data {
             memory,
             offset,

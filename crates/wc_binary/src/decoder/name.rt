@@ -3,11 +3,11 @@
 ghost use Rattle.wc_binary.specs.Values.{name as name_phrase};
 
 use crate::decoder::integer::u32;
-use crate::decoder::part::{Part, times};
+use crate::decoder::part::{Part, bytes};
 use crate::fault::{BinFault, BinWhy};
 use crate::source::Source;
 use std::alloc::Global;
-use wc_ast::{List, Name};
+use wc_ast::Name;
 
 impl Part for Name {
     ghost phrase = { name_phrase };
@@ -15,7 +15,7 @@ impl Part for Name {
     /// A name. That its bytes are UTF-8 is judged once all of them were read.
     fn read<S: Source>(alloc: Global, source: &mut S) -> Result<Name, BinFault> {
         let count = u32(source)?;
-        let bytes: List<u8> = times(alloc, count, source)?;
+        let bytes = bytes(alloc, count, source)?;
         let end = source.place();
         if let Err(error) = simdutf8::compat::from_utf8(bytes.as_slice()) {
             let at = end.saturating_sub((bytes.len() - error.valid_up_to()) as u64);

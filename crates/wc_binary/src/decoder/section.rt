@@ -1,7 +1,8 @@
 //! Sections (Core 1.0, 5.5.2 to 5.5.14).
 
 ghost use Rattle.std.specs.Prelude.{◌≡◌};
-ghost use Rattle.wc_binary.specs.Sections.{skip as skip_phrase, custom as custom_phrase, start as start_phrase, content as content_phrase, kind_of as kind_phrase, id_of, put as put_in};
+ghost use Rattle.wc_binary.specs.Sections.{skip as skip_phrase, custom as custom_phrase, start as start_phrase};
+ghost use Rattle.wc_binary.specs.Sections.{content as content_phrase, kind_of as kind_phrase, id_of, put as put_in};
 ghost use Rattle.wc_binary.specs.Source.{Gives};
 
 use crate::decoder::integer::u32;
@@ -54,7 +55,8 @@ pub fn section_kind(last: u8, byte: u8) -> Result<SectionKind, BinWhy>
 fn skip<S: Source>(count: u64, source: &mut S) -> Result<(), BinFault>
     ensures { Gives (skip_phrase count) (S.input source.old) (S.input source.new) result }
 {
-    for _ in 0..count {
+    let mut left = count;
+    while left > 0 {
         let at = source.place();
         match source.next()? {
             None => {
@@ -63,8 +65,9 @@ fn skip<S: Source>(count: u64, source: &mut S) -> Result<(), BinFault>
                     why: BinWhy::End,
                 })
             }
-            Some(_byte) => {}
+            Some(_byte) => left -= 1,
         }
+        left -= source.pass(left);
     }
     Ok(())
 }

@@ -1,6 +1,7 @@
 //! Types (Core 1.0, 5.3).
 
-ghost use Rattle.wc_binary.specs.Types.{value_type, func_type, flag as flag_phrase, limits as limits_phrase, table_type as table_type_phrase, global_type as global_type_phrase};
+ghost use Rattle.wc_binary.specs.Types.{value_type, func_type, flag as flag_phrase, limits as limits_phrase};
+ghost use Rattle.wc_binary.specs.Types.{table_type as table_type_phrase, global_type as global_type_phrase};
 ghost use Rattle.wc_binary.specs.Values.{times as times_phrase, vector as vector_phrase};
 ghost use Rattle.wc_binary.specs.Source.{Gives};
 

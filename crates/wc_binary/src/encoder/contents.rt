@@ -1,8 +1,11 @@
 //! Globals and segments (Core 1.0, 5.5.9, 5.5.12 and 5.5.14).
 
 ghost use Rattle.wc_binary.specs.WrittenContents.{global_bytes, elem_bytes, data_bytes, FitsGlobal, FitsElem, FitsData};
+ghost use Rattle.wc_binary.specs.Heads.{front_bytes};
+ghost use Rattle.wc_binary.specs.Encoding.{Writes};
 
 use crate::encoder::item::{Item, write_vector};
+use crate::encoder::measured::Measured;
 use crate::encoder::types::write_global_type;
 use crate::encoder::value::{write_length, write_u32};
 use crate::fault::EncFault;
@@ -31,15 +34,28 @@ impl Item for Elem {
     }
 }
 
-impl Item for Data {
+/// Writes what stands before the bytes of a segment, and their count.
+fn write_front(out: &mut Vec<u8>, segment: &Data) -> Result<(), EncFault>
+    ensures { Writes (FitsData segment.now) out.old.items out.new.items (front_bytes segment.now) result }
+{
+    write_u32(out, segment.memory)?;
+    segment.offset.write(out)?;
+    write_length(out, segment.bytes.len())
+}
+
+impl Measured for Data {
     ghost bytes = { data_bytes };
 
     ghost Fits = { FitsData };
 
-    fn write(&self, out: &mut Vec<u8>) -> Result<(), EncFault> {
-        write_u32(out, self.memory)?;
-        self.offset.write(out)?;
-        write_length(out, self.bytes.len())?;
+    fn size(&self, front: &mut Vec<u8>, _scratch: &mut Vec<u8>) -> Result<usize, EncFault> {
+        front.clear();
+        write_front(front, self)?;
+        Ok(front.len().saturating_add(self.bytes.len()))
+    }
+
+    fn write(&self, out: &mut Vec<u8>, _scratch: &mut Vec<u8>) -> Result<(), EncFault> {
+        write_front(out, self)?;
         out.extend_from_slice(self.bytes.as_slice())?;
         Ok(())
     }

@@ -1,7 +1,8 @@
 //! Imports and exports (Core 1.0, 5.5.5 and 5.5.10).
 
 ghost use Rattle.std.specs.Prelude.{◌≡◌, ◌∷◌, []};
-ghost use Rattle.wc_binary.specs.Written.{name_bytes, kind_bytes, desc_bytes, import_bytes, export_bytes, FitsName, FitsDesc, FitsImport, FitsExport};
+ghost use Rattle.wc_binary.specs.Written.{name_bytes, kind_bytes, desc_bytes, import_bytes, export_bytes, FitsName};
+ghost use Rattle.wc_binary.specs.Written.{FitsDesc, FitsImport, FitsExport};
 ghost use Rattle.wc_binary.specs.Encoding.{Writes};
 
 use crate::encoder::item::Item;

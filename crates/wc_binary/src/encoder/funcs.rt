@@ -8,16 +8,18 @@ ghost use Rattle.wc_ast.specs.ValueBytes.{vector_bytes, Fits32, FitsVector};
 ghost use Rattle.wc_binary.specs.Written.{section_bytes, FitsSection};
 ghost use Rattle.wc_binary.specs.WrittenContents.{code_bytes, FitsCode};
 ghost use Rattle.wc_binary.specs.Heads.{head_bytes, FitsHead};
-ghost use Rattle.wc_binary.specs.Encoding.{Writes, Measures};
+ghost use Rattle.wc_binary.specs.Encoding.{Writes};
 
 use crate::encoder::item::{Item, write_content};
+use crate::encoder::measured::{Measured, write_measured};
 use crate::encoder::value::write_length;
 use crate::fault::EncFault;
 use std::alloc::Global;
 use wc_ast::{Body, Func};
 
 fn write_types(out: &mut Vec<u8>, funcs: &[Func]) -> Result<(), EncFault>
-    ensures { Writes (FitsVector Fits32 (map type_of funcs.now)) out.old.items out.new.items (vector_bytes unsigned_bytes (map type_of funcs.now)) result }
+    ensures { Writes (FitsVector Fits32 (map type_of funcs.now)) out.old.items out.new.items
+        (vector_bytes unsigned_bytes (map type_of funcs.now)) result }
 {
     write_length(out, funcs.len())?;
     for func in funcs {
@@ -28,7 +30,8 @@ fn write_types(out: &mut Vec<u8>, funcs: &[Func]) -> Result<(), EncFault>
 
 /// Writes the function section, unless there is no function.
 pub fn write_type_section(alloc: Global, out: &mut Vec<u8>, funcs: &[Func]) -> Result<(), EncFault>
-    ensures { Writes (FitsSection unsigned_bytes Fits32 (map type_of funcs.now)) out.old.items out.new.items (section_bytes 3 unsigned_bytes (map type_of funcs.now)) result }
+    ensures { Writes (FitsSection unsigned_bytes Fits32 (map type_of funcs.now)) out.old.items out.new.items
+        (section_bytes 3 unsigned_bytes (map type_of funcs.now)) result }
 {
     if funcs.is_empty() {
         return Ok(());
@@ -56,57 +59,30 @@ fn write_head(out: &mut Vec<u8>, scratch: &mut Vec<u8>, func: &Func) -> Result<(
     Ok(())
 }
 
-fn write_code(out: &mut Vec<u8>, scratch: &mut Vec<u8>, func: &Func) -> Result<(), EncFault>
-    ensures { Writes (FitsCode (code_of func.now)) out.old.items out.new.items (code_bytes (code_of func.now)) result }
-{
-    write_head(out, scratch, func)?;
-    func.body.write(out)
-}
+impl Measured for Func {
+    ghost use Rattle.wc_binary.specs.Module.{code_of};
+    ghost use Rattle.wc_binary.specs.WrittenContents.{code_bytes, FitsCode};
 
-fn write_codes(alloc: Global, out: &mut Vec<u8>, funcs: &[Func]) -> Result<(), EncFault>
-    ensures { Writes (FitsVector FitsCode (map code_of funcs.now)) out.old.items out.new.items (vector_bytes code_bytes (map code_of funcs.now)) result }
-{
-    let mut scratch = Vec::new(alloc);
-    write_length(out, funcs.len())?;
-    for func in funcs {
-        write_code(out, &mut scratch, func)?;
+    ghost bytes = { λ func. code_bytes (code_of func) };
+
+    ghost Fits = { λ func. FitsCode (code_of func) };
+
+    fn size(&self, front: &mut Vec<u8>, scratch: &mut Vec<u8>) -> Result<usize, EncFault> {
+        front.clear();
+        write_head(front, scratch, self)?;
+        Ok(size_with_body(front.as_slice(), &self.body))
     }
-    Ok(())
-}
 
-/// How many bytes a code takes. What stands before its body is written to `head` for that.
-fn code_size(head: &mut Vec<u8>, scratch: &mut Vec<u8>, func: &Func) -> Result<usize, EncFault>
-    ensures { Measures (FitsCode (code_of func.now)) (length (code_bytes (code_of func.now))) result }
-{
-    head.clear();
-    write_head(head, scratch, func)?;
-    Ok(size_with_body(head.as_slice(), &func.body))
-}
-
-/// How many bytes the count and the codes take, so that these needn't be laid out before their size is written.
-fn codes_size(alloc: Global, funcs: &[Func]) -> Result<usize, EncFault>
-    ensures { Measures (FitsVector FitsCode (map code_of funcs.now)) (length (vector_bytes code_bytes (map code_of funcs.now))) result }
-{
-    let mut head = Vec::new(alloc);
-    let mut scratch = Vec::new(alloc);
-    write_length(&mut head, funcs.len())?;
-    let mut size = head.len();
-    for func in funcs {
-        size = size.saturating_add(code_size(&mut head, &mut scratch, func)?);
+    fn write(&self, out: &mut Vec<u8>, scratch: &mut Vec<u8>) -> Result<(), EncFault> {
+        write_head(out, scratch, self)?;
+        self.body.write(out)
     }
-    Ok(size)
 }
 
 /// Writes the code section, unless there is no function.
 pub fn write_code_section(alloc: Global, out: &mut Vec<u8>, funcs: &[Func]) -> Result<(), EncFault>
-    ensures { Writes (FitsSection code_bytes FitsCode (map code_of funcs.now)) out.old.items out.new.items (section_bytes 10 code_bytes (map code_of funcs.now)) result }
+    ensures { Writes (FitsSection code_bytes FitsCode (map code_of funcs.now)) out.old.items out.new.items
+        (section_bytes 10 code_bytes (map code_of funcs.now)) result }
 {
-    if funcs.is_empty() {
-        return Ok(());
-    }
-    let size = codes_size(alloc, funcs)?;
-    out.push(10)?;
-    write_length(out, size)?;
-    out.reserve(size)?;
-    write_codes(alloc, out, funcs)
+    write_measured(alloc, out, 10, funcs)
 }

@@ -33,7 +33,8 @@ pub fn write_vector<I: Item>(out: &mut Vec<u8>, items: &[I]) -> Result<(), EncFa
 
 /// Writes a section that holds something: its id, the size of its content, and the content.
 pub fn write_content(out: &mut Vec<u8>, id: u8, content: &[u8]) -> Result<(), EncFault>
-    ensures { Writes (Fits32 (length content.now)) out.old.items out.new.items ((id ∷ []) ++ sized_bytes content.now) result }
+    ensures { Writes (Fits32 (length content.now)) out.old.items out.new.items
+        ((id ∷ []) ++ sized_bytes content.now) result }
 {
     out.push(id)?;
     write_length(out, content.len())?;
@@ -48,7 +49,8 @@ pub fn write_section<I: Item>(
     id: u8,
     items: &[I],
 ) -> Result<(), EncFault>
-    ensures { Writes (FitsSection I.bytes I.Fits items.now) out.old.items out.new.items (section_bytes id I.bytes items.now) result }
+    ensures { Writes (FitsSection I.bytes I.Fits items.now) out.old.items out.new.items
+        (section_bytes id I.bytes items.now) result }
 {
     if items.is_empty() {
         return Ok(());

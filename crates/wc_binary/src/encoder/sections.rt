@@ -7,6 +7,7 @@ ghost use Rattle.wc_binary.specs.Encoding.{Writes};
 
 use crate::encoder::funcs::{write_code_section, write_type_section};
 use crate::encoder::item::{write_content, write_section};
+use crate::encoder::measured::write_measured;
 use crate::encoder::types::write_table_section;
 use crate::encoder::value::write_u32;
 use crate::fault::EncFault;
@@ -27,7 +28,8 @@ fn write_start_section(alloc: Global, out: &mut Vec<u8>, start: Option<u32>) -> 
 
 /// Writes the sections of a module that hold something, in the order of their ids.
 pub fn write_sections(alloc: Global, out: &mut Vec<u8>, m: &Module) -> Result<(), EncFault>
-    ensures { Writes (FitsSections (parts_of m.now)) out.old.items out.new.items (sections_bytes (parts_of m.now)) result }
+    ensures { Writes (FitsSections (parts_of m.now)) out.old.items out.new.items
+        (sections_bytes (parts_of m.now)) result }
 {
     write_section(alloc, out, 1, m.types.as_slice())?;
     write_section(alloc, out, 2, m.imports.as_slice())?;
@@ -39,5 +41,5 @@ pub fn write_sections(alloc: Global, out: &mut Vec<u8>, m: &Module) -> Result<()
     write_start_section(alloc, out, m.start)?;
     write_section(alloc, out, 9, m.elems.as_slice())?;
     write_code_section(alloc, out, m.funcs.as_slice())?;
-    write_section(alloc, out, 11, m.datas.as_slice())
+    write_measured(alloc, out, 11, m.datas.as_slice())
 }

@@ -1,7 +1,8 @@
 //! Types (Core 1.0, 5.3).
 
 ghost use Rattle.wc_ast.specs.ValueBytes.{value_type_bytes, vector_bytes, FitsVector};
-ghost use Rattle.wc_binary.specs.Written.{func_type_bytes, limits_bytes, table_type_bytes, global_type_bytes, section_bytes, Anything, FitsFuncType, FitsLimits, FitsSection};
+ghost use Rattle.wc_binary.specs.Written.{func_type_bytes, limits_bytes, table_type_bytes, global_type_bytes};
+ghost use Rattle.wc_binary.specs.Written.{section_bytes, Anything, FitsFuncType, FitsLimits, FitsSection};
 ghost use Rattle.wc_binary.specs.Encoding.{Writes};
 
 use crate::encoder::item::{Item, write_content, write_vector};
@@ -66,7 +67,8 @@ pub fn write_table_type(out: &mut Vec<u8>, limits: &Limits) -> Result<(), EncFau
 }
 
 fn write_table_types(out: &mut Vec<u8>, tables: &[Limits]) -> Result<(), EncFault>
-    ensures { Writes (FitsVector FitsLimits tables.now) out.old.items out.new.items (vector_bytes table_type_bytes tables.now) result }
+    ensures { Writes (FitsVector FitsLimits tables.now) out.old.items out.new.items
+        (vector_bytes table_type_bytes tables.now) result }
 {
     write_length(out, tables.len())?;
     for table in tables {
@@ -81,7 +83,8 @@ pub fn write_table_section(
     out: &mut Vec<u8>,
     tables: &[Limits],
 ) -> Result<(), EncFault>
-    ensures { Writes (FitsSection table_type_bytes FitsLimits tables.now) out.old.items out.new.items (section_bytes 4 table_type_bytes tables.now) result }
+    ensures { Writes (FitsSection table_type_bytes FitsLimits tables.now) out.old.items out.new.items
+        (section_bytes 4 table_type_bytes tables.now) result }
 {
     if tables.is_empty() {
         return Ok(());

@@ -4,6 +4,7 @@ ghost use Rattle.std.specs.Prelude.{◌≤◌, length};
 
 use crate::fault::BinFault;
 use crate::source::Source;
+use std::alloc::AllocError;
 
 /// A slice, and how much of it was taken.
 #[derive(Drop)]
@@ -32,5 +33,18 @@ impl Source for Bytes<'_> {
                 Ok(Some(b))
             }
         }
+    }
+
+    fn take(&mut self, most: usize, out: &mut Vec<u8>) -> Result<(), AllocError> {
+        let count = most.min(self.bytes.len() - self.at);
+        out.extend_from_slice(&self.bytes[self.at..self.at + count])?;
+        self.at += count;
+        Ok(())
+    }
+
+    fn pass(&mut self, most: u64) -> u64 {
+        let count = most.min((self.bytes.len() - self.at) as u64);
+        self.at += count as usize;
+        count
     }
 }

@@ -5,6 +5,7 @@ ghost use Rattle.wc_device.specs.Device.{read_count};
 
 use crate::fault::BinFault;
 use crate::source::Source;
+use std::alloc::AllocError;
 use std::io::Read;
 use wc_device::Device;
 
@@ -48,5 +49,18 @@ impl<R: Read> Source for Feed<'_, R> {
         let b = self.buffer[self.at];
         self.at += 1;
         Ok(Some(b))
+    }
+
+    fn take(&mut self, most: usize, out: &mut Vec<u8>) -> Result<(), AllocError> {
+        let count = most.min(self.end - self.at);
+        out.extend_from_slice(&self.buffer[self.at..self.at + count])?;
+        self.at += count;
+        Ok(())
+    }
+
+    fn pass(&mut self, most: u64) -> u64 {
+        let count = most.min((self.end - self.at) as u64);
+        self.at += count as usize;
+        count
     }
 }

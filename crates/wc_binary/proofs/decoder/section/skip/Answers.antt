@@ -1,12 +1,13 @@
-use Rattle.wc_binary.proofs.Times.{skip-more, skip-end}
+use Rattle.wc_binary.proofs.Times.{skip-end, skip-round}
 use Rattle.wc_binary.proofs.decoder.section.skip.Goals as goal
 
 pub returns-in-None : goal.returns-in-None
 returns-in-None g c =
     let s = rw c.in-None.is at c.in_ok-next.ensures in
-    rw c.place-at.ensures (skip-end _ _ _ _ c.args.count c.loop.counter c.loop-test.true c.loop.invariant s)
+    rw c.place-at.ensures (skip-end _ _ _ _ c.loop-left.left c.loop-left-test.true c.loop-left.invariant s)
 
-pub loop-preserved : goal.loop-preserved
-loop-preserved g c =
+pub loop-left-preserved : goal.loop-left-preserved
+loop-left-preserved g c =
     let s = rw c.in-Some.is at c.in_ok-next.ensures in
-    skip-more _ _ _ _ c.args.count c.loop.counter c.loop-test.true c.loop.invariant c.in-Some._byte s
+    let i = c.loop-left.invariant in
+    skip-round c.loop-left.left _ _ _ _ c.loop-left-test.true i c.in-Some._byte s _ _ c.pass-left.ensures

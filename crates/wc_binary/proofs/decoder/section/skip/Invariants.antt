@@ -1,11 +1,13 @@
-use Rattle.std.proofs.Common.{◌-◌}
 use Rattle.wc_binary.specs.Reading.{read}
 use Rattle.wc_binary.specs.Sections.{skip}
 use Rattle.wc_binary.proofs.Times.{Leads}
 use Rattle.wc_binary.proofs.decoder.section.skip.Given as goal
 
-abbrev pub invariant-loop : goal.invariant-loop
-invariant-loop g l =
+abbrev pub invariant-loop-left : goal.invariant-loop-left
+invariant-loop-left g l =
     let old = g.S.Source.input l.fn.source in
     let now = g.S.Source.input l.source in
-    Leads old now (read (skip (l.count - l.counter)) now.place now.left) (read (skip l.count) old.place old.left)
+    Leads old now (read (skip l.left) now.place now.left) (read (skip l.count) old.place old.left)
+
+abbrev pub decreases-loop-left : goal.decreases-loop-left
+decreases-loop-left g l = l.left

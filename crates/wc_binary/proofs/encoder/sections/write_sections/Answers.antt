@@ -14,7 +14,7 @@ use Rattle.wc_binary.proofs.encoder.sections.write_sections.Goals as goal
 pub returns : goal.returns
 returns c =
     let p = parts_of c.args.m.now in
-    let out = c.write_section-7.new.out.items in
+    let out = c.write_measured.new.out.items in
     let s1 = rw c.as_slice.ensures at c.in_ok-write_section.ensures in
     let s2 = rw c.as_slice-2.ensures at c.in_ok-write_section-2.ensures in
     let s3 = rw c.as_slice-3.ensures at c.in_ok-write_type_section.ensures in
@@ -25,7 +25,7 @@ returns c =
     let s8 = c.in_ok-write_start_section.ensures in
     let s9 = rw c.as_slice-8.ensures at c.in_ok-write_section-6.ensures in
     let s10 = rw c.as_slice-9.ensures at c.in_ok-write_code_section.ensures in
-    let s11 = rw c.as_slice-10.ensures at c.write_section-7.ensures in
+    let s11 = rw c.as_slice-10.ensures at c.write_measured.ensures in
     section-before (FitsSection func_type_bytes FitsFuncType p.types)
     (Fits2 p) c.args.out.now.items c.write_section.new.out.items out (section_bytes 1 func_type_bytes p.types)
     (bytes2 p) _ s1 (

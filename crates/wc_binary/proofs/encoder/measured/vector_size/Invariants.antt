@@ -1,0 +1,10 @@
+use Rattle.std.proofs.Common.{◌≡◌, ◌++◌, ◌-◌, ◌^◌, length, take}
+use Rattle.std.specs.Prelude.{min}
+use Rattle.std.specs.List.{flat_map}
+use Rattle.wc_leb128.specs.Shortest.{unsigned_bytes}
+use Rattle.wc_binary.proofs.encoder.measured.vector_size.Given as goal
+
+abbrev pub invariant-loop-item : goal.invariant-loop-item
+invariant-loop-item g l =
+    let so_far = flat_map g.M.Measured.bytes (take l.item-index l.items) in
+    l.size ≡ min (length (unsigned_bytes (length l.items) ++ so_far)) (2 ^ 64 - 1)
