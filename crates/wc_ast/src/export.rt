@@ -3,8 +3,8 @@
 ghost use Rattle.std.specs.Prelude.{◌≡◌, IfOk};
 
 use crate::name::Name;
-use crate::try_clone::TryClone;
 use std::alloc::AllocError;
+use wc_body::TryClone;
 
 /// Which index space an export's index is of (Core 1.0, 2.5.10).
 #[derive(Clone, Copy, Debug, PartialEq, Eq)]

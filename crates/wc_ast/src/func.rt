@@ -2,11 +2,10 @@
 
 ghost use Rattle.std.specs.Prelude.{◌≡◌, IfOk};
 
-use crate::body::Body;
 use crate::limits::GlobalType;
 use crate::locals::Locals;
-use crate::try_clone::TryClone;
 use std::alloc::AllocError;
+use wc_body::{Body, TryClone};
 
 /// A function (Core 1.0, 2.5.3).
 #[derive(Debug, Drop)]

@@ -3,9 +3,9 @@
 ghost use Rattle.std.specs.Prelude.{◌≡◌, IfOk};
 
 use crate::list::List;
-use crate::try_clone::TryClone;
-use crate::val_type::ValType;
 use std::alloc::AllocError;
+use wc_body::TryClone;
+use wc_ops::ValType;
 
 /// A function type (Core 2.0, 2.3.6), with any number of results.
 #[derive(Debug, Drop)]

@@ -4,8 +4,8 @@ ghost use Rattle.std.specs.Prelude.{◌≡◌, IfOk};
 
 use crate::limits::{GlobalType, Limits};
 use crate::name::Name;
-use crate::try_clone::TryClone;
 use std::alloc::AllocError;
+use wc_body::TryClone;
 
 /// What is imported, and its type (Core 1.0, 2.5.11).
 #[derive(Clone, Copy, Debug, PartialEq, Eq)]

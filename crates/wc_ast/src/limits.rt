@@ -1,6 +1,6 @@
 //! The types of tables, memories and globals.
 
-use crate::val_type::ValType;
+use wc_ops::ValType;
 
 /// The size range of a table, in elements, or of a memory, in pages of 65,536 bytes (Core 1.0, 2.3.4).
 #[derive(Clone, Copy, Debug, PartialEq, Eq)]

@@ -3,9 +3,9 @@
 ghost use Rattle.std.specs.Prelude.{◌≡◌, ◌↔◌, [], ◌∷◌, ◌++◌, length, IsTrue, IfOk, IfErr, OnOk, OnErr};
 ghost use Rattle.std.specs.Prelude.{List as Seq};
 
-use crate::try_clone::TryClone;
 use std::alloc::{AllocError, AllocFailed, Global};
 use std::marker::Model;
+use wc_body::TryClone;
 
 /// A vector of the standard (Core 1.0, 2.1): items in order. A contract sees the items alone.
 #[derive(Debug, Drop)]

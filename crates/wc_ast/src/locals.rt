@@ -2,13 +2,14 @@
 
 ghost use Rattle.std.specs.Prelude.{◌≡◌, ◌↔◌, ◌+◌, ◌<◌, ◌≤◌, [], ◌++◌, length, replicate};
 ghost use Rattle.std.specs.Prelude.{IfOk, OnOk, OnErr, IsErrOf, IsTrue};
-ghost use Rattle.wc_ast.specs.LocalGroups.{written_out, IsGrouped, EndsWith, locals_limit};
+ghost use Rattle.wc_ast.specs.Standard.LocalGroups.{written_out, IsGrouped, locals_limit};
+ghost use Rattle.wc_ast.specs.Kept.Locals.{EndsWith};
 ghost use Rattle.wc_ast.specs.declared.locals.LocalsFault.TheVariants as faults;
 
-use crate::try_clone::TryClone;
-use crate::val_type::ValType;
 use std::alloc::{AllocError, Global};
 use std::marker::Model;
+use wc_body::TryClone;
+use wc_ops::ValType;
 
 /// How many locals a function may declare. It is a limit of this project (Core 1.0, 7.2 allows one).
 pub const LOCALS_LIMIT: u32 = 50_000;
@@ -40,11 +41,12 @@ pub struct Locals {
 
 impl Model for Locals {
     ghost use Rattle.std.specs.Prelude.{List as Seq};
-    ghost use Rattle.wc_ast.specs.declared.val_type.ValType.{ValType};
+    ghost use Rattle.wc_ops.specs.declared.val_type.ValType.{ValType};
 
     ghost Value = { Seq ValType };
 
-    ghost use Rattle.wc_ast.specs.LocalGroups.{written_out, IsLocals};
+    ghost use Rattle.wc_ast.specs.Standard.LocalGroups.{written_out};
+    ghost use Rattle.wc_ast.specs.Kept.Locals.{IsLocals};
 
     ghost view = { λ locals. written_out locals.groups.items };
 
@@ -109,23 +111,26 @@ impl TryClone for Locals {
 }
 
 /// Adds a group, or makes the last one longer where it has the type already.
-fn put(groups: &mut Vec<Group>, count: u32, value_type: ValType) -> Result<(), AllocError>
+fn put(groups: &mut Vec<Group>, count: u32, ty: ValType) -> Result<(), AllocError>
     requires grouped { IsGrouped groups.old.items }
     requires some { 0 < count }
     requires room { length (written_out groups.old.items) + count ≤ locals_limit }
     ensures grouped { IsGrouped groups.new.items }
-    ensures ok { OnOk result (written_out groups.new.items ≡ written_out groups.old.items ++ replicate count value_type) }
+    ensures ok { OnOk result (written_out groups.new.items ≡ written_out groups.old.items ++ replicate count ty) }
     ensures err { OnErr result (groups.new.items ≡ groups.old.items) }
 {
-    if ends_with(groups.as_slice(), value_type) {
+    if ends_with(groups.as_slice(), ty) {
         let last = groups.len() - 1;
         let before = groups[last].count;
         groups[last] = Group {
             count: before + count,
-            value_type,
+            value_type: ty,
         };
     } else {
-        groups.push(Group { count, value_type })?;
+        groups.push(Group {
+            count,
+            value_type: ty,
+        })?;
     }
     Ok(())
 }

@@ -9,8 +9,8 @@ use crate::import::Import;
 use crate::limits::Limits;
 use crate::list::List;
 use crate::segment::{Data, Elem};
-use crate::try_clone::TryClone;
 use std::alloc::{self, AllocError};
+use wc_body::TryClone;
 
 /// A module (Core 1.0, 2.5). Indices count imports first, where a kind can be imported.
 #[derive(Debug, Drop)]

@@ -5,9 +5,9 @@ ghost use Rattle.std.specs.Prelude.{List as Seq};
 ghost use Rattle.std.specs.Str.{IsUtf8};
 ghost use Rattle.std.specs.String.{string_bytes};
 
-use crate::try_clone::TryClone;
 use std::alloc::AllocError;
 use std::marker::Model;
+use wc_body::TryClone;
 
 /// A name (Core 1.0, 2.2.4 and 5.2.4). A contract sees the bytes of its UTF-8 encoding; each name is UTF-8.
 #[derive(Debug, Drop)]

@@ -2,10 +2,9 @@
 
 ghost use Rattle.std.specs.Prelude.{◌≡◌, IfOk};
 
-use crate::body::Body;
 use crate::list::List;
-use crate::try_clone::TryClone;
 use std::alloc::AllocError;
+use wc_body::{Body, TryClone};
 
 /// An element segment (Core 1.0, 2.5.7).
 #[derive(Debug, Drop)]

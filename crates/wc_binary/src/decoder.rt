@@ -1,26 +1,30 @@
 //! Modules from bytes.
 
+mod byte;
 mod code;
 mod contents;
 mod expression;
 mod externals;
+mod from_source;
 mod immediates;
 mod integer;
 mod locals;
 mod module;
 mod name;
-mod part;
 mod section;
 mod signed;
 mod types;
+mod vector;
 
 ghost use Rattle.std.specs.Prelude.{◌≡◌, ◌≤◌, ◌++◌, length, IfSome, IfErr, OnOk, false, ℕ};
 ghost use Rattle.std.specs.Io.KnownBytes.{IsAtEnd};
 ghost use Rattle.wc_device.specs.Device.{device_inner, has_failed, read_count};
-ghost use Rattle.wc_binary.specs.Decoding.{Decodes, DecodesNear, is_read_fault};
+ghost use Rattle.wc_binary.specs.Standard.Decoding.{buffer_size, Decodes, DecodesOnly, DecodesOnlyFault, DecodesNear};
+ghost use Rattle.wc_binary.specs.Standard.Decoding.{is_read_fault};
 
 use crate::fault::BinFault;
-use crate::source::{Bytes, Feed};
+use crate::source::{BUFFER_SIZE, Bytes, Feed};
+pub use byte::ByteTable;
 use module::whole_module;
 use std::alloc::Global;
 use std::io::Read;
@@ -30,29 +34,37 @@ use wc_device::Device;
 /// The module that the bytes spell (Core 1.0, 5.5.15), or else their first fault. A byte slice never fails to be read.
 pub fn decode(alloc: Global, bytes: &[u8]) -> Result<Module, BinFault>
     ensures decodes { Decodes bytes.now result }
+
+    // Bytes that spell a module are answered by it, and those that have a fault by that, unless memory is refused.
+    ensures only { DecodesOnly bytes.now result }
+    ensures only_fault { DecodesOnlyFault bytes.now result }
     ensures read { is_read_fault result ≡ false }
 {
     let mut source = Bytes { bytes, at: 0 };
     whole_module(alloc, &mut source)
 }
 
-/// The same over `front` and then what the reader gives, in whatever pieces, to the reader's end. A refusal is told after
-/// at most 4,096 bytes were read past those behind which the fault shows.
+/// The same over `front` and then what the reader gives, in whatever pieces, to the reader's end. A refusal is told
+/// after at most 4,096 bytes were read past those behind which the fault shows.
 pub fn decode_from<R: Read>(
     alloc: Global,
     front: &[u8],
     device: &mut Device<R>,
 ) -> Result<Module, BinFault>
     requires well { has_failed device.old ≡ false }
-    requires short { length front.now ≤ 4096 }
+    requires short { length front.now ≤ buffer_size }
     requires counted { length front.now ≡ read_count device.old }
     ensures decodes { IfSome (R.remaining (device_inner device.old)) (λ rest. Decodes (front.now ++ rest) result) }
-    ensures near { IfSome (R.remaining (device_inner device.old)) (λ rest. DecodesNear (read_count device.new) (front.now ++ rest) result) }
+    ensures only { IfSome (R.remaining (device_inner device.old)) (λ rest. DecodesOnly (front.now ++ rest) result) }
+    ensures only_fault { IfSome (R.remaining (device_inner device.old))
+        (λ rest. DecodesOnlyFault (front.now ++ rest) result) }
+    ensures near { IfSome (R.remaining (device_inner device.old))
+        (λ rest. DecodesNear (read_count device.new) (front.now ++ rest) result) }
     ensures end { OnOk result (IsAtEnd (R.remaining (device_inner device.new))) }
     ensures read { is_read_fault result ≡ has_failed device.new }
     ensures read_at { IfErr result (λ e. (at : ℕ) → e ≡ BinFault.Read at → at ≡ read_count device.new) }
 {
-    let mut buffer = [0u8; 4096];
+    let mut buffer = [0u8; BUFFER_SIZE];
     buffer[..front.len()].copy_from_slice(front);
     let mut feed = Feed {
         device,

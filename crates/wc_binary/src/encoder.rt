@@ -12,15 +12,15 @@ mod sections;
 mod types;
 mod value;
 
-ghost use Rattle.wc_binary.specs.Encoding.{EncodesModule};
+ghost use Rattle.wc_binary.specs.Standard.Encoding.{EncodesModule};
 
 use crate::fault::EncFault;
 use sections::write_sections;
 use std::alloc::Global;
 use wc_ast::Module;
 
-/// The canonical bytes of a module: no other list of bytes that spells it is as short. `Oversize` where no list of bytes
-/// spells it, because a count or a size would reach `2^32`.
+/// The canonical bytes of a module: no other list of bytes that spells it is as short. `Oversize` where no list of
+/// bytes spells it, because a count or a size would reach `2^32`.
 pub fn encode(alloc: Global, m: &Module) -> Result<Vec<u8>, EncFault>
     ensures { EncodesModule m.now result }
 {

@@ -1,5 +1,7 @@
 //! Why bytes are refused, and why a module is.
 
+ghost use Rattle.std.specs.Prelude.{◌≡◌};
+
 use std::alloc::{AllocError, AllocFailed};
 
 /// Why bytes are no module. Each reason says which byte its place is.
@@ -37,14 +39,14 @@ pub enum BinWhy {
     ZeroByte,
     /// One more block, loop or if would be open than may be. The place is its opcode (5.4.1).
     Depth,
-    /// More than 50,000 locals are declared. The place is the first byte of the count of the group that goes beyond, and
-    /// the fault shows before the type of the group is read (5.5.13).
+    /// More than 50,000 locals are declared. The place is the first byte of the count of the group that goes beyond,
+    /// and the fault shows before the type of the group is read (5.5.13).
     Locals,
     /// A body isn't of its size. The place is the first byte of the size, and the fault shows once the body was read
     /// (5.5.13).
     BodySize,
-    /// There are not as many bodies as functions. The place is the input's length, and the fault shows once all sections
-    /// were read (5.5.15).
+    /// There are not as many bodies as functions. The place is the input's length, and the fault shows once all
+    /// sections were read (5.5.15).
     Counts,
 }
 
@@ -57,6 +59,13 @@ pub enum BinFault {
     Read { at: u64 },
     /// A growth of memory was refused.
     Memory,
+}
+
+/// The first fault of the input, by its place and its reason.
+pub fn bad(at: u64, why: BinWhy) -> BinFault
+    ensures { result ≡ BinFault.Bad at why }
+{
+    BinFault::Bad { at, why }
 }
 
 impl From<AllocError> for BinFault {

@@ -2,9 +2,9 @@
 
 ghost use Rattle.std.specs.Prelude.{◌≡◌, ◌≤◌, ◌⊎◌, ◌↔◌, List, ℕ, length};
 ghost use Rattle.wc_ast.specs.declared.module.Module.{Module};
-ghost use Rattle.wc_binary.specs.Phrase.{Halt};
-ghost use Rattle.wc_binary.specs.Style.{free};
-ghost use Rattle.wc_binary.specs.Module.{Bin, Canon, RisesBy, IsShortestOf, StopB};
+ghost use Rattle.wc_binary.specs.Standard.Phrase.{Halt};
+ghost use Rattle.wc_binary.specs.Standard.Style.{free};
+ghost use Rattle.wc_binary.specs.Standard.Module.{Bin, Canon, RisesBy, IsShortestOf, StopB};
 
 /// Bytes spell at most one module.
 pub fn one_module()

@@ -1,4 +1,5 @@
-//! The binary format (WebAssembly Core Specification 1.0, chapter 5): modules from bytes, and canonical bytes of modules.
+//! The binary format (WebAssembly Core Specification 1.0, chapter 5): modules from bytes, and canonical bytes of
+//! modules.
 #![tactic(auto)]
 
 mod decoder;
@@ -9,6 +10,7 @@ mod parts;
 mod section;
 mod source;
 mod tables;
+mod value_type;
 
 pub use decoder::{decode, decode_from};
 pub use encoder::encode;

@@ -1,7 +1,7 @@
 //! What the sections of a module tell, and the module that is made of it.
 
 ghost use Rattle.std.specs.Prelude.{◌≡◌, [], length, map, IfOk};
-ghost use Rattle.wc_binary.specs.Module.{type_of, code_of, parts_of};
+ghost use Rattle.wc_binary.specs.Standard.Module.{type_of, code_of, parts_of};
 
 use std::alloc::{self, AllocError};
 use wc_ast::{
@@ -32,7 +32,7 @@ pub struct Parts {
 }
 
 impl Parts {
-    ghost use Rattle.wc_binary.specs.Sections.{nothing};
+    ghost use Rattle.wc_binary.specs.Standard.Sections.{nothing};
 
     /// What no section tells.
     pub fn new(alloc: alloc::Global) -> Parts

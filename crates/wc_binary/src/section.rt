@@ -21,6 +21,52 @@ pub enum SectionKind {
     Data,
 }
 
+impl SectionKind {
+    ghost use Rattle.std.specs.Prelude.{◌≡◌};
+    ghost use Rattle.wc_binary.specs.Standard.Sections.{section_id, kind_of};
+
+    /// The section of an id.
+    pub fn of_id(id: u8) -> Option<SectionKind>
+        ensures { result ≡ kind_of id }
+    {
+        match id {
+            0 => Some(SectionKind::Custom),
+            1 => Some(SectionKind::Type),
+            2 => Some(SectionKind::Import),
+            3 => Some(SectionKind::Function),
+            4 => Some(SectionKind::Table),
+            5 => Some(SectionKind::Memory),
+            6 => Some(SectionKind::Global),
+            7 => Some(SectionKind::Export),
+            8 => Some(SectionKind::Start),
+            9 => Some(SectionKind::Element),
+            10 => Some(SectionKind::Code),
+            11 => Some(SectionKind::Data),
+            _ => None,
+        }
+    }
+
+    /// The id of the section.
+    pub fn id(self) -> u8
+        ensures { result ≡ section_id self }
+    {
+        match self {
+            SectionKind::Custom => 0,
+            SectionKind::Type => 1,
+            SectionKind::Import => 2,
+            SectionKind::Function => 3,
+            SectionKind::Table => 4,
+            SectionKind::Memory => 5,
+            SectionKind::Global => 6,
+            SectionKind::Export => 7,
+            SectionKind::Start => 8,
+            SectionKind::Element => 9,
+            SectionKind::Code => 10,
+            SectionKind::Data => 11,
+        }
+    }
+}
+
 /// A section, as it is read.
 #[derive(Drop)]
 pub enum Section {
@@ -43,25 +89,25 @@ pub enum Section {
 
 impl Section {
     ghost use Rattle.std.specs.Prelude.{◌≡◌};
-    ghost use Rattle.wc_binary.specs.Sections.{number};
+    ghost use Rattle.wc_binary.specs.Standard.Sections.{kind_in};
 
-    /// The id of the section.
-    pub fn number(&self) -> u8
-        ensures { result ≡ number self.now }
+    /// Which section it is.
+    pub fn kind(&self) -> SectionKind
+        ensures { result ≡ kind_in self.now }
     {
         match self {
-            Section::Custom => 0,
-            Section::Types(_) => 1,
-            Section::Imports(_) => 2,
-            Section::FuncTypes(_) => 3,
-            Section::Tables(_) => 4,
-            Section::Mems(_) => 5,
-            Section::Globals(_) => 6,
-            Section::Exports(_) => 7,
-            Section::Start(_) => 8,
-            Section::Elems(_) => 9,
-            Section::Codes(_) => 10,
-            Section::Datas(_) => 11,
+            Section::Custom => SectionKind::Custom,
+            Section::Types(_) => SectionKind::Type,
+            Section::Imports(_) => SectionKind::Import,
+            Section::FuncTypes(_) => SectionKind::Function,
+            Section::Tables(_) => SectionKind::Table,
+            Section::Mems(_) => SectionKind::Memory,
+            Section::Globals(_) => SectionKind::Global,
+            Section::Exports(_) => SectionKind::Export,
+            Section::Start(_) => SectionKind::Start,
+            Section::Elems(_) => SectionKind::Element,
+            Section::Codes(_) => SectionKind::Code,
+            Section::Datas(_) => SectionKind::Data,
         }
     }
 }

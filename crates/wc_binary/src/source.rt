@@ -3,17 +3,19 @@
 pub mod bytes;
 pub mod feed;
 
-ghost use Rattle.std.specs.Prelude.{◌≡◌};
-ghost use Rattle.wc_binary.specs.Source.{Input, NextGives, TakesBehind, Passes};
+ghost use Rattle.std.specs.Prelude.{◌≡◌, ◌+◌, ℕ, min, OnOk};
+ghost use Rattle.wc_binary.specs.Reading.Source.{Input, NextGives, TakesBehind, Passes};
 
 use crate::fault::BinFault;
 pub use bytes::Bytes;
-pub use feed::Feed;
+pub use feed::{BUFFER_SIZE, Feed};
 use std::alloc::AllocError;
 
-/// The bytes of an input.
+/// The bytes of an input. `at_hand` tells how many of them can be taken without a read.
 pub trait Source {
     ghost input: { Self → Input };
+
+    ghost at_hand: { Self → ℕ };
 
     /// How many bytes were taken.
     fn place(&self) -> u64
@@ -23,12 +25,14 @@ pub trait Source {
     fn next(&mut self) -> Result<Option<u8>, BinFault>
         ensures { NextGives (input self.old) (input self.new) result };
 
-    /// Takes bytes that are at hand, at most `most`, and puts them at the end of `out`. Nothing is read for that, so
-    /// there may be none. Its only error is want of memory, where none is taken.
+    /// Takes the bytes that are at hand, but at most `most`, and puts them at the end of `out`. Nothing is read for
+    /// that, so there may be none. Its only error is want of memory, where none is taken.
     fn take(&mut self, most: usize, out: &mut Vec<u8>) -> Result<(), AllocError>
-        ensures { TakesBehind most (input self.old) (input self.new) out.old.items out.new.items result };
+        ensures taken { TakesBehind most (input self.old) (input self.new) out.old.items out.new.items result }
+        ensures amount { OnOk result ((input self.new).place ≡ (input self.old).place + min most (at_hand self.old)) };
 
-    /// Drops bytes that are at hand, at most `most`, and answers how many. Nothing is read for that.
+    /// Drops the bytes that are at hand, but at most `most`, and answers how many. Nothing is read for that.
     fn pass(&mut self, most: u64) -> u64
-        ensures { Passes most (input self.old) (input self.new) result };
+        ensures passed { Passes most (input self.old) (input self.new) result }
+        ensures amount { result ≡ min most (at_hand self.old) };
 }

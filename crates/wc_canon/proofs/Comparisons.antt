@@ -10,7 +10,7 @@ use Rattle.wc_canon.specs.declared.comparing.Comparison.{Comparison}
 use Rattle.wc_canon.specs.declared.comparing.Comparison.TheVariants.{Same, Different}
 use Rattle.wc_canon.specs.declared.comparing.Side.{Side}
 use Rattle.wc_canon.specs.declared.comparing.Side.TheVariants.{A, B}
-use Rattle.wc_canon.specs.Input.{Means, HasAnswer, HasFault, IsAccepted}
+use Rattle.wc_canon.specs.Input.{Means, HasAnswer, HasFault, IsAccepted, IsRefused}
 use Rattle.wc_canon.specs.Comparing.{IsSame, IsDifferent, Compares, IsSideRefused}
 use Rattle.wc_canon.proofs.Laws.{same-bytes-same-module, one-meaning, meant-or-fault}
 use Rattle.wc_canon.proofs.Judged.{never-meant, that-fault}
@@ -36,6 +36,15 @@ other-bytes us vs xs ys p q e =
 pub answer-accepted : (x b : List ℕ) → HasAnswer x b → IsAccepted x
 unfolding HasAnswer
 answer-accepted x b a = (a.0, a.1)
+
+-- a side's refusal: the first input's, or that of the second one behind an answer to the first
+pub refused-first : (x y : List ℕ) (e : Side × Refusal) → e.0 ≡ A → IsRefused x e.1 → IsSideRefused x y e.0 e.1
+refused-first x y e h p = let P : Side → Type 0 = λ s. IsSideRefused x y s e.1 in subst P (sym h) p
+
+pub refused-second : (x y b : List ℕ) (e : Side × Refusal) → HasAnswer x b → e.0 ≡ B → IsRefused y e.1
+    → IsSideRefused x y e.0 e.1
+refused-second x y b e a h p =
+    let P : Side → Type 0 = λ s. IsSideRefused x y s e.1 in subst P (sym h) (answer-accepted x b a, p)
 
 module _ (x y : List ℕ) where
   -- a comparison that meets its clauses

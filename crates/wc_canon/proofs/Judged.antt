@@ -6,19 +6,21 @@ use Rattle.wc_binary.specs.declared.fault.BinFault.{BinFault}
 use Rattle.wc_binary.specs.declared.fault.BinFault.TheVariants.{Bad, Read as Unread, Memory as NoMemoryToDecode}
 use Rattle.wc_binary.specs.declared.fault.EncFault.{EncFault}
 use Rattle.wc_binary.specs.declared.fault.EncFault.TheVariants.{Oversize as TooLarge, Memory as NoMemoryToEncode}
-use Rattle.wc_binary.specs.Module.{Bin, Canon}
-use Rattle.wc_binary.specs.Decoding.{Decodes, DecodesNear}
-use Rattle.wc_binary.specs.Encoding.{EncodesModule}
+use Rattle.wc_binary.specs.Standard.Module.{Bin, Canon}
+use Rattle.wc_binary.specs.Standard.Decoding.{Decodes, DecodesNear}
+use Rattle.wc_binary.specs.Standard.Encoding.{EncodesModule}
+use Rattle.wc_binary.proofs.phrases.Freed.{canon-bin}
 use Rattle.wc_check.specs.declared.fault.CheckFault.{CheckFault}
 use Rattle.wc_check.specs.declared.fault.CheckFault.TheVariants.{Broken, Memory as NoMemoryToCheck}
-use Rattle.wc_check.specs.Rules.{IsFirstOf}
-use Rattle.wc_check.specs.Broken.{broken}
+use Rattle.wc_check.specs.Standard.Rules.{IsFirstOf}
+use Rattle.wc_check.specs.Standard.Broken.{broken}
 use Rattle.wc_canon.specs.declared.fault.Refusal.{Refusal}
 use Rattle.wc_canon.specs.declared.fault.Refusal.TheVariants.{Binary, Check, Oversize, Memory as NoMemory}
 use Rattle.wc_canon.specs.declared.fault.RunFault.{RunFault}
-use Rattle.wc_canon.specs.Faults.{decoding_fault, checking_refusal, encoding_refusal, refusing_fault}
-use Rattle.wc_canon.specs.Input.{KeepsRules, BreaksFirst, IsModuleFault, Means, HasAnswer, HasFault, IsRefused}
-use Rattle.wc_canon.specs.Run.{Judges, RefusesNear}
+use Rattle.wc_canon.specs.Inner.Faults.{decoding_fault, checking_refusal, encoding_refusal, refusing_fault}
+use Rattle.wc_canon.specs.Input.{KeepsRules, BreaksFirst, Means, HasAnswer, HasFault, IsRefused}
+use Rattle.wc_canon.specs.Run.{IsAnswerOf, RefusesNear}
+use Rattle.wc_canon.specs.Inner.Steps.{IsModuleFault, Judges}
 use Rattle.wc_canon.proofs.Laws.{has-answer, has-binary-fault, has-broken-rule, answer-canonical}
 use Rattle.wc_canon.proofs.Laws.{meant-or-fault, never-both, one-fault}
 
@@ -91,43 +93,43 @@ module _ {V : Type 0} (bytes : V → List ℕ) where
   judged-fault (Ok v) x j g p = never-both x (bytes v) g j.0 p
   judged-fault (Err f) x j g p = that-fault x f g j.1 p
 
--- ---- known bytes
+-- ---- between a reader and a writer
 
-fault-judged : {V : Type 0} (bytes : V → List ℕ) (e : BinFault) (x : List ℕ) → Decodes x (Err e)
-    → Judges bytes (Err (decoding_fault e)) x
-fault-judged bytes (Bad at why) x p = has-binary-fault x at why p
-fault-judged bytes (Unread at) x p = tt
-fault-judged bytes NoMemoryToDecode x p = tt
+fault-judged : {V : Type 0} (bytes : V → List ℕ) (a : Option (List ℕ)) (e : BinFault) → IfSome a (λ x. Decodes x (Err e))
+    → Judges bytes a (Err (decoding_fault e))
+fault-judged bytes None (Bad at why) p = tt
+fault-judged bytes (Some x) (Bad at why) p = has-binary-fault x at why p
+fault-judged bytes a (Unread at) p = tt
+fault-judged bytes a NoMemoryToDecode p = tt
 
--- they weren't decoded
+-- the bytes weren't decoded
 pub not-decoded : {V : Type 0} (bytes : V → List ℕ) (a : Option (List ℕ)) (e : BinFault) (r : Result V RunFault)
-    → IfSome a (λ x. Decodes x (Err e)) → IsErrAnd r (λ f. f ≡ decoding_fault e) → IfSome a (Judges bytes r)
-not-decoded bytes None e r p h = tt
-not-decoded bytes (Some x) e (Ok v) p h = absurd h
-not-decoded bytes (Some x) e (Err f) p h =
-    let P : RunFault → Type 0 = λ g. Judges bytes (Err g) x in subst P (sym h) (fault-judged bytes e x p)
+    → IfSome a (λ x. Decodes x (Err e)) → IsErrAnd r (λ f. f ≡ decoding_fault e) → Judges bytes a r
+not-decoded bytes a e (Ok v) p h = absurd h
+not-decoded bytes a e (Err f) p h =
+    let P : RunFault → Type 0 = λ g. Judges bytes a (Err g) in subst P (sym h) (fault-judged bytes a e p)
 
-refusal-judged : {V : Type 0} (bytes : V → List ℕ) (x : List ℕ) (m : Module) (f : Refusal) → Bin x m → IsModuleFault m f
-    → Judges bytes (Err (refusing_fault f)) x
-refusal-judged bytes x m (Binary at why) p q = absurd q
-refusal-judged bytes x m (Check item why) p q = has-broken-rule x m item why p q
-refusal-judged bytes x m Oversize p q = absurd (q x p)
-refusal-judged bytes x m NoMemory p q = tt
+refusal-judged : {V : Type 0} (bytes : V → List ℕ) (a : Option (List ℕ)) (m : Module) (f : Refusal)
+    → IfSome a (λ x. Bin x m) → IsModuleFault m f → Judges bytes a (Err (refusing_fault f))
+refusal-judged bytes a m (Binary at why) p q = absurd q
+refusal-judged bytes None m (Check item why) p q = tt
+refusal-judged bytes (Some x) m (Check item why) p q = has-broken-rule x m item why p q
+refusal-judged bytes None m Oversize p q = tt
+refusal-judged bytes (Some x) m Oversize p q = absurd (q x p)
+refusal-judged bytes a m NoMemory p q = tt
 
 -- they were decoded, and the module is refused
 pub not-answered : {V : Type 0} (bytes : V → List ℕ) (a : Option (List ℕ)) (m : Module) (f : Refusal)
     (r : Result V RunFault) → IfSome a (λ x. Bin x m) → IsModuleFault m f → IsErrAnd r (λ g. g ≡ refusing_fault f)
-    → IfSome a (Judges bytes r)
-not-answered bytes None m f r p q h = tt
-not-answered bytes (Some x) m f (Ok v) p q h = absurd h
-not-answered bytes (Some x) m f (Err g) p q h =
-    let P : RunFault → Type 0 = λ g. Judges bytes (Err g) x in
-    subst P (sym h) (refusal-judged bytes x m f p q)
+    → Judges bytes a r
+not-answered bytes a m f (Ok v) p q h = absurd h
+not-answered bytes a m f (Err g) p q h =
+    let P : RunFault → Type 0 = λ g. Judges bytes a (Err g) in subst P (sym h) (refusal-judged bytes a m f p q)
 
--- they were decoded, and the module was encoded
+-- they were decoded, and the module was encoded: where they aren't known, its canonical bytes are their own answer
 pub answered : (a : Option (List ℕ)) (m : Module) (b : List ℕ) → IfSome a (λ x. Bin x m) → KeepsRules m → Canon b m
-    → IfSome a (λ x. HasAnswer x b)
-answered None m b p k q = tt
+    → IsAnswerOf a b
+answered None m b p k q = (b, has-answer b b m (canon-bin b m q) k q)
 answered (Some x) m b p k q = has-answer x b m p k q
 
 -- ---- how far a refused input was read

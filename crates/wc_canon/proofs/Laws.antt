@@ -3,17 +3,17 @@ use Rattle.std.proofs.Common.{◌≡◌, ℕ, ◌↔◌, ◌∙◌, List, [], �
 use Rattle.wc_ast.specs.declared.module.Module.{Module}
 use Rattle.wc_check.specs.declared.fault.Item.{Item}
 use Rattle.wc_check.specs.declared.fault.CheckWhy.{CheckWhy}
-use Rattle.wc_check.specs.Rules.{first}
-use Rattle.wc_check.specs.Broken.{broken}
+use Rattle.wc_check.specs.Standard.Rules.{first}
+use Rattle.wc_check.specs.Standard.Broken.{broken}
 use Rattle.wc_binary.specs.declared.fault.BinWhy.{BinWhy}
-use Rattle.wc_binary.specs.Phrase.{Halt, halt}
-use Rattle.wc_binary.specs.Module.{Bin, Canon, StopB, FirstFault}
-use Rattle.wc_binary.specs.Style.{free}
-use Rattle.wc_binary.proofs.Order.{bin-rises}
-use Rattle.wc_binary.proofs.OneModule.{rises-one, rises-or-stop, one-fault as one-stop}
-use Rattle.wc_binary.proofs.Total.{bin-judged}
-use Rattle.wc_binary.proofs.Freed.{canon-bin}
-use Rattle.wc_binary.proofs.Modules.{one-canonical, bin-canon}
+use Rattle.wc_binary.specs.Standard.Phrase.{Halt, halt}
+use Rattle.wc_binary.specs.Standard.Module.{Bin, Canon, StopB, FirstFault}
+use Rattle.wc_binary.specs.Standard.Style.{free}
+use Rattle.wc_binary.proofs.sections.Order.{bin-rises}
+use Rattle.wc_binary.proofs.sections.OneModule.{rises-one, rises-or-stop, one-fault as one-stop}
+use Rattle.wc_binary.proofs.sections.Total.{bin-judged}
+use Rattle.wc_binary.proofs.phrases.Freed.{canon-bin}
+use Rattle.wc_binary.proofs.spelling.Modules.{one-canonical, bin-canon}
 use Rattle.wc_canon.specs.declared.fault.Refusal.{Refusal}
 use Rattle.wc_canon.specs.declared.fault.Refusal.TheVariants.{Binary, Check, Oversize, Memory}
 use Rattle.wc_canon.specs.Input.{KeepsRules, BreaksFirst, Means, IsAccepted, HasAnswer, HasFault}

@@ -1,5 +1,3 @@
 pub mod Laws
 pub mod Judged
 pub mod Comparisons
-pub mod Writing
-pub mod Acted

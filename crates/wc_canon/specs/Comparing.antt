@@ -16,6 +16,7 @@ IsSame x y = (m : Module) × Means x m × Means y m
 abbrev pub IsDifferent : List ℕ → List ℕ → Type 0
 IsDifferent x y = (m n : Module) × Means x m × Means y n × (m ≢ n)
 
+-- what each word of a comparison says
 abbrev pub Compares : List ℕ → List ℕ → Comparison → Type 0
 Compares x y Same = IsSame x y
 Compares x y Different = IsDifferent x y

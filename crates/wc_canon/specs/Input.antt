@@ -1,11 +1,11 @@
 -- Which module an input denotes, the answer to an input that is accepted, and the fault of one that isn't.
-use Rattle.std.specs.Prelude.{◌≡◌, ◌⊎◌, ℕ, List, [], Some, ⊤}
+use Rattle.std.specs.Prelude.{◌≡◌, ◌⊎◌, ℕ, List, [], Some}
 use Rattle.wc_ast.specs.declared.module.Module.{Module}
 use Rattle.wc_check.specs.declared.fault.Item.{Item}
 use Rattle.wc_check.specs.declared.fault.CheckWhy.{CheckWhy}
-use Rattle.wc_check.specs.Rules.{first}
-use Rattle.wc_check.specs.Broken.{broken}
-use Rattle.wc_binary.specs.Module.{Bin, Canon, FirstFault}
+use Rattle.wc_check.specs.Standard.Rules.{first}
+use Rattle.wc_check.specs.Standard.Broken.{broken}
+use Rattle.wc_binary.specs.Standard.Module.{Bin, Canon, FirstFault}
 use Rattle.wc_canon.specs.declared.fault.Refusal.{Refusal}
 use Rattle.wc_canon.specs.declared.fault.Refusal.TheVariants.{Binary, Check, Oversize, Memory}
 
@@ -16,13 +16,6 @@ KeepsRules m = broken m ≡ []
 -- the first item of the module that breaks a rule, and the first rule that it breaks
 unfoldable pub BreaksFirst : Module → Item → CheckWhy → Type 0
 BreaksFirst m item why = first (broken m) ≡ Some (item, why)
-
--- a module that is refused is refused so: by the first rule that it breaks, or where no bytes spell it
-abbrev pub IsModuleFault : Module → Refusal → Type 0
-IsModuleFault m (Binary at why) = ⊥
-IsModuleFault m (Check item why) = BreaksFirst m item why
-IsModuleFault m Oversize = (b : List ℕ) → Bin b m → ⊥
-IsModuleFault m Memory = ⊤
 
 -- the input denotes the module (Core 1.0, 5.5.15), which breaks no rule, and some bytes spell it canonically
 unfoldable pub Means : List ℕ → Module → Type 0

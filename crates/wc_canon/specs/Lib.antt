@@ -1,9 +1,5 @@
 pub mod Input
-pub mod Faults
-pub mod Run
 pub mod Comparing
+pub mod Run
 pub mod Text
-pub mod Program
-pub mod Asked
-pub mod Failing
-pub mod Status
+pub mod Inner

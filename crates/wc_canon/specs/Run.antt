@@ -1,8 +1,9 @@
 -- What a run answers, and what went out: `old` and `new` are the bytes that the writer holds, where they are known.
-use Rattle.std.specs.Prelude.{◌≡◌, ℕ, ◌+◌, ◌≤◌, List, length, take, Bool, true, false, Option, Result, Ok, Err, ⊤}
+use Rattle.std.specs.Prelude.{◌≡◌, ℕ, ◌+◌, ◌≤◌, List, length, take, Bool, true, false, Option, Some, None}
+use Rattle.std.specs.Prelude.{IfSome, Result, Ok, Err, ⊤}
 use Rattle.std.specs.Io.KnownBytes.{Keeps, Appends}
-use Rattle.wc_binary.specs.Phrase.{halt}
-use Rattle.wc_binary.specs.Module.{StopB}
+use Rattle.wc_binary.specs.Standard.Phrase.{halt}
+use Rattle.wc_binary.specs.Standard.Module.{StopB}
 use Rattle.wc_canon.specs.declared.fault.Refusal.TheVariants.{Binary, Check, Oversize, Memory as NoMemory}
 use Rattle.wc_canon.specs.declared.fault.RunFault.{RunFault}
 use Rattle.wc_canon.specs.declared.fault.RunFault.TheVariants.{Refused, Read, Write, Memory}
@@ -18,21 +19,19 @@ abbrev pub is_write_fault : {V : Type 0} → Result V RunFault → Bool
 is_write_fault (Err (Write written)) = true
 is_write_fault _ = false
 
--- before anything is written: the answer to the input x, or its fault
-abbrev pub Judges : {V : Type 0} → (V → List ℕ) → Result V RunFault → List ℕ → Type 0
-Judges bytes (Ok v) x = HasAnswer x (bytes v)
-Judges bytes (Err (Refused f)) x = HasFault x f
-Judges bytes (Err (Read at)) x = ⊤
-Judges bytes (Err (Write written)) x = ⊤
-Judges bytes (Err Memory) x = ⊤
+-- b is the answer to the input, where its bytes are known, and else to some input
+abbrev pub IsAnswerOf : Option (List ℕ) → List ℕ → Type 0
+IsAnswerOf None b = (x : List ℕ) × HasAnswer x b
+IsAnswerOf (Some x) b = HasAnswer x b
 
--- for the input x, the whole answer went out, or its first bytes; or f is its fault
-abbrev pub Answers : Option (List ℕ) → Option (List ℕ) → Result ℕ RunFault → List ℕ → Type 0
-Answers old new (Ok n) x = (b : List ℕ) × HasAnswer x b × (n ≡ length b) × Appends old new b
-Answers old new (Err (Refused f)) x = HasFault x f
-Answers old new (Err (Read at)) x = ⊤
-Answers old new (Err (Write n)) x = (b : List ℕ) × HasAnswer x b × (n ≤ length b) × Appends old new (take n b)
-Answers old new (Err Memory) x = ⊤
+-- the whole answer to the input went out, n bytes; or f is its fault, where its bytes are known; or exactly the first n
+-- bytes of the answer went out
+abbrev pub Answers : Option (List ℕ) → Option (List ℕ) → Option (List ℕ) → Result ℕ RunFault → Type 0
+Answers input old new (Ok n) = (b : List ℕ) × IsAnswerOf input b × (n ≡ length b) × Appends old new b
+Answers input old new (Err (Refused f)) = IfSome input (λ x. HasFault x f)
+Answers input old new (Err (Read at)) = ⊤
+Answers input old new (Err (Write n)) = (b : List ℕ) × IsAnswerOf input b × (n ≤ length b) × Appends old new (take n b)
+Answers input old new (Err Memory) = ⊤
 
 -- nothing went out without an answer
 abbrev pub IsQuiet : Option (List ℕ) → Option (List ℕ) → Result ℕ RunFault → Type 0

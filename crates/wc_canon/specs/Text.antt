@@ -4,7 +4,7 @@ use Rattle.std.specs.Fmt.{decimal}
 use Rattle.wc_binary.specs.declared.fault.BinWhy.{BinWhy}
 use Rattle.wc_binary.specs.declared.fault.BinWhy.TheVariants as bin
 use Rattle.wc_check.specs.declared.fault.Item.{Item}
-use Rattle.wc_check.specs.declared.fault.Item.TheVariants.{FuncType, Import, Func, Instr, Table, Memory, Global}
+use Rattle.wc_check.specs.declared.fault.Item.TheVariants.{Import, Func, Instr, Table, Memory, Global}
 use Rattle.wc_check.specs.declared.fault.Item.TheVariants.{Export, Start, Elem, Data}
 use Rattle.wc_check.specs.declared.fault.CheckWhy.{CheckWhy}
 use Rattle.wc_check.specs.declared.fault.CheckWhy.TheVariants as rule
@@ -50,7 +50,6 @@ numbered word n text = word ++ (decimal n ++ (codes ": " ++ text))
 
 -- an item that breaks a rule, and the text of the rule
 abbrev pub broken_text : Item → List ℕ → List ℕ
-broken_text (FuncType n) text = numbered (codes "type ") n text
 broken_text (Import n) text = numbered (codes "import ") n text
 broken_text (Func n) text = numbered (codes "func ") n text
 broken_text (Instr func number) text = codes "func " ++ (decimal func ++ numbered (codes " instruction ") number text)

@@ -8,8 +8,12 @@ use crate::spelled::spelled_module;
 use std::alloc::Global;
 use wc_check::check;
 
-/// Whether the input is accepted. Its canonical bytes aren't made: what bytes spell is never too large for them.
-pub(crate) fn accept(alloc: Global, input: &[u8]) -> Result<(), Refusal>
+/// Ok exactly where `normalise` has an answer, without making it: what bytes spell is never too large for its canonical
+/// bytes.
+///
+/// # Errors
+/// The first fault of the input, as `normalise` tells it. `Refusal::Memory` only where a growth of memory was refused.
+pub fn accept(alloc: Global, input: &[u8]) -> Result<(), Refusal>
     ensures ok { OnOk result (IsAccepted input.now) }
     ensures err { IfErr result (IsRefused input.now) }
 {

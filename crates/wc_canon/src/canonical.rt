@@ -1,8 +1,9 @@
 //! The canonical bytes of a module that breaks no rule.
 
 ghost use Rattle.std.specs.Prelude.{IfOk, IfErr};
-ghost use Rattle.wc_binary.specs.Module.{Canon, IsShortestOf};
-ghost use Rattle.wc_canon.specs.Input.{KeepsRules, IsModuleFault};
+ghost use Rattle.wc_binary.specs.Standard.Module.{Canon, IsShortestOf};
+ghost use Rattle.wc_canon.specs.Input.{KeepsRules};
+ghost use Rattle.wc_canon.specs.Inner.Steps.{IsModuleFault};
 
 use crate::fault::Refusal;
 use std::alloc::Global;

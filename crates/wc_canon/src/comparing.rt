@@ -3,11 +3,11 @@
 ghost use Rattle.std.specs.Prelude.{◌≡◌, ◌≢◌, ◌⊎◌, IfOk, IfErr, MatchResult};
 ghost use Rattle.wc_ast.specs.declared.module.Module.{Module};
 ghost use Rattle.wc_canon.specs.declared.fault.Refusal.TheVariants as refusals;
-ghost use Rattle.wc_canon.specs.Input.{Means, HasFault};
+ghost use Rattle.wc_canon.specs.Input.{Means, HasAnswer, HasFault, IsRefused};
 ghost use Rattle.wc_canon.specs.Comparing.{Compares, IsSideRefused};
 
-use crate::answering::normalise;
 use crate::fault::Refusal;
+use crate::normalising::normalise;
 use std::alloc::Global;
 
 /// What a comparison tells.
@@ -28,19 +28,25 @@ pub enum Side {
     B,
 }
 
+/// The answer to the input that is the side, or its refusal with that side.
+fn judge(alloc: Global, side: Side, input: &[u8]) -> Result<Vec<u8>, (Side, Refusal)>
+    ensures ok { IfOk result (λ b. HasAnswer input.now b.items) }
+    ensures err { IfErr result (λ e. IsRefused input.now e.1) }
+    ensures side { IfErr result (λ e. e.0 ≡ side) }
+{
+    match normalise(alloc, input) {
+        Ok(bytes) => Ok(bytes),
+        Err(refusal) => Err((side, refusal)),
+    }
+}
+
 /// Both inputs are judged, the first one first, and their canonical bytes are compared.
 fn compare_answers(alloc: Global, a: &[u8], b: &[u8]) -> Result<Comparison, (Side, Refusal)>
     ensures ok { IfOk result (Compares a.now b.now) }
     ensures err { IfErr result (λ e. IsSideRefused a.now b.now e.0 e.1) }
 {
-    let first = match normalise(alloc, a) {
-        Ok(bytes) => bytes,
-        Err(refusal) => return Err((Side::A, refusal)),
-    };
-    let second = match normalise(alloc, b) {
-        Ok(bytes) => bytes,
-        Err(refusal) => return Err((Side::B, refusal)),
-    };
+    let first = judge(alloc, Side::A, a)?;
+    let second = judge(alloc, Side::B, b)?;
     if first.as_slice() == second.as_slice() {
         Ok(Comparison::Same)
     } else {

@@ -39,7 +39,7 @@ pub enum RunFault {
 
 impl From<CheckFault> for Refusal {
     ghost use Rattle.std.specs.Prelude.{◌≡◌};
-    ghost use Rattle.wc_canon.specs.Faults.{checking_refusal};
+    ghost use Rattle.wc_canon.specs.Inner.Faults.{checking_refusal};
 
     ghost from_gives = { λ fault refusal. refusal ≡ checking_refusal fault };
 
@@ -53,7 +53,7 @@ impl From<CheckFault> for Refusal {
 
 impl From<EncFault> for Refusal {
     ghost use Rattle.std.specs.Prelude.{◌≡◌};
-    ghost use Rattle.wc_canon.specs.Faults.{encoding_refusal};
+    ghost use Rattle.wc_canon.specs.Inner.Faults.{encoding_refusal};
 
     ghost from_gives = { λ fault refusal. refusal ≡ encoding_refusal fault };
 
@@ -67,7 +67,7 @@ impl From<EncFault> for Refusal {
 
 impl From<Refusal> for RunFault {
     ghost use Rattle.std.specs.Prelude.{◌≡◌};
-    ghost use Rattle.wc_canon.specs.Faults.{refusing_fault};
+    ghost use Rattle.wc_canon.specs.Inner.Faults.{refusing_fault};
 
     ghost from_gives = { λ refusal run_fault. run_fault ≡ refusing_fault refusal };
 
@@ -81,7 +81,7 @@ impl From<Refusal> for RunFault {
 
 impl From<BinFault> for RunFault {
     ghost use Rattle.std.specs.Prelude.{◌≡◌};
-    ghost use Rattle.wc_canon.specs.Faults.{decoding_fault};
+    ghost use Rattle.wc_canon.specs.Inner.Faults.{decoding_fault};
 
     ghost from_gives = { λ fault run_fault. run_fault ≡ decoding_fault fault };
 

@@ -2,7 +2,7 @@
 
 ghost use Rattle.std.specs.Prelude.{◌≡◌, ◌⊎◌, ◌↔◌, List, ℕ};
 ghost use Rattle.wc_ast.specs.declared.module.Module.{Module};
-ghost use Rattle.wc_binary.specs.Module.{Bin};
+ghost use Rattle.wc_binary.specs.Standard.Module.{Bin};
 ghost use Rattle.wc_canon.specs.declared.fault.Refusal.{Refusal};
 ghost use Rattle.wc_canon.specs.Input.{Means, HasAnswer, HasFault};
 

@@ -54,7 +54,6 @@ fn render_broken(alloc: Global, item: Item, rule: &str) -> Result<String, AllocE
     ensures { IfOk result (λ text. string_bytes text ≡ broken_text item rule.now) }
 {
     match item {
-        Item::FuncType(n) => format!(in alloc; "type {n}: {rule}"),
         Item::Import(n) => format!(in alloc; "import {n}: {rule}"),
         Item::Func(n) => format!(in alloc; "func {n}: {rule}"),
         Item::Instr { func, number } => {

@@ -3,9 +3,10 @@
 ghost use Rattle.std.specs.Prelude.{ℕ, ◌≡◌, ◌≤◌, length, take, IfOk, IfErr, IfSome, IsErrOf, OnOk, false};
 ghost use Rattle.std.specs.Io.KnownBytes.{Appends};
 ghost use Rattle.wc_device.specs.Device.{device_inner, has_failed, read_count};
-ghost use Rattle.wc_binary.specs.Decoding.{Decodes, DecodesNear, is_read_fault as is_unread};
+ghost use Rattle.wc_binary.specs.Standard.Decoding.{Decodes, DecodesNear, is_read_fault as is_unread};
 ghost use Rattle.wc_canon.specs.declared.fault.Refusal.TheVariants as refusals;
-ghost use Rattle.wc_canon.specs.Run.{Judges, Answers, RefusesNear, IsQuiet, is_read_fault, is_write_fault};
+ghost use Rattle.wc_canon.specs.Run.{Answers, RefusesNear, IsQuiet, is_read_fault, is_write_fault};
+ghost use Rattle.wc_canon.specs.Inner.Steps.{Judges};
 
 use crate::canonical::canonical_bytes;
 use crate::fault::RunFault;
@@ -51,7 +52,7 @@ fn read_module<R: Read>(alloc: Global, r: &mut Device<R>) -> Result<Module, BinF
 fn answer<R: Read>(alloc: Global, r: &mut Device<R>) -> Result<Vec<u8>, RunFault>
     requires well { has_failed r.old ≡ false }
     requires unread { read_count r.old ≡ 0 }
-    ensures judges { IfSome (R.remaining (device_inner r.old)) (Judges (λ v. v.items) result) }
+    ensures judges { Judges (λ v. v.items) (R.remaining (device_inner r.old)) result }
     ensures near { IfErr result (λ e. IfSome (R.remaining (device_inner r.old)) (RefusesNear (read_count r.new) e)) }
     ensures read { is_read_fault result ≡ has_failed r.new }
     ensures read_at { IfErr result (λ e. (at : ℕ) → e ≡ RunFault.Read at → at ≡ read_count r.new) }
@@ -63,7 +64,7 @@ fn answer<R: Read>(alloc: Global, r: &mut Device<R>) -> Result<Vec<u8>, RunFault
 }
 
 /// Writes all the bytes, and flushes once.
-pub(crate) fn write_all<W: Write>(w: &mut Device<W>, bytes: &[u8]) -> Result<u64, RunFault>
+fn send<W: Write>(w: &mut Device<W>, bytes: &[u8]) -> Result<u64, RunFault>
     requires { has_failed w.old ≡ false }
     ensures ok { IfOk result (λ n. n ≡ length bytes.now) }
     ensures appends { OnOk result
@@ -72,24 +73,10 @@ pub(crate) fn write_all<W: Write>(w: &mut Device<W>, bytes: &[u8]) -> Result<u64
         × Appends (W.contents (device_inner w.old)) (W.contents (device_inner w.new)) (take n bytes.now)) }
     ensures write { is_write_fault result ≡ has_failed w.new }
 {
-    let mut sent = 0;
-    while sent < bytes.len() {
-        match w.write(&bytes[sent..]) {
-            Ok(0) => return Err(RunFault::Write {
-                written: sent as u64,
-            }),
-            Ok(n) => sent += n,
-            Err(_) => return Err(RunFault::Write {
-                written: sent as u64,
-            }),
-        }
+    match w.send(bytes) {
+        Ok(()) => Ok(bytes.len() as u64),
+        Err(written) => Err(RunFault::Write { written }),
     }
-    if w.flush().is_err() {
-        return Err(RunFault::Write {
-            written: sent as u64,
-        });
-    }
-    Ok(sent as u64)
 }
 
 /// Reads an input, writes the answer to it and nothing else, flushes once, and answers how many bytes it wrote.
@@ -117,12 +104,12 @@ pub fn run<R: Read, W: Write>(
     ensures memory { ¬ (IsErrOf result (RunFault.Refused refusals.Memory)) }
 
     ensures quiet { IsQuiet (W.contents (device_inner w.old)) (W.contents (device_inner w.new)) result }
-    ensures answers { IfSome (R.remaining (device_inner r.old))
-        (Answers (W.contents (device_inner w.old)) (W.contents (device_inner w.new)) result) }
+    ensures answers { Answers (R.remaining (device_inner r.old)) (W.contents (device_inner w.old))
+        (W.contents (device_inner w.new)) result }
     ensures near { IfErr result (λ e. IfSome (R.remaining (device_inner r.old)) (RefusesNear (read_count r.new) e)) }
 {
     let bytes = match job {
         Job::Binary => answer(alloc, r)?,
     };
-    write_all(w, &bytes)
+    send(w, &bytes)
 }

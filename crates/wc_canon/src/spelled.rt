@@ -1,7 +1,7 @@
 //! The module that an input spells.
 
 ghost use Rattle.std.specs.Prelude.{IfOk, IfErr};
-ghost use Rattle.wc_binary.specs.Module.{Bin};
+ghost use Rattle.wc_binary.specs.Standard.Module.{Bin};
 ghost use Rattle.wc_canon.specs.Input.{IsRefused};
 
 use crate::fault::Refusal;

@@ -1,9 +1,7 @@
 //! Worked inputs, readers and writers that fail, and the texts.
 mod accepted;
-mod acting;
 mod comparing;
 mod devices;
-mod lines;
 mod refused;
 mod rendering;
 
@@ -83,7 +81,9 @@ fn buffers_are_joined(rt: HostRuntime) -> Result<(), Fail> {
     let refused = long_input(rt.alloc(), b"\x01\x01\0\x01\x01\0")?;
     for piece in [1, 4095, 4096, 4097] {
         for (input, text) in [
+            // accepted behind the buffer
             (&accepted, "wrote 8"),
+            // refused behind the buffer
             (&refused, "byte 5016: section out of order"),
         ] {
             let mut r = Device::new(Reader::new(input, piece, 0));
@@ -98,10 +98,14 @@ fn buffers_are_joined(rt: HostRuntime) -> Result<(), Fail> {
 #[test]
 fn a_failed_read_is_told(rt: HostRuntime) -> Result<(), Fail> {
     for (fails_at, text) in [
+        // the first read
         (1, "read 0"),
+        // the second and the third
         (2, "read 5"),
         (3, "read 10"),
+        // the one that would tell the end
         (5, "read 18"),
+        // one that never comes
         (6, "wrote 16"),
     ] {
         let mut r = Device::new(Reader::new(PADDED, 5, fails_at));
@@ -117,9 +121,13 @@ fn a_failed_read_is_told(rt: HostRuntime) -> Result<(), Fail> {
 fn a_failed_write_is_told(rt: HostRuntime) -> Result<(), Fail> {
     // bytes a call, the call that fails, whether flush does; what is told, the bytes that went out, the flushes
     for (piece, fails_at, flush_fails, text, taken, flushes) in [
+        // third write fails
         (5, 3, false, "written 10", 10, 0),
+        // byte by byte
         (1, 0, false, "wrote 16", 16, 1),
+        // flush fails
         (16, 0, true, "written 16", 16, 1),
+        // nothing is taken
         (0, 0, false, "written 0", 0, 0),
     ] {
         let mut r = Device::new(Reader::new(PADDED, 7, 0));

@@ -1,5 +1,2 @@
-pub mod VerdictLemmas
-pub mod SpaceLemmas
-pub mod BodyLemmas
-mod EnoughLemmas
-pub mod NameLemmas
+pub mod Lists
+pub mod Walks

@@ -1,10 +1,2 @@
-pub mod Rules
-pub mod Spaces
-pub mod SizeRules
-pub mod InstructionRules
+pub mod Standard
 pub mod Judging
-pub mod Enough
-pub mod ConstantRules
-pub mod ExportRules
-pub mod Broken
-pub mod Names

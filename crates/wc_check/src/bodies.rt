@@ -1,11 +1,11 @@
 //! The bodies of functions.
 
 ghost use Rattle.std.specs.Prelude.{◌≡◌, ◌+◌, ◌<◌, ◌≤◌, ◌^◌, ◌-◌, ◌↔◌, true, length};
-ghost use Rattle.wc_ast.specs.Entries.{mark};
-ghost use Rattle.wc_check.specs.Enough.{HasRoom, IsEnough, settable_count};
-ghost use Rattle.wc_check.specs.InstructionRules.{broken_in_body};
-ghost use Rattle.wc_check.specs.Judging.{judged_mark};
-ghost use Rattle.wc_check.specs.Rules.{verdict};
+ghost use Rattle.wc_body.specs.Standard.Entries.{mark};
+ghost use Rattle.wc_check.specs.Judging.Enough.{HasRoom, IsEnough, settable_count};
+ghost use Rattle.wc_check.specs.Standard.InstructionRules.{broken_in_body};
+ghost use Rattle.wc_check.specs.Judging.Marks.{judged_mark};
+ghost use Rattle.wc_check.specs.Judging.Verdicts.{verdict};
 
 use crate::context::Context;
 use crate::fault::{CheckFault, CheckWhy, Item, judge};

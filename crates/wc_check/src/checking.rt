@@ -1,9 +1,10 @@
 //! The check of a module.
 
 ghost use Rattle.std.specs.Prelude.{◌≡◌, [], OnOk, IfErr};
-ghost use Rattle.wc_check.specs.Rules.{IsFirstOf, verdict};
-ghost use Rattle.wc_check.specs.Spaces.{module_context};
-ghost use Rattle.wc_check.specs.Broken.{broken, broken_in_spaces, broken_at_start};
+ghost use Rattle.wc_check.specs.Standard.Rules.{IsFirstOf};
+ghost use Rattle.wc_check.specs.Judging.Verdicts.{verdict};
+ghost use Rattle.wc_check.specs.Standard.Spaces.{module_context};
+ghost use Rattle.wc_check.specs.Standard.Broken.{broken, broken_in_spaces, broken_at_start};
 
 use crate::context::{Context, context_of};
 use crate::definitions::{check_funcs, check_globals};

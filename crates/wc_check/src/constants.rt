@@ -1,7 +1,8 @@
 //! Constant expressions.
 
 ghost use Rattle.std.specs.Prelude.{◌≡◌};
-ghost use Rattle.wc_check.specs.ConstantRules.{constant_value, read_value, constant_type, is_type, is_constant};
+ghost use Rattle.wc_check.specs.Standard.ConstantRules.{constant_value, read_value, constant_type, is_type};
+ghost use Rattle.wc_check.specs.Standard.ConstantRules.{is_constant};
 
 use wc_ast::{Body, Entry, GlobalType, IndexOp, Instr, ValType};
 

@@ -1,7 +1,8 @@
 //! What the rules look up.
 
 ghost use Rattle.std.specs.Prelude.{◌≡◌, ◌+◌, ◌++◌, ◌≤◌, length, map, IfOk, OnOk};
-ghost use Rattle.wc_check.specs.Spaces.{module_context, IsImported};
+ghost use Rattle.wc_check.specs.Standard.Spaces.{module_context};
+ghost use Rattle.wc_check.specs.Judging.Imports.{IsImported};
 
 use std::alloc::{self, AllocError};
 use wc_ast::{Desc, Func, Global, GlobalType, Import, Limits, List, Module};

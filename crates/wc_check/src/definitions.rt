@@ -1,10 +1,11 @@
 //! The functions and globals that a module defines.
 
 ghost use Rattle.std.specs.Prelude.{◌≡◌, ◌+◌, length};
-ghost use Rattle.wc_check.specs.Rules.{each, verdict};
-ghost use Rattle.wc_check.specs.Spaces.{module_context, param_count, imported_funcs, imported_globals};
-ghost use Rattle.wc_check.specs.Broken.{broken_func, broken_global};
-ghost use Rattle.wc_check.specs.Enough.{settable_count};
+ghost use Rattle.wc_check.specs.Standard.Rules.{each};
+ghost use Rattle.wc_check.specs.Judging.Verdicts.{verdict};
+ghost use Rattle.wc_check.specs.Standard.Spaces.{module_context, param_count, imported_funcs, imported_globals};
+ghost use Rattle.wc_check.specs.Standard.Broken.{broken_func, broken_global};
+ghost use Rattle.wc_check.specs.Judging.Enough.{settable_count};
 
 use crate::bodies::check_body;
 use crate::constants::has_constant;

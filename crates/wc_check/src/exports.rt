@@ -2,11 +2,11 @@
 
 ghost use Rattle.std.specs.Prelude.{◌≡◌, ◌||◌, ℕ, List, [], OnOk, IfOk, IfErr};
 ghost use Rattle.std.specs.Str.{bytes_eq};
-ghost use Rattle.wc_check.specs.Rules.{IsFirstOf, each};
-ghost use Rattle.wc_check.specs.Names.{has_text};
-ghost use Rattle.wc_check.specs.Spaces.{module_context};
-ghost use Rattle.wc_check.specs.ExportRules.{space_size};
-ghost use Rattle.wc_check.specs.Broken.{broken_export};
+ghost use Rattle.wc_check.specs.Standard.Rules.{IsFirstOf, each};
+ghost use Rattle.wc_check.specs.Judging.Names.{has_text};
+ghost use Rattle.wc_check.specs.Standard.Spaces.{module_context};
+ghost use Rattle.wc_check.specs.Standard.ExportRules.{space_size};
+ghost use Rattle.wc_check.specs.Standard.Broken.{broken_export};
 ghost use Rattle.wc_check.specs.declared.fault.CheckFault.TheVariants as faults;
 
 use crate::context::Context;

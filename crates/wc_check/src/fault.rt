@@ -1,14 +1,13 @@
 //! What a check answers.
 
 ghost use Rattle.std.specs.Prelude.{◌≡◌};
-ghost use Rattle.wc_check.specs.Rules.{first, judged, rule};
+ghost use Rattle.wc_check.specs.Standard.Rules.{first, rule};
+ghost use Rattle.wc_check.specs.Judging.Verdicts.{judged};
 
 /// What a fault stands at. Functions, tables, memories and globals have their index in their index space, in which
 /// imports come first (Core 1.0, 2.5.1). Others have their place in their list. All count from 0.
 #[derive(Clone, Copy, Debug, PartialEq, Eq)]
 pub enum Item {
-    /// A function type, by its index.
-    FuncType(usize),
     /// An import, by its place among all imports.
     Import(usize),
     /// A function that the module defines, by its index.

@@ -1,9 +1,10 @@
 //! Imports.
 
 ghost use Rattle.std.specs.Prelude.{◌≡◌};
-ghost use Rattle.wc_check.specs.Rules.{each, first, verdict};
-ghost use Rattle.wc_check.specs.SizeRules.{import_rules};
-ghost use Rattle.wc_check.specs.Broken.{broken_import};
+ghost use Rattle.wc_check.specs.Standard.Rules.{each, first};
+ghost use Rattle.wc_check.specs.Judging.Verdicts.{verdict};
+ghost use Rattle.wc_check.specs.Standard.SizeRules.{import_rules};
+ghost use Rattle.wc_check.specs.Standard.Broken.{broken_import};
 
 use crate::fault::{CheckFault, CheckWhy, Item, broken_if, judge};
 use crate::sizes::{mem_rule, table_rule};

@@ -1,8 +1,9 @@
 //! The instructions of functions.
 
 ghost use Rattle.std.specs.Prelude.{◌≡◌};
-ghost use Rattle.wc_check.specs.Rules.{first};
-ghost use Rattle.wc_check.specs.InstructionRules.{simple_rules, index_rules, instr_rules, block_rules, is_constant_at};
+ghost use Rattle.wc_check.specs.Standard.Rules.{first};
+ghost use Rattle.wc_check.specs.Standard.InstructionRules.{simple_rules, index_rules, instr_rules, block_rules};
+ghost use Rattle.wc_check.specs.Standard.InstructionRules.{is_constant_at};
 
 use crate::context::Context;
 use crate::fault::{CheckWhy, broken_if};

@@ -2,10 +2,11 @@
 
 ghost use Rattle.std.specs.Prelude.{◌≡◌, nat_le};
 ghost use Rattle.std.specs.List.{list_any};
-ghost use Rattle.wc_check.specs.Rules.{each, first, verdict};
-ghost use Rattle.wc_check.specs.Spaces.{module_context};
-ghost use Rattle.wc_check.specs.ExportRules.{elem_rules, data_rules};
-ghost use Rattle.wc_check.specs.Broken.{broken_elem, broken_data};
+ghost use Rattle.wc_check.specs.Standard.Rules.{each, first};
+ghost use Rattle.wc_check.specs.Judging.Verdicts.{verdict};
+ghost use Rattle.wc_check.specs.Standard.Spaces.{module_context};
+ghost use Rattle.wc_check.specs.Standard.SegmentRules.{elem_rules, data_rules};
+ghost use Rattle.wc_check.specs.Standard.Broken.{broken_elem, broken_data};
 
 use crate::constants::has_constant;
 use crate::context::Context;

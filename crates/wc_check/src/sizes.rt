@@ -1,9 +1,10 @@
 //! Tables and memories.
 
 ghost use Rattle.std.specs.Prelude.{◌≡◌, ◌+◌, ◌^◌, ◌<◌, length};
-ghost use Rattle.wc_check.specs.Rules.{each, first, verdict};
-ghost use Rattle.wc_check.specs.SizeRules.{has_min_above_max, has_size_above};
-ghost use Rattle.wc_check.specs.SizeRules.{table_rules, mem_rules, broken_table, broken_mem};
+ghost use Rattle.wc_check.specs.Standard.Rules.{each, first};
+ghost use Rattle.wc_check.specs.Judging.Verdicts.{verdict};
+ghost use Rattle.wc_check.specs.Standard.SizeRules.{has_min_above_max, has_size_above};
+ghost use Rattle.wc_check.specs.Standard.SizeRules.{table_rules, mem_rules, broken_table, broken_mem};
 
 use crate::fault::{CheckFault, CheckWhy, Item, broken_if, judge};
 use wc_ast::Limits;

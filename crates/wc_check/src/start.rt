@@ -2,9 +2,9 @@
 
 ghost use Rattle.std.specs.Prelude.{◌≡◌, false, map, slice_get};
 ghost use Rattle.std.specs.Option.{option_map_or, option_and_then};
-ghost use Rattle.wc_check.specs.Rules.{first};
-ghost use Rattle.wc_check.specs.Spaces.{module_context, func_space, imported_funcs};
-ghost use Rattle.wc_check.specs.Broken.{start_rules, has_values};
+ghost use Rattle.wc_check.specs.Standard.Rules.{first};
+ghost use Rattle.wc_check.specs.Standard.Spaces.{module_context, func_space, imported_funcs};
+ghost use Rattle.wc_check.specs.Standard.Broken.{start_rules, has_values};
 
 use crate::context::Context;
 use crate::fault::{CheckWhy, broken_if};

@@ -1,6 +1,7 @@
 //! A reader or writer with its count and its failure.
-ghost use Rattle.std.specs.Prelude.{◌≡◌, false};
-ghost use Rattle.wc_device.specs.Device.{device_inner, has_failed, read_count};
+ghost use Rattle.std.specs.Prelude.{◌≡◌, None, false};
+ghost use Rattle.wc_device.specs.Device.{device_inner, failed_at, first_failure, has_failed, read_count};
+ghost use Rattle.wc_device.specs.Device.{was_asked_again, has_ended};
 
 mod reading;
 mod writing;
@@ -8,11 +9,14 @@ mod writing;
 /// A reader or writer, the number of bytes that were read from it, and whether a call of it failed.
 ///
 /// A call has failed where it answers an error of any kind, and where a write takes none of some bytes.
-/// A failure is kept: later calls that go well don't take it back. Nothing here takes memory.
+/// The first failure is kept, with the number of bytes that were read before it: later calls don't take it back. So is
+/// the end of the reader's bytes, and whether the reader was asked once more after either. Nothing here takes memory.
 #[derive(Drop)]
 pub struct Device<T> {
     inner: T,
-    failed: bool,
+    failed_at: Option<u64>,
+    ended: bool,
+    asked_again: bool,
     count: u64,
 }
 
@@ -21,11 +25,16 @@ impl<T> Device<T> {
     pub fn new(inner: T) -> Device<T>
         ensures inner { device_inner result ≡ inner }
         ensures failed { has_failed result ≡ false }
+        ensures place { failed_at result ≡ None }
+        ensures ended { has_ended result ≡ false }
+        ensures again { was_asked_again result ≡ false }
         ensures count { read_count result ≡ 0 }
     {
         Device {
             inner,
-            failed: false,
+            failed_at: None,
+            ended: false,
+            asked_again: false,
             count: 0,
         }
     }
@@ -41,7 +50,28 @@ impl<T> Device<T> {
     pub fn failed(&self) -> bool
         ensures { result ≡ has_failed self.now }
     {
-        self.failed
+        self.failed_at.is_some()
+    }
+
+    /// How many bytes had been read when a call failed for the first time; none where no call failed.
+    pub fn failed_at(&self) -> Option<u64>
+        ensures { result ≡ failed_at self.now }
+    {
+        self.failed_at
+    }
+
+    /// Whether a read so far was told the end of the bytes.
+    pub fn ended(&self) -> bool
+        ensures { result ≡ has_ended self.now }
+    {
+        self.ended
+    }
+
+    /// Whether a read was asked for after a call had failed or a read had been told the end.
+    pub fn asked_again(&self) -> bool
+        ensures { result ≡ was_asked_again self.now }
+    {
+        self.asked_again
     }
 
     /// How many bytes the calls of `read` gave so far.
@@ -49,6 +79,19 @@ impl<T> Device<T> {
         ensures { result ≡ read_count self.now }
     {
         self.count
+    }
+
+    /// Keeps a failure, where it is the first.
+    fn fail(&mut self)
+        ensures inner { device_inner self.new ≡ device_inner self.old }
+        ensures failed { failed_at self.new ≡ first_failure (failed_at self.old) (read_count self.old) }
+        ensures ended { has_ended self.new ≡ has_ended self.old }
+        ensures again { was_asked_again self.new ≡ was_asked_again self.old }
+        ensures count { read_count self.new ≡ read_count self.old }
+    {
+        if self.failed_at.is_none() {
+            self.failed_at = Some(self.count);
+        }
     }
 }
 

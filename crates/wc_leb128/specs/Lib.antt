@@ -1,4 +1,3 @@
-pub mod Integers
-pub mod State
-pub mod Shortest
-pub mod Laws
+pub mod Standard
+pub mod Reading
+pub mod Writing

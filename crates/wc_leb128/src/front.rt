@@ -1,5 +1,5 @@
 ghost use Rattle.std.specs.Prelude.{◌≡◌, ◌<◌, ◌≤◌, ◌↔◌, ℕ, ℤ, List, MatchOption};
-ghost use Rattle.wc_leb128.specs.Integers.{U, S, IsAtFront};
+ghost use Rattle.wc_leb128.specs.Standard.Integers.{U, S, IsAtFront};
 
 use crate::signed::Signed;
 use crate::step::Step;

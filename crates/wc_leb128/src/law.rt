@@ -2,10 +2,10 @@
 
 ghost use Rattle.std.specs.Prelude.{ℕ, ℤ, List, Option};
 ghost use Rattle.wc_leb128.specs.declared.step.Step.{Step};
-ghost use Rattle.wc_leb128.specs.Integers.{U, S, IsUnfinished};
-ghost use Rattle.wc_leb128.specs.Laws.{IsUnambiguous, IsOneOfThree, IsExact};
-ghost use Rattle.wc_leb128.specs.Shortest.{HoldsUnsigned, HoldsSigned};
-ghost use Rattle.wc_leb128.specs.State.{Answers};
+ghost use Rattle.wc_leb128.specs.Standard.Integers.{U, S, IsUnfinished};
+ghost use Rattle.wc_leb128.specs.Standard.Laws.{IsUnambiguous, IsOneOfThree, IsExact};
+ghost use Rattle.wc_leb128.specs.Standard.Shortest.{HoldsUnsigned, HoldsSigned};
+ghost use Rattle.wc_leb128.specs.Standard.Pushing.{Answers};
 
 /// Unsigned integers (Core 1.0, 5.2.2): each spelling has one value, which its width holds, and begins no other; an
 /// unfinished list is no spelling; and each list is unfinished, or a spelling, or no spelling begins with it.

@@ -1,7 +1,7 @@
 ghost use Rattle.std.specs.Prelude.{◌≡◌, ◌<◌, ◌^◌, ℕ, ℤ};
-ghost use Rattle.wc_leb128.specs.Integers.{U, S};
-ghost use Rattle.wc_leb128.specs.Shortest.{HoldsUnsigned, HoldsSigned, IsShortestSpelling};
-ghost use Rattle.wc_leb128.specs.Shortest.{unsigned_bytes, signed_bytes, group_of, signed_of};
+ghost use Rattle.wc_leb128.specs.Standard.Integers.{U, S};
+ghost use Rattle.wc_leb128.specs.Standard.Shortest.{HoldsUnsigned, HoldsSigned, IsShortestSpelling};
+ghost use Rattle.wc_leb128.specs.Writing.Bytes.{unsigned_bytes, signed_bytes, group_of, signed_of};
 
 use crate::leb::Leb;
 

@@ -1,6 +1,7 @@
 ghost use Rattle.std.specs.Prelude.{◌≡◌, ◌+◌, ◌^◌, ◌<◌, ◌≤◌, Some, []};
-ghost use Rattle.wc_leb128.specs.Integers.{S};
-ghost use Rattle.wc_leb128.specs.State.{AnswersFrom, Ends};
+ghost use Rattle.wc_leb128.specs.Standard.Integers.{S};
+ghost use Rattle.wc_leb128.specs.Standard.Pushing.{AnswersFrom};
+ghost use Rattle.wc_leb128.specs.Reading.State.{Ends};
 
 use crate::bits::fits;
 use crate::step::Step;
@@ -20,7 +21,7 @@ impl<const N: u32> Model for Signed<N> {
 
     ghost Value = { Option (List ℕ) };
 
-    ghost use Rattle.wc_leb128.specs.State.{pushed, IsState};
+    ghost use Rattle.wc_leb128.specs.Reading.State.{pushed, IsState};
 
     ghost view = { λ a. pushed a.unfinished a.count a.value };
 

@@ -1,11 +1,2 @@
-pub mod Digits
-pub mod Numbers
-pub mod Strings
-pub mod Elements
-pub mod Gaps
-pub mod Lexemes
-pub mod Faults
-pub mod Comments
-pub mod Steps
-pub mod Tokens
-pub mod Lexing
+pub mod Standard
+pub mod Reading

@@ -1,8 +1,8 @@
 //! Classes of bytes.
 
 ghost use Rattle.std.specs.Prelude.{◌≡◌};
-ghost use Rattle.wc_tokens.specs.Gaps.{is_blank};
-ghost use Rattle.wc_tokens.specs.Lexemes.{is_idchar};
+ghost use Rattle.wc_tokens.specs.Standard.Gaps.{is_blank};
+ghost use Rattle.wc_tokens.specs.Standard.Lexemes.{is_idchar};
 
 /// The class of each byte: `b` for a blank, `i` for a character of words and identifiers, `-` for any other.
 static CLASSES: [u8; 256] = *b"\

@@ -1,7 +1,9 @@
 //! Runs of digits.
 
-ghost use Rattle.std.specs.Prelude.{◌≡◌, ◌*◌, ◌+◌, ◌<◌, ◌≤◌, ◌^◌, Some, None, false, length, drop, IfSome, option_map, if◌then◌else◌};
-ghost use Rattle.wc_tokens.specs.Digits.{digit_of, extended, fitting, scan};
+ghost use Rattle.std.specs.Prelude.{◌≡◌, ◌*◌, ◌+◌, ◌<◌, ◌≤◌, ◌^◌, Some, None, false, length, drop, IfSome, option_map};
+ghost use Rattle.std.specs.Prelude.{if◌then◌else◌};
+ghost use Rattle.wc_tokens.specs.Standard.Digits.{digit_of};
+ghost use Rattle.wc_tokens.specs.Reading.Scans.{extended, fitting, scan};
 
 /// A run of digits at the front of a text: what it spells, `None` from 2^64 on, and its length in bytes.
 #[derive(Clone, Copy)]
@@ -11,7 +13,7 @@ pub struct DigitRun {
 }
 
 /// The value of a digit or a letter of either case, and 36 for any other byte.
-#[tactic(auto, unfolding(crate::specs::Digits::digit_of))]
+#[tactic(auto, unfolding(crate::specs::Standard::Digits::digit_of))]
 pub fn digit_of(byte: u8) -> u64
     ensures { result ≡ digit_of byte }
 {

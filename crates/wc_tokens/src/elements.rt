@@ -1,8 +1,9 @@
 //! The elements of strings (Core 1.0, 6.3.3).
 
 ghost use Rattle.std.specs.Prelude.{◌≡◌, option_map};
-ghost use Rattle.wc_tokens.specs.Strings.{escaped, read_byte, read_unicode, read_escape, read_element, EndsElements};
-ghost use Rattle.wc_tokens.specs.Elements.{taken};
+ghost use Rattle.wc_tokens.specs.Standard.Strings.{escaped, EndsElements};
+ghost use Rattle.wc_tokens.specs.Reading.Elements.{read_byte, read_unicode, read_escape, read_element};
+ghost use Rattle.wc_tokens.specs.Reading.Elements.{first_element};
 
 use crate::bytes::behind;
 use crate::digits::{digit_of, digits};
@@ -39,9 +40,9 @@ fn escaped(letter: u8) -> Option<u8>
 }
 
 /// A byte by its two hexadecimal digits.
-#[tactic(auto, unfolding(crate::specs::Strings::read_byte))]
+#[tactic(auto, unfolding(crate::specs::Reading::Elements::read_byte))]
 fn read_byte(high: u8, text: &[u8]) -> Option<Element<'_>>
-    ensures { option_map taken result ≡ read_byte high text.now }
+    ensures { option_map first_element result ≡ read_byte high text.now }
 {
     let (low, rest) = text.split_first()?;
     let (high, low) = (digit_of(high), digit_of(*low));
@@ -53,9 +54,9 @@ fn read_byte(high: u8, text: &[u8]) -> Option<Element<'_>>
 }
 
 /// A character by its number in braces.
-#[tactic(auto, unfolding(crate::specs::Strings::read_unicode))]
+#[tactic(auto, unfolding(crate::specs::Reading::Elements::read_unicode))]
 fn read_unicode(text: &[u8]) -> Option<Element<'_>>
-    ensures { option_map taken result ≡ read_unicode text.now }
+    ensures { option_map first_element result ≡ read_unicode text.now }
 {
     let number = behind(text, b'{')?;
     let run = digits(number, 16)?;
@@ -66,9 +67,9 @@ fn read_unicode(text: &[u8]) -> Option<Element<'_>>
 }
 
 /// What a backslash begins.
-#[tactic(auto, unfolding(crate::specs::Strings::read_escape))]
+#[tactic(auto, unfolding(crate::specs::Reading::Elements::read_escape))]
 fn read_escape(text: &[u8]) -> Option<Element<'_>>
-    ensures { option_map taken result ≡ read_escape text.now }
+    ensures { option_map first_element result ≡ read_escape text.now }
 {
     let (letter, rest) = text.split_first()?;
     match escaped(*letter) {
@@ -82,9 +83,9 @@ fn read_escape(text: &[u8]) -> Option<Element<'_>>
 }
 
 /// The element at the front of a text.
-#[tactic(auto, unfolding(crate::specs::Strings::read_element))]
+#[tactic(auto, unfolding(crate::specs::Reading::Elements::read_element))]
 pub fn read_element(text: &[u8]) -> Option<Element<'_>>
-    ensures { option_map taken result ≡ read_element text.now }
+    ensures { option_map first_element result ≡ read_element text.now }
 {
     let (first, rest) = text.split_first()?;
     match *first {

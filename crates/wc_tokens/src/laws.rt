@@ -1,8 +1,8 @@
 //! Laws of tokens and faults.
 
 ghost use Rattle.std.specs.Prelude.{◌≡◌, ◌⊎◌, ℕ, List};
-ghost use Rattle.wc_tokens.specs.Lexemes.{Lexeme, Lexes};
-ghost use Rattle.wc_tokens.specs.Faults.{FirstFault};
+ghost use Rattle.wc_tokens.specs.Standard.Lexemes.{Lexeme, Lexes};
+ghost use Rattle.wc_tokens.specs.Standard.Faults.{FirstFault};
 ghost use Rattle.wc_tokens.specs.declared.fault.LexWhy.{LexWhy as Reason};
 
 /// A text has at most one list of tokens.

@@ -1,14 +1,15 @@
 //! From a text to its tokens.
 
 ghost use Rattle.std.specs.Prelude.{◌≡◌, ◌≤◌, ◌⊎◌, ℕ, List, IfOk, IfErr, IsErrAnd, MatchResult, length};
-ghost use Rattle.wc_tokens.specs.Lexemes.{Lexeme, Lexes, Lexed, place};
-ghost use Rattle.wc_tokens.specs.Faults.{FirstFault};
+ghost use Rattle.wc_tokens.specs.Standard.Lexemes.{Lexeme, Lexes, Lexed, place};
+ghost use Rattle.wc_tokens.specs.Standard.Faults.{FirstFault};
 ghost use Rattle.wc_tokens.specs.declared.fault.LexWhy.{LexWhy as Reason};
-ghost use Rattle.wc_tokens.specs.Lexing.{IsFault, IsStop, StandsIn};
+ghost use Rattle.wc_tokens.specs.Standard.Faults.{IsFault};
+ghost use Rattle.wc_tokens.specs.Reading.Stops.{IsStop, StandsIn};
 ghost use Rattle.wc_tokens.specs.declared.token.TokenKind.{TokenKind as Kind};
 
 use crate::fault::{LexFault, LexWhy};
-use crate::steps::{Step, after_blanks, next_step};
+use crate::heads::{Head, after_blanks, next_head};
 use crate::token::{Token, TokenKind};
 use crate::tokens::Tokens;
 use std::alloc::Global;
@@ -52,10 +53,10 @@ fn tokens<'a>(alloc: Global, text: &'a str) -> Result<Tokens<'a>, LexFault>
     let bytes = text.as_bytes();
     let mut items = Vec::new(alloc);
     let mut rest = after_blanks(bytes);
-    while let Some(step) = next_step(rest) {
-        match step {
-            Step::Gap(after) => rest = after_blanks(after),
-            Step::Token(kind, after) => {
+    while let Some(head) = next_head(rest) {
+        match head {
+            Head::Gap(after) => rest = after_blanks(after),
+            Head::Token(kind, after) => {
                 // With the room there, the token is written straight to its place.
                 items.reserve(1)?;
                 let span = span_of(text, rest, after);
@@ -67,7 +68,7 @@ fn tokens<'a>(alloc: Global, text: &'a str) -> Result<Tokens<'a>, LexFault>
                 });
                 rest = after_blanks(after);
             }
-            Step::Stuck(at, why) => {
+            Head::Stuck(at, why) => {
                 let at = (bytes.len() - at.len()) as u64;
                 return Err(LexFault::Bad { at, why });
             }

@@ -6,14 +6,15 @@ mod classes;
 mod digits;
 mod elements;
 mod fault;
+mod heads;
 mod laws;
 mod lexer;
 mod numbers;
-mod steps;
 mod strings;
 mod token;
 mod tokens;
 
+pub use elements::{Element, Meaning, read_element};
 pub use fault::{LexFault, LexWhy};
 pub use laws::{always_one, never_both, one_fault, one_list};
 pub use lexer::lex;

@@ -1,8 +1,9 @@
 //! Integer literals (Core 1.0, 6.3.1).
 
 ghost use Rattle.std.specs.Prelude.{◌≡◌, ◌≢◌, ℕ, ◌+◌, ◌⊎◌, ◌↔◌, ◌<◌, ◌≤◌, ◌^◌, List, ◌∷◌, MatchOption};
-ghost use Rattle.wc_tokens.specs.Digits.{Digits};
-ghost use Rattle.wc_tokens.specs.Numbers.{Natural, Signed, Literal, FitsBits, bits_of, Reads, limited, negated};
+ghost use Rattle.wc_tokens.specs.Standard.Digits.{Digits};
+ghost use Rattle.wc_tokens.specs.Standard.Numbers.{Natural, Signed, Literal, FitsBits, bits_of};
+ghost use Rattle.wc_tokens.specs.Reading.Numbers.{IsNum, limited, negated};
 
 use crate::bytes::behind;
 use crate::digits::digits;
@@ -30,7 +31,7 @@ fn hexadecimal(text: &[u8]) -> Option<&[u8]>
 fn whole(text: &[u8], base: u64) -> Num
     requires low { 0 < base }
     requires high { base ≤ 36 }
-    ensures { Reads (Digits base text.now) (2 ^ 64) result }
+    ensures { IsNum (Digits base text.now) (2 ^ 64) result }
 {
     let Some(run) = digits(text, base) else {
         return Num::NotANumber;
@@ -46,7 +47,7 @@ fn whole(text: &[u8], base: u64) -> Num
 
 /// The natural number that a text spells, if 64 bits hold it.
 fn natural(text: &[u8]) -> Num
-    ensures { Reads (Natural text.now) (2 ^ 64) result }
+    ensures { IsNum (Natural text.now) (2 ^ 64) result }
 {
     match hexadecimal(text) {
         Some(digits) => whole(digits, 16),

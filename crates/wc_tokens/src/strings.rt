@@ -1,8 +1,8 @@
 //! What strings stand for (Core 1.0, 6.3.3).
 
 ghost use Rattle.std.specs.Prelude.{◌≡◌, ◌++◌, ℕ, List, IfOk, OnOk};
-ghost use Rattle.wc_tokens.specs.Elements.{bytes_of};
-ghost use Rattle.wc_tokens.specs.Strings.{IsString};
+ghost use Rattle.wc_tokens.specs.Reading.Elements.{bytes_of};
+ghost use Rattle.wc_tokens.specs.Standard.Strings.{IsString};
 
 use crate::elements::{Meaning, read_element};
 use crate::token::Token;

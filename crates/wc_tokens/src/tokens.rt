@@ -1,7 +1,7 @@
 //! The tokens of a text.
 
 ghost use Rattle.std.specs.Prelude.{◌≡◌};
-ghost use Rattle.wc_tokens.specs.Tokens.{lexemes_of, InOrder};
+ghost use Rattle.wc_tokens.specs.Standard.Tokens.{lexemes_of, InOrder};
 
 use crate::token::Token;
 use std::marker::Model;
@@ -14,11 +14,11 @@ pub struct Tokens<'a> {
 
 impl<'a> Model for Tokens<'a> {
     ghost use Rattle.std.specs.Prelude.{List};
-    ghost use Rattle.wc_tokens.specs.Lexemes.{Lexeme};
+    ghost use Rattle.wc_tokens.specs.Standard.Lexemes.{Lexeme};
 
     ghost Value = { List Lexeme };
 
-    ghost use Rattle.wc_tokens.specs.Tokens.{lexemes_of, InOrder};
+    ghost use Rattle.wc_tokens.specs.Standard.Tokens.{lexemes_of, InOrder};
 
     ghost view = { λ t. lexemes_of t.items.items };
 

@@ -1,19 +1,18 @@
 //! The program `wcanon`: canonical bytes of WebAssembly modules, their check and their comparison.
 #![tactic(auto)]
 
+ghost use Rattle.wc_cli.specs.Acting.{IsNewInput};
+
 mod output;
 
 use clap::Error;
 use clap::error::ErrorKind;
 use output::Output;
 use std::fs::File;
-use std::io::Write;
 use std::process::ExitCode;
 use std::{env, io};
-use wc_canon::{Line, act, line, status_of};
-
-/// The status of a fault of usage, of a file or of memory.
-const FAILED: u8 = 2;
+use wc_cli::{Failure, Line, act, line, report, status_of};
+use wc_device::Device;
 
 /// The words of the command line, the program's name first.
 fn words(rt: &HostRuntime) -> io::Result<Vec<String>> {
@@ -21,59 +20,73 @@ fn words(rt: &HostRuntime) -> io::Result<Vec<String>> {
     Ok(words)
 }
 
-/// Tells a fault in one line, and answers its status. A fault of standard error is dropped.
-fn tell(rt: &HostRuntime, fault: &str) -> u8 {
-    let _ = writeln!(rt.stderr(), "wcanon: {fault}");
-    FAILED
+/// Writes the line of a failure, and answers its status.
+fn failed(rt: &HostRuntime, failure: &Failure<'_>) -> u8 {
+    report(rt.alloc(), failure, &mut Device::new(rt.stderr()))
 }
 
 /// Prints help or a fault of usage where each belongs, and answers the status.
-fn tell_usage(rt: &HostRuntime, error: &Error) -> u8 {
+fn print_usage(rt: &HostRuntime, error: &Error) -> u8 {
     if error.kind() == ErrorKind::OutOfMemory {
-        return tell(rt, "out of memory");
+        return failed(rt, &Failure::OutOfMemory);
     }
     if error.print(rt).is_err() && !error.use_stderr() {
-        return tell(rt, "standard output: cannot write");
+        return failed(rt, &Failure::CannotWrite { path: None });
     }
     status_of(error)
 }
 
-/// Opens the inputs of a line and carries it out.
-fn carry_out(rt: &HostRuntime, line: &Line<'_>) -> u8 {
-    let (a, b, output) = match line {
-        Line::Make { input, output, .. } => (File::open(rt, *input).ok(), None, *output),
-        Line::Check { input } => (File::open(rt, *input).ok(), None, None),
-        Line::Compare { a, b } => (File::open(rt, *a).ok(), File::open(rt, *b).ok(), None),
-    };
-    let mut errors = rt.stderr();
-    match output {
-        Some(path) => act(rt.alloc(), line, a, b, Output::new(rt, path), &mut errors),
-        None => act(rt.alloc(), line, a, b, rt.stdout(), &mut errors),
+/// The device of an opened file, or none.
+fn open(rt: &HostRuntime, path: &str) -> Option<Device<File>>
+    ensures { IsNewInput result }
+{
+    match File::open(rt, path) {
+        Ok(file) => Some(Device::new(file)),
+        Err(_) => None,
     }
 }
 
-/// Reads the words and carries out what they ask for.
-fn perform(rt: &HostRuntime, words: &[&str]) -> u8 {
+/// Opens the inputs of a line and carries it out.
+fn open_and_act(rt: &HostRuntime, line: &Line<'_>) -> u8 {
+    let (mut a, mut b, output) = match line {
+        Line::Make { input, output, .. } => (open(rt, *input), None, *output),
+        Line::Check { input } => (open(rt, *input), None, None),
+        Line::Compare { a, b } => (open(rt, *a), open(rt, *b), None),
+    };
+    let mut errors = Device::new(rt.stderr());
+    match output {
+        Some(path) => {
+            let mut w = Device::new(Output::new(rt, path));
+            act(rt.alloc(), line, &mut a, &mut b, &mut w, &mut errors)
+        }
+        None => {
+            let mut w = Device::new(rt.stdout());
+            act(rt.alloc(), line, &mut a, &mut b, &mut w, &mut errors)
+        }
+    }
+}
+
+/// Carries out what the words ask for.
+fn obey(rt: &HostRuntime, words: &[&str]) -> u8 {
     match line(rt.alloc(), words) {
-        Ok(Some(line)) => carry_out(rt, &line),
-        Ok(None) => tell(rt, "no subcommand"),
-        Err(error) => tell_usage(rt, &error),
+        Ok(Some(line)) => open_and_act(rt, &line),
+        Ok(None) => failed(rt, &Failure::NoSubcommand),
+        Err(error) => print_usage(rt, &error),
     }
 }
 
 fn status(rt: &HostRuntime) -> u8 {
     let words = match words(rt) {
         Ok(words) => words,
-        Err(error) if error.kind() == io::ErrorKind::OutOfMemory => return tell(
-            rt,
-            "out of memory",
-        ),
-        Err(_) => return tell(rt, "an argument is not text"),
+        Err(error) if error.kind() == io::ErrorKind::OutOfMemory => {
+            return failed(rt, &Failure::OutOfMemory);
+        }
+        Err(_) => return failed(rt, &Failure::NotText),
     };
     let views: Result<Vec<&str>, _> = words.iter().map(|word| word.as_str()).collect(rt.alloc());
     match views {
-        Ok(views) => perform(rt, &views),
-        Err(_) => tell(rt, "out of memory"),
+        Ok(views) => obey(rt, &views),
+        Err(_) => failed(rt, &Failure::OutOfMemory),
     }
 }
 

@@ -1,20 +1,20 @@
 //! Codes of functions (Core 1.0, 5.5.13).
 
 ghost use Rattle.std.specs.Prelude.{◌≡◌, ◌-◌, min};
-ghost use Rattle.wc_binary.specs.Contents.{code as code_phrase};
+ghost use Rattle.wc_binary.specs.Standard.Contents.{code as code_phrase};
 
 use crate::decoder::expression::body;
+use crate::decoder::from_source::FromSource;
 use crate::decoder::integer::u32;
-use crate::decoder::part::Part;
-use crate::fault::{BinFault, BinWhy};
+use crate::fault::{BinFault, BinWhy, bad};
 use crate::parts::FuncCode;
 use crate::source::Source;
 use std::alloc::Global;
 use wc_ast::Locals;
 
-/// How many bytes to make room for before the body of a code of this size is read, of which so many bytes were read: all
-/// the others but the last, which ends it. No size is trusted further than 64 KiB, since it is judged once the code was
-/// read.
+/// How many bytes to make room for before the body of a code of this size is read, of which so many bytes were read:
+/// all the others but the last, which ends it. No size is trusted further than 64 KiB, since it is judged once the code
+/// was read.
 fn room_for(size: u32, read: u64) -> usize
     ensures { result ≡ min (size - read - 1) 65_536 }
 {
@@ -22,11 +22,11 @@ fn room_for(size: u32, read: u64) -> usize
     left.saturating_sub(1).min(65_536) as usize
 }
 
-impl Part for FuncCode {
+impl FromSource for FuncCode {
     ghost phrase = { code_phrase };
 
     /// A code behind its size. The size is judged once the code was read.
-    #[tactic(auto, unfolding(crate::specs::Contents::code, crate::specs::Contents::func, crate::specs::Values::sized))]
+    #[tactic(auto, unfolding(crate::specs::Standard::Contents::code, crate::specs::Standard::Contents::func, crate::specs::Standard::Values::sized))]
     fn read<S: Source>(alloc: Global, source: &mut S) -> Result<FuncCode, BinFault> {
         let at = source.place();
         let size = u32(source)?;
@@ -35,10 +35,7 @@ impl Part for FuncCode {
         let room = room_for(size, source.place() - start);
         let body = body(alloc, room, source)?;
         if source.place() - start != size as u64 {
-            return Err(BinFault::Bad {
-                at,
-                why: BinWhy::BodySize,
-            });
+            return Err(bad(at, BinWhy::BodySize));
         }
         Ok(FuncCode { locals, body })
     }

@@ -1,19 +1,20 @@
 //! Globals and segments (Core 1.0, 5.5.9, 5.5.12 and 5.5.14).
 
-ghost use Rattle.wc_binary.specs.Contents.{global as global_phrase, elem_segment, data_segment};
+ghost use Rattle.wc_binary.specs.Standard.Contents.{global as global_phrase, elem_segment, data_segment};
 
+use crate::decoder::from_source::FromSource;
 use crate::decoder::integer::u32;
-use crate::decoder::part::{Part, byte_vector};
 use crate::decoder::types::global_type;
+use crate::decoder::vector::byte_vector;
 use crate::fault::BinFault;
 use crate::source::Source;
 use std::alloc;
 use wc_ast::{Body, Data, Elem, Global, List};
 
-impl Part for Global {
+impl FromSource for Global {
     ghost phrase = { global_phrase };
 
-    #[tactic(auto, unfolding(crate::specs::Contents::global))]
+    #[tactic(auto, unfolding(crate::specs::Standard::Contents::global))]
     fn read<S: Source>(alloc: alloc::Global, source: &mut S) -> Result<Global, BinFault> {
         let ty = global_type(alloc, source)?;
         let init = Body::read(alloc, source)?;
@@ -21,10 +22,10 @@ impl Part for Global {
     }
 }
 
-impl Part for Elem {
+impl FromSource for Elem {
     ghost phrase = { elem_segment };
 
-    #[tactic(auto, unfolding(crate::specs::Contents::elem_segment))]
+    #[tactic(auto, unfolding(crate::specs::Standard::Contents::elem_segment))]
     fn read<S: Source>(alloc: alloc::Global, source: &mut S) -> Result<Elem, BinFault> {
         let table = u32(source)?;
         let offset = Body::read(alloc, source)?;
@@ -37,10 +38,10 @@ impl Part for Elem {
     }
 }
 
-impl Part for Data {
+impl FromSource for Data {
     ghost phrase = { data_segment };
 
-    #[tactic(auto, unfolding(crate::specs::Contents::data_segment))]
+    #[tactic(auto, unfolding(crate::specs::Standard::Contents::data_segment))]
     fn read<S: Source>(alloc: alloc::Global, source: &mut S) -> Result<Data, BinFault> {
         let memory = u32(source)?;
         let offset = Body::read(alloc, source)?;

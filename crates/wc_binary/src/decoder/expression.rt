@@ -2,21 +2,22 @@
 //! until it is kept.
 
 ghost use Rattle.std.specs.Prelude.{◌≡◌, ◌+◌, ◌<◌, true, false, IfOk, IfErr, length};
-ghost use Rattle.wc_ast.specs.Nested.{nesting_limit};
-ghost use Rattle.wc_ast.specs.Draft.{step, takes, begins};
-ghost use Rattle.wc_ast.specs.Entries.{mark};
-ghost use Rattle.wc_ast.specs.declared.op.Op.TheVariants as ops;
-ghost use Rattle.wc_ast.specs.declared.op.OpByte.TheVariants as bytes;
-ghost use Rattle.wc_binary.specs.Instructions.{opcode, begun_of, expr};
-ghost use Rattle.wc_binary.specs.NextMark.{begun_by, GivesEntry, MayStand, Takes};
-ghost use Rattle.wc_binary.specs.Source.{Gives};
+ghost use Rattle.wc_body.specs.Standard.Nested.{nesting_limit};
+ghost use Rattle.wc_body.specs.Standard.Draft.{step, may_come, begins};
+ghost use Rattle.wc_body.specs.Standard.Entries.{mark};
+ghost use Rattle.wc_ops.specs.declared.op.Op.TheVariants as ops;
+ghost use Rattle.wc_ops.specs.declared.op.OpByte.TheVariants as bytes;
+ghost use Rattle.wc_binary.specs.Standard.Instructions.{opcode, begun_of, expr};
+ghost use Rattle.wc_binary.specs.Reading.NextMark.{begun_by, GivesEntry, MayStand, AddsNext};
+ghost use Rattle.wc_binary.specs.Reading.Source.{Gives};
 ghost use Rattle.wc_binary.specs.declared.fault.BinFault.TheVariants as faults;
 
+use crate::decoder::byte::any_byte;
+use crate::decoder::from_source::FromSource;
 use crate::decoder::immediates::{
     block_type, br_table, call_indirect, i32_const, i64_const, index, memory, simple,
 };
-use crate::decoder::part::Part;
-use crate::fault::{BinFault, BinWhy};
+use crate::fault::{BinFault, BinWhy, bad};
 use crate::source::Source;
 use std::alloc::Global;
 use wc_ast::{
@@ -36,10 +37,7 @@ fn begin<S: Source>(
     ensures stands { IfOk result (λ e. MayStand builder.now e) }
 {
     if builder.depth() >= NESTING_LIMIT {
-        return Err(BinFault::Bad {
-            at,
-            why: BinWhy::Depth,
-        });
+        return Err(bad(at, BinWhy::Depth));
     }
     Ok(Entry::Begin(kind, block_type(source)?))
 }
@@ -48,7 +46,7 @@ fn begin<S: Source>(
 #[inline(always)]
 fn add(builder: &mut BodyBuilder, entry: Entry<'_>) -> Result<bool, BinFault>
     requires { begins (mark entry) ≡ true → length builder.old.around < nesting_limit }
-    ensures more { IfOk result (λ more. more ≡ takes builder.old (mark entry.entry)) }
+    ensures more { IfOk result (λ more. more ≡ may_come builder.old (mark entry.entry)) }
     ensures ok { IfOk result (λ more. more ≡ true → builder.new ≡ step builder.old (mark entry.entry)) }
     ensures last { IfOk result (λ more. more ≡ false → builder.new ≡ builder.old) }
     ensures memory { IfErr result (λ fault. fault ≡ faults.Memory) }
@@ -70,14 +68,15 @@ fn indexed<S: Source>(
     source: &mut S,
 ) -> Result<bool, BinFault>
     requires { (S.input source.old).place ≡ at + 1 }
-    ensures { Takes builder.old (begun_of (bytes.Known (ops.Index op))) at (S.input source.old) (S.input source.new) builder.new result }
+    ensures { AddsNext builder.old (begun_of (bytes.Known (ops.Index op))) at
+        (S.input source.old) (S.input source.new) builder.new result }
 {
     let instr = index(op, source)?;
     add(builder, Entry::Plain(instr))
 }
 
-/// Adds the instruction whose opcode stands at this place and was read. Each form is added where it was read, so that it
-/// isn't told apart twice.
+/// Adds the instruction whose opcode stands at this place and was read. Each form is added where it was read, so that
+/// it isn't told apart twice.
 #[inline(always)]
 fn instruction<S: Source>(
     alloc: Global,
@@ -88,7 +87,8 @@ fn instruction<S: Source>(
     source: &mut S,
 ) -> Result<bool, BinFault>
     requires { (S.input source.old).place ≡ at + 1 }
-    ensures { Takes builder.old (begun_of (bytes.Known op)) at (S.input source.old) (S.input source.new) builder.new result }
+    ensures { AddsNext builder.old (begun_of (bytes.Known op)) at
+        (S.input source.old) (S.input source.new) builder.new result }
 {
     match op {
         Op::Simple(op) => {
@@ -152,14 +152,11 @@ fn entry<S: Source>(
     source: &mut S,
 ) -> Result<bool, BinFault>
     requires { (S.input source.old).place ≡ at + 1 }
-    ensures { Takes builder.old (opcode byte) at (S.input source.old) (S.input source.new) builder.new result }
+    ensures { AddsNext builder.old (opcode byte) at (S.input source.old) (S.input source.new) builder.new result }
 {
     match Op::of_byte(byte) {
         OpByte::Known(op) => instruction(alloc, op, at, builder, labels, source),
-        OpByte::Float => Err(BinFault::Bad {
-            at,
-            why: BinWhy::Float,
-        }),
+        OpByte::Float => Err(bad(at, BinWhy::Float)),
         OpByte::Unknown => {
             if byte == 0x0b {
                 return add(builder, Entry::End);
@@ -167,10 +164,7 @@ fn entry<S: Source>(
             if byte == 0x05 && builder.in_first_part() {
                 return add(builder, Entry::Else);
             }
-            Err(BinFault::Bad {
-                at,
-                why: BinWhy::Opcode,
-            })
+            Err(bad(at, BinWhy::Opcode))
         }
     }
 }
@@ -183,15 +177,7 @@ pub fn body<S: Source>(alloc: Global, room: usize, source: &mut S) -> Result<Bod
     let mut labels = List::new(alloc);
     'entries: loop {
         let at = source.place();
-        let byte = match source.next()? {
-            None => {
-                return Err(BinFault::Bad {
-                    at,
-                    why: BinWhy::End,
-                })
-            }
-            Some(byte) => byte,
-        };
+        let byte = any_byte(source)?;
         if !entry(alloc, byte, at, &mut builder, &mut labels, source)? {
             break;
         }
@@ -202,7 +188,7 @@ pub fn body<S: Source>(alloc: Global, room: usize, source: &mut S) -> Result<Bod
     }
 }
 
-impl Part for Body {
+impl FromSource for Body {
     ghost phrase = { expr };
 
     /// The instructions up to the end at which none is open.

@@ -1,38 +1,40 @@
 //! Imports and exports (Core 1.0, 5.5.5 and 5.5.10).
 
-ghost use Rattle.wc_binary.specs.Externals.{kind as kind_phrase, desc as desc_phrase, import as import_phrase, export as export_phrase};
-ghost use Rattle.wc_binary.specs.Source.{Gives};
+ghost use Rattle.wc_binary.specs.Standard.Externals.{kind_of, kind as kind_phrase, desc as desc_phrase};
+ghost use Rattle.wc_binary.specs.Standard.Externals.{import as import_phrase, export as export_phrase};
+ghost use Rattle.wc_binary.specs.Reading.Source.{Gives};
 
+use crate::decoder::byte::{ByteTable, byte};
+use crate::decoder::from_source::FromSource;
 use crate::decoder::integer::u32;
-use crate::decoder::part::Part;
 use crate::decoder::types::{global_type, table_type};
 use crate::fault::{BinFault, BinWhy};
 use crate::source::Source;
 use std::alloc::Global;
 use wc_ast::{Desc, Export, ExportKind, Import, Limits, Name};
 
-#[tactic(auto, unfolding(crate::specs::Externals::kind))]
-fn kind<S: Source>(source: &mut S) -> Result<ExportKind, BinFault>
-    ensures { Gives kind_phrase (S.input source.old) (S.input source.new) result }
-{
-    let at = source.place();
-    match source.next()? {
-        None => Err(BinFault::Bad {
-            at,
-            why: BinWhy::End,
-        }),
-        Some(0) => Ok(ExportKind::Func),
-        Some(1) => Ok(ExportKind::Table),
-        Some(2) => Ok(ExportKind::Memory),
-        Some(3) => Ok(ExportKind::Global),
-        Some(_) => Err(BinFault::Bad {
-            at,
-            why: BinWhy::Tag,
-        }),
+impl ByteTable for ExportKind {
+    ghost table = { kind_of };
+
+    fn of_byte(byte: u8) -> Result<ExportKind, BinWhy> {
+        match byte {
+            0 => Ok(ExportKind::Func),
+            1 => Ok(ExportKind::Table),
+            2 => Ok(ExportKind::Memory),
+            3 => Ok(ExportKind::Global),
+            _ => Err(BinWhy::Tag),
+        }
     }
 }
 
-#[tactic(auto, unfolding(crate::specs::Externals::desc))]
+#[tactic(auto, unfolding(crate::specs::Standard::Externals::kind))]
+fn kind<S: Source>(source: &mut S) -> Result<ExportKind, BinFault>
+    ensures { Gives kind_phrase (S.input source.old) (S.input source.new) result }
+{
+    byte(source)
+}
+
+#[tactic(auto, unfolding(crate::specs::Standard::Externals::desc))]
 fn desc<S: Source>(alloc: Global, source: &mut S) -> Result<Desc, BinFault>
     ensures { Gives desc_phrase (S.input source.old) (S.input source.new) result }
 {
@@ -44,10 +46,10 @@ fn desc<S: Source>(alloc: Global, source: &mut S) -> Result<Desc, BinFault>
     }
 }
 
-impl Part for Import {
+impl FromSource for Import {
     ghost phrase = { import_phrase };
 
-    #[tactic(auto, unfolding(crate::specs::Externals::import))]
+    #[tactic(auto, unfolding(crate::specs::Standard::Externals::import))]
     fn read<S: Source>(alloc: Global, source: &mut S) -> Result<Import, BinFault> {
         let module = Name::read(alloc, source)?;
         let name = Name::read(alloc, source)?;
@@ -56,10 +58,10 @@ impl Part for Import {
     }
 }
 
-impl Part for Export {
+impl FromSource for Export {
     ghost phrase = { export_phrase };
 
-    #[tactic(auto, unfolding(crate::specs::Externals::export))]
+    #[tactic(auto, unfolding(crate::specs::Standard::Externals::export))]
     fn read<S: Source>(alloc: Global, source: &mut S) -> Result<Export, BinFault> {
         let name = Name::read(alloc, source)?;
         let kind = kind(source)?;

@@ -1,20 +1,23 @@
 //! What follows an opcode (Core 1.0, 5.4; Core 2.0 for block types).
 
 ghost use Rattle.std.specs.Prelude.{◌≡◌};
-ghost use Rattle.wc_ast.specs.declared.op.Op.TheVariants as ops;
-ghost use Rattle.wc_binary.specs.Instructions.{follows, zero_byte as zero_byte_phrase, head_of, headed, block_type as block_type_phrase};
-ghost use Rattle.wc_binary.specs.Source.{Gives};
-ghost use Rattle.wc_binary.specs.Values.{u32 as u32_phrase};
+ghost use Rattle.wc_ops.specs.declared.op.Op.TheVariants as ops;
+ghost use Rattle.wc_binary.specs.Standard.Instructions.{follows, zero_byte as zero_byte_phrase, head_of};
+ghost use Rattle.wc_binary.specs.Standard.Instructions.{headed, block_type as block_type_phrase};
+ghost use Rattle.wc_binary.specs.Reading.Source.{Gives};
+ghost use Rattle.wc_binary.specs.Standard.Values.{u32 as u32_phrase};
 
+use crate::decoder::byte::{ByteTable, any_byte, only};
+use crate::decoder::from_source::FromSource;
 use crate::decoder::integer::u32;
-use crate::decoder::part::{Part, times};
 use crate::decoder::signed::{s32, s64, signed_from};
-use crate::fault::{BinFault, BinWhy};
+use crate::decoder::vector::times;
+use crate::fault::{BinFault, BinWhy, bad};
 use crate::source::Source;
 use std::alloc::Global;
 use wc_ast::{BlockType, IndexOp, Instr, Labels, List, MemArg, MemOp, SimpleOp, ValType};
 
-impl Part for u32 {
+impl FromSource for u32 {
     ghost phrase = { u32_phrase };
 
     fn read<S: Source>(_alloc: Global, source: &mut S) -> Result<u32, BinFault> {
@@ -25,23 +28,12 @@ impl Part for u32 {
 fn zero_byte<S: Source>(source: &mut S) -> Result<(), BinFault>
     ensures { Gives zero_byte_phrase (S.input source.old) (S.input source.new) result }
 {
-    let at = source.place();
-    match source.next()? {
-        None => Err(BinFault::Bad {
-            at,
-            why: BinWhy::End,
-        }),
-        Some(0x00) => Ok(()),
-        Some(_) => Err(BinFault::Bad {
-            at,
-            why: BinWhy::ZeroByte,
-        }),
-    }
+    only(0x00, BinWhy::ZeroByte, source)
 }
 
 /// An instruction without immediates.
 #[inline(always)]
-#[tactic(auto, unfolding(crate::specs::Instructions::follows))]
+#[tactic(auto, unfolding(crate::specs::Standard::Instructions::follows))]
 pub fn simple<S: Source>(op: SimpleOp, source: &mut S) -> Result<Instr<'static>, BinFault>
     ensures { Gives (follows (ops.Simple op)) (S.input source.old) (S.input source.new) result }
 {
@@ -53,7 +45,7 @@ pub fn simple<S: Source>(op: SimpleOp, source: &mut S) -> Result<Instr<'static>,
 
 /// An instruction with an index.
 #[inline(always)]
-#[tactic(auto, unfolding(crate::specs::Instructions::follows))]
+#[tactic(auto, unfolding(crate::specs::Standard::Instructions::follows))]
 pub fn index<S: Source>(op: IndexOp, source: &mut S) -> Result<Instr<'static>, BinFault>
     ensures { Gives (follows (ops.Index op)) (S.input source.old) (S.input source.new) result }
 {
@@ -62,7 +54,7 @@ pub fn index<S: Source>(op: IndexOp, source: &mut S) -> Result<Instr<'static>, B
 
 /// A load or a store.
 #[inline(always)]
-#[tactic(auto, unfolding(crate::specs::Instructions::follows))]
+#[tactic(auto, unfolding(crate::specs::Standard::Instructions::follows))]
 pub fn memory<S: Source>(op: MemOp, source: &mut S) -> Result<Instr<'static>, BinFault>
     ensures { Gives (follows (ops.Mem op)) (S.input source.old) (S.input source.new) result }
 {
@@ -72,7 +64,7 @@ pub fn memory<S: Source>(op: MemOp, source: &mut S) -> Result<Instr<'static>, Bi
 }
 
 /// A `br_table`. Its labels go into this list, to which the instruction refers.
-#[tactic(auto, unfolding(crate::specs::Instructions::follows, crate::specs::Values::vector))]
+#[tactic(auto, unfolding(crate::specs::Standard::Instructions::follows, crate::specs::Standard::Values::vector))]
 pub fn br_table<'a, S: Source>(
     alloc: Global,
     labels: &'a mut List<u32>,
@@ -90,7 +82,7 @@ pub fn br_table<'a, S: Source>(
 }
 
 /// A `call_indirect`.
-#[tactic(auto, unfolding(crate::specs::Instructions::follows))]
+#[tactic(auto, unfolding(crate::specs::Standard::Instructions::follows))]
 pub fn call_indirect<S: Source>(source: &mut S) -> Result<Instr<'static>, BinFault>
     ensures { Gives (follows ops.CallIndirect) (S.input source.old) (S.input source.new) result }
 {
@@ -100,7 +92,7 @@ pub fn call_indirect<S: Source>(source: &mut S) -> Result<Instr<'static>, BinFau
 }
 
 /// An `i32.const`.
-#[tactic(auto, unfolding(crate::specs::Instructions::follows))]
+#[tactic(auto, unfolding(crate::specs::Standard::Instructions::follows))]
 pub fn i32_const<S: Source>(source: &mut S) -> Result<Instr<'static>, BinFault>
     ensures { Gives (follows ops.I32Const) (S.input source.old) (S.input source.new) result }
 {
@@ -108,7 +100,7 @@ pub fn i32_const<S: Source>(source: &mut S) -> Result<Instr<'static>, BinFault>
 }
 
 /// An `i64.const`.
-#[tactic(auto, unfolding(crate::specs::Instructions::follows))]
+#[tactic(auto, unfolding(crate::specs::Standard::Instructions::follows))]
 pub fn i64_const<S: Source>(source: &mut S) -> Result<Instr<'static>, BinFault>
     ensures { Gives (follows ops.I64Const) (S.input source.old) (S.input source.new) result }
 {
@@ -120,40 +112,26 @@ fn short_type(byte: u8) -> Result<BlockType, BinWhy>
 {
     match byte {
         0x40 => Ok(BlockType::Empty),
-        0x7f => Ok(BlockType::Value(ValType::I32)),
-        0x7e => Ok(BlockType::Value(ValType::I64)),
-        0x7d | 0x7c => Err(BinWhy::Float),
-        _ => Err(BinWhy::WrongType),
+        _ => Ok(BlockType::Value(ValType::of_byte(byte)?)),
     }
 }
 
 /// A block type.
-#[tactic(auto, unfolding(crate::specs::Instructions::block_type))]
+#[tactic(auto, unfolding(crate::specs::Standard::Instructions::block_type))]
 pub fn block_type<S: Source>(source: &mut S) -> Result<BlockType, BinFault>
     ensures { Gives block_type_phrase (S.input source.old) (S.input source.new) result }
 {
     let at = source.place();
-    let first = match source.next()? {
-        None => {
-            return Err(BinFault::Bad {
-                at,
-                why: BinWhy::End,
-            })
-        }
-        Some(first) => first,
-    };
+    let first = any_byte(source)?;
     if (0x40..0x80).contains(&first) {
         return match short_type(first) {
             Ok(short) => Ok(short),
-            Err(why) => Err(BinFault::Bad { at, why }),
+            Err(why) => Err(bad(at, why)),
         };
     }
     let index = signed_from::<33, S>(at, first, source)?;
     if index < 0 {
-        return Err(BinFault::Bad {
-            at,
-            why: BinWhy::WrongType,
-        });
+        return Err(bad(at, BinWhy::WrongType));
     }
     Ok(BlockType::Index(index as u32))
 }

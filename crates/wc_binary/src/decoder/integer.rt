@@ -1,31 +1,21 @@
 //! Integers (Core 1.0, 5.2.2).
 
 ghost use Rattle.std.specs.Prelude.{◌≡◌, ◌+◌, ◌∷◌};
-ghost use Rattle.wc_binary.specs.Reading.{unsigned_at};
-ghost use Rattle.wc_binary.specs.Values.{u32 as u32_phrase};
-ghost use Rattle.wc_binary.specs.declared.fault.BinFault.TheVariants as faults;
-ghost use Rattle.wc_binary.specs.declared.fault.BinWhy.TheVariants as reasons;
-ghost use Rattle.wc_binary.specs.Source.{Gives, Gave};
+ghost use Rattle.wc_binary.specs.Reading.Reading.{unsigned_at};
+ghost use Rattle.wc_binary.specs.Standard.Values.{u32 as u32_phrase};
+ghost use Rattle.wc_binary.specs.Reading.Source.{Gives, Gave};
 
-use crate::fault::{BinFault, BinWhy};
+use crate::decoder::byte::any_byte;
+use crate::fault::{BinFault, BinWhy, bad};
 use crate::source::Source;
 use wc_leb128::{Step, Unsigned};
-
-/// A byte is needed at this place, and none is left.
-fn end(at: u64) -> BinFault
-    ensures { result ≡ faults.Bad at reasons.End }
-{
-    BinFault::Bad {
-        at,
-        why: BinWhy::End,
-    }
-}
 
 /// An unsigned integer of 32 bits, whose first byte was read at this place.
 #[inline(never)]
 fn unsigned_from<S: Source>(start: u64, first: u8, source: &mut S) -> Result<u32, BinFault>
     requires { (S.input source.old).place ≡ start + 1 }
-    ensures { Gave (S.input source.old) (S.input source.new) result (unsigned_at 32 start (first ∷ (S.input source.old).left)) }
+    ensures { Gave (S.input source.old) (S.input source.new) result
+        (unsigned_at 32 start (first ∷ (S.input source.old).left)) }
 {
     let mut so_far = Unsigned::<32>::new();
     let mut at = start;
@@ -33,36 +23,24 @@ fn unsigned_from<S: Source>(start: u64, first: u8, source: &mut S) -> Result<u32
     loop {
         match so_far.push(byte) {
             Step::Done(value) => return Ok(value as u32),
-            Step::Bad => {
-                return Err(BinFault::Bad {
-                    at,
-                    why: BinWhy::Integer,
-                })
-            }
+            Step::Bad => return Err(bad(at, BinWhy::Integer)),
             Step::More => {}
         }
         at = source.place();
-        match source.next()? {
-            None => return Err(end(at)),
-            Some(next) => byte = next,
-        }
+        byte = any_byte(source)?;
     }
 }
 
 /// An unsigned integer of 32 bits. Most have one byte, so that case comes first and is inlined.
 #[inline(always)]
-#[tactic(auto, unfolding(crate::specs::Values::u32))]
+#[tactic(auto, unfolding(crate::specs::Standard::Values::u32))]
 pub fn u32<S: Source>(source: &mut S) -> Result<u32, BinFault>
     ensures { Gives u32_phrase (S.input source.old) (S.input source.new) result }
 {
     let at = source.place();
-    match source.next()? {
-        None => Err(end(at)),
-        Some(first) => {
-            if first < 128 {
-                return Ok(u32::from(first));
-            }
-            unsigned_from(at, first, source)
-        }
+    let first = any_byte(source)?;
+    if first < 128 {
+        return Ok(u32::from(first));
     }
+    unsigned_from(at, first, source)
 }

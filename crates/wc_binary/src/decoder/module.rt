@@ -1,13 +1,14 @@
 //! Whole modules (Core 1.0, 5.5.15).
 
 ghost use Rattle.std.specs.Prelude.{◌≡◌};
-ghost use Rattle.wc_binary.specs.Values.{exactly as exactly_phrase};
-ghost use Rattle.wc_binary.specs.Module.{preamble as preamble_phrase};
-ghost use Rattle.wc_binary.specs.Source.{Gives};
-ghost use Rattle.wc_binary.specs.Decoding.{SectionsGive, ModuleGives};
+ghost use Rattle.wc_binary.specs.Standard.Values.{exactly as exactly_phrase};
+ghost use Rattle.wc_binary.specs.Standard.Module.{preamble as preamble_phrase};
+ghost use Rattle.wc_binary.specs.Reading.Source.{Gives};
+ghost use Rattle.wc_binary.specs.Reading.Modules.{SectionsGive, ModuleGives};
 
+use crate::decoder::byte::only;
 use crate::decoder::section::{content, put, section_kind};
-use crate::fault::{BinFault, BinWhy};
+use crate::fault::{BinFault, BinWhy, bad};
 use crate::parts::Parts;
 use crate::source::Source;
 use std::alloc::Global;
@@ -18,25 +19,12 @@ fn exactly<S: Source>(bytes: &[u8], why: BinWhy, source: &mut S) -> Result<(), B
     ensures { Gives (exactly_phrase bytes.now why) (S.input source.old) (S.input source.new) result }
 {
     for b in bytes {
-        let at = source.place();
-        match source.next()? {
-            None => {
-                return Err(BinFault::Bad {
-                    at,
-                    why: BinWhy::End,
-                })
-            }
-            Some(byte) => {
-                if byte != *b {
-                    return Err(BinFault::Bad { at, why });
-                }
-            }
-        }
+        only(*b, why, source)?;
     }
     Ok(())
 }
 
-#[tactic(auto, unfolding(crate::specs::Module::preamble))]
+#[tactic(auto, unfolding(crate::specs::Standard::Module::preamble))]
 fn preamble<S: Source>(source: &mut S) -> Result<(), BinFault>
     ensures { Gives preamble_phrase (S.input source.old) (S.input source.new) result }
 {
@@ -58,10 +46,10 @@ fn sections<S: Source>(alloc: Global, source: &mut S) -> Result<Parts, BinFault>
         };
         let kind = match section_kind(last, byte) {
             Ok(kind) => kind,
-            Err(why) => return Err(BinFault::Bad { at, why }),
+            Err(why) => return Err(bad(at, why)),
         };
         let section = content(alloc, kind, source)?;
-        last = last.max(section.number());
+        last = last.max(section.kind().id());
         put(&mut parts, section);
     }
 }

@@ -1,15 +1,16 @@
 //! Names (Core 1.0, 5.2.4).
 
-ghost use Rattle.wc_binary.specs.Values.{name as name_phrase};
+ghost use Rattle.wc_binary.specs.Standard.Values.{name as name_phrase};
 
+use crate::decoder::from_source::FromSource;
 use crate::decoder::integer::u32;
-use crate::decoder::part::{Part, bytes};
-use crate::fault::{BinFault, BinWhy};
+use crate::decoder::vector::bytes;
+use crate::fault::{BinFault, BinWhy, bad};
 use crate::source::Source;
 use std::alloc::Global;
 use wc_ast::Name;
 
-impl Part for Name {
+impl FromSource for Name {
     ghost phrase = { name_phrase };
 
     /// A name. That its bytes are UTF-8 is judged once all of them were read.
@@ -19,10 +20,7 @@ impl Part for Name {
         let end = source.place();
         if let Err(error) = simdutf8::compat::from_utf8(bytes.as_slice()) {
             let at = end.saturating_sub((bytes.len() - error.valid_up_to()) as u64);
-            return Err(BinFault::Bad {
-                at,
-                why: BinWhy::NotUtf8,
-            });
+            return Err(bad(at, BinWhy::NotUtf8));
         }
         let text = unsafe { String::from_utf8_unchecked(bytes.into_vec()) };
         Ok(Name::from_string(text))

@@ -1,45 +1,26 @@
 //! Sections (Core 1.0, 5.5.2 to 5.5.14).
 
 ghost use Rattle.std.specs.Prelude.{◌≡◌};
-ghost use Rattle.wc_binary.specs.Sections.{skip as skip_phrase, custom as custom_phrase, start as start_phrase};
-ghost use Rattle.wc_binary.specs.Sections.{content as content_phrase, kind_of as kind_phrase, id_of, put as put_in};
-ghost use Rattle.wc_binary.specs.Source.{Gives};
+ghost use Rattle.wc_binary.specs.Standard.Sections.{skip as skip_phrase, custom as custom_phrase, start as start_phrase};
+ghost use Rattle.wc_binary.specs.Standard.Sections.{content as content_phrase, id_of, put as put_in};
+ghost use Rattle.wc_binary.specs.Standard.Values.{sized as sized_phrase};
+ghost use Rattle.wc_binary.specs.Reading.Source.{Gives};
 
+use crate::decoder::byte::any_byte;
+use crate::decoder::from_source::FromSource;
 use crate::decoder::integer::u32;
-use crate::decoder::part::{Part, sized};
-use crate::fault::{BinFault, BinWhy};
+use crate::fault::{BinFault, BinWhy, bad};
 use crate::parts::Parts;
 use crate::section::{Section, SectionKind};
 use crate::source::Source;
 use std::alloc::Global;
 use wc_ast::Name;
 
-/// The section of an id.
-fn kind_of(id: u8) -> Option<SectionKind>
-    ensures { result ≡ kind_phrase id }
-{
-    match id {
-        0 => Some(SectionKind::Custom),
-        1 => Some(SectionKind::Type),
-        2 => Some(SectionKind::Import),
-        3 => Some(SectionKind::Function),
-        4 => Some(SectionKind::Table),
-        5 => Some(SectionKind::Memory),
-        6 => Some(SectionKind::Global),
-        7 => Some(SectionKind::Export),
-        8 => Some(SectionKind::Start),
-        9 => Some(SectionKind::Element),
-        10 => Some(SectionKind::Code),
-        11 => Some(SectionKind::Data),
-        _ => None,
-    }
-}
-
 /// The section that a byte begins, where the last one that isn't custom has the id `last`.
 pub fn section_kind(last: u8, byte: u8) -> Result<SectionKind, BinWhy>
     ensures { result ≡ id_of last byte }
 {
-    match kind_of(byte) {
+    match SectionKind::of_id(byte) {
         None => Err(BinWhy::SectionId),
         Some(kind) => {
             if byte == 0 || last < byte {
@@ -57,23 +38,34 @@ fn skip<S: Source>(count: u64, source: &mut S) -> Result<(), BinFault>
 {
     let mut left = count;
     while left > 0 {
-        let at = source.place();
-        match source.next()? {
-            None => {
-                return Err(BinFault::Bad {
-                    at,
-                    why: BinWhy::End,
-                })
-            }
-            Some(_byte) => left -= 1,
-        }
+        let _byte = any_byte(source)?;
+        left -= 1;
         left -= source.pass(left);
     }
     Ok(())
 }
 
+/// A value behind its size. The size is judged once the value was read.
+#[tactic(auto, unfolding(crate::specs::Standard::Values::sized))]
+fn sized<V: FromSource + Drop, S: Source>(
+    alloc: Global,
+    why: BinWhy,
+    source: &mut S,
+) -> Result<V, BinFault>
+    ensures { Gives (sized_phrase why V.phrase) (S.input source.old) (S.input source.new) result }
+{
+    let at = source.place();
+    let size = u32(source)?;
+    let start = source.place();
+    let value = V::read(alloc, source)?;
+    if source.place() - start != size as u64 {
+        return Err(bad(at, why));
+    }
+    Ok(value)
+}
+
 /// A custom section behind its id. Its name is judged; then the rest of its size is dropped.
-#[tactic(auto, unfolding(crate::specs::Sections::custom))]
+#[tactic(auto, unfolding(crate::specs::Standard::Sections::custom))]
 fn custom<S: Source>(alloc: Global, source: &mut S) -> Result<(), BinFault>
     ensures { Gives custom_phrase (S.input source.old) (S.input source.new) result }
 {
@@ -83,26 +75,23 @@ fn custom<S: Source>(alloc: Global, source: &mut S) -> Result<(), BinFault>
     let _name = Name::read(alloc, source)?;
     let used = source.place() - start;
     if size < used {
-        return Err(BinFault::Bad {
-            at,
-            why: BinWhy::SectionSize,
-        });
+        return Err(bad(at, BinWhy::SectionSize));
     }
     skip(size - used, source)
 }
 
-impl Part for Option<u32> {
+impl FromSource for Option<u32> {
     ghost phrase = { start_phrase };
 
     /// The index of the start function.
-    #[tactic(auto, unfolding(crate::specs::Sections::start))]
+    #[tactic(auto, unfolding(crate::specs::Standard::Sections::start))]
     fn read<S: Source>(_alloc: Global, source: &mut S) -> Result<Option<u32>, BinFault> {
         Ok(Some(u32(source)?))
     }
 }
 
 /// What stands behind the id of a section.
-#[tactic(auto, unfolding(crate::specs::Sections::content))]
+#[tactic(auto, unfolding(crate::specs::Standard::Sections::content, crate::specs::Standard::Sections::behind_id))]
 pub fn content<S: Source>(
     alloc: Global,
     kind: SectionKind,

@@ -1,93 +1,65 @@
 //! Types (Core 1.0, 5.3).
 
-ghost use Rattle.wc_binary.specs.Types.{value_type, func_type, flag as flag_phrase, limits as limits_phrase};
-ghost use Rattle.wc_binary.specs.Types.{table_type as table_type_phrase, global_type as global_type_phrase};
-ghost use Rattle.wc_binary.specs.Values.{times as times_phrase, vector as vector_phrase};
-ghost use Rattle.wc_binary.specs.Source.{Gives};
+ghost use Rattle.wc_binary.specs.Standard.Types.{value_type, func_type, flag_of};
+ghost use Rattle.wc_binary.specs.Standard.Types.{flag as flag_phrase, limits as limits_phrase};
+ghost use Rattle.wc_binary.specs.Standard.Types.{table_type as table_type_phrase, global_type as global_type_phrase};
+ghost use Rattle.wc_binary.specs.Standard.Values.{times as times_phrase, vector as vector_phrase};
+ghost use Rattle.wc_binary.specs.Reading.Source.{Gives};
 
+use crate::decoder::byte::{ByteTable, byte, only};
+use crate::decoder::from_source::FromSource;
 use crate::decoder::integer::u32;
-use crate::decoder::part::Part;
 use crate::fault::{BinFault, BinWhy};
 use crate::source::Source;
 use crate::tables::Tables;
 use std::alloc::Global;
 use wc_ast::{FuncType, GlobalType, Limits, List, ValType};
 
-impl Part for ValType {
+impl FromSource for ValType {
     ghost phrase = { value_type };
 
-    #[tactic(auto, unfolding(crate::specs::Types::value_type))]
+    #[tactic(auto, unfolding(crate::specs::Standard::Types::value_type))]
     fn read<S: Source>(_alloc: Global, source: &mut S) -> Result<ValType, BinFault> {
-        let at = source.place();
-        match source.next()? {
-            None => Err(BinFault::Bad {
-                at,
-                why: BinWhy::End,
-            }),
-            Some(0x7f) => Ok(ValType::I32),
-            Some(0x7e) => Ok(ValType::I64),
-            Some(0x7d | 0x7c) => Err(BinFault::Bad {
-                at,
-                why: BinWhy::Float,
-            }),
-            Some(_) => Err(BinFault::Bad {
-                at,
-                why: BinWhy::WrongType,
-            }),
-        }
+        byte(source)
     }
 }
 
-impl Part for FuncType {
+impl FromSource for FuncType {
     ghost phrase = { func_type };
 
-    #[tactic(auto, unfolding(crate::specs::Types::func_type))]
+    #[tactic(auto, unfolding(crate::specs::Standard::Types::func_type))]
     fn read<S: Source>(alloc: Global, source: &mut S) -> Result<FuncType, BinFault> {
-        let at = source.place();
-        match source.next()? {
-            None => {
-                return Err(BinFault::Bad {
-                    at,
-                    why: BinWhy::End,
-                })
-            }
-            Some(0x60) => {}
-            Some(_) => {
-                return Err(BinFault::Bad {
-                    at,
-                    why: BinWhy::WrongType,
-                })
-            }
-        }
+        only(0x60, BinWhy::WrongType, source)?;
         let params = List::read(alloc, source)?;
         let results = List::read(alloc, source)?;
         Ok(FuncType { params, results })
     }
 }
 
-#[tactic(auto, unfolding(crate::specs::Types::flag))]
-fn flag<S: Source>(source: &mut S) -> Result<bool, BinFault>
-    ensures { Gives flag_phrase (S.input source.old) (S.input source.new) result }
-{
-    let at = source.place();
-    match source.next()? {
-        None => Err(BinFault::Bad {
-            at,
-            why: BinWhy::End,
-        }),
-        Some(0) => Ok(false),
-        Some(1) => Ok(true),
-        Some(_) => Err(BinFault::Bad {
-            at,
-            why: BinWhy::Tag,
-        }),
+impl ByteTable for bool {
+    ghost table = { flag_of };
+
+    /// Zero for no, one for yes.
+    fn of_byte(byte: u8) -> Result<bool, BinWhy> {
+        match byte {
+            0 => Ok(false),
+            1 => Ok(true),
+            _ => Err(BinWhy::Tag),
+        }
     }
 }
 
-impl Part for Limits {
+#[tactic(auto, unfolding(crate::specs::Standard::Types::flag))]
+fn flag<S: Source>(source: &mut S) -> Result<bool, BinFault>
+    ensures { Gives flag_phrase (S.input source.old) (S.input source.new) result }
+{
+    byte(source)
+}
+
+impl FromSource for Limits {
     ghost phrase = { limits_phrase };
 
-    #[tactic(auto, unfolding(crate::specs::Types::limits))]
+    #[tactic(auto, unfolding(crate::specs::Standard::Types::limits))]
     fn read<S: Source>(_alloc: Global, source: &mut S) -> Result<Limits, BinFault> {
         let has_max = flag(source)?;
         let min = u32(source)?;
@@ -96,22 +68,12 @@ impl Part for Limits {
     }
 }
 
-#[tactic(auto, unfolding(crate::specs::Types::table_type))]
+#[tactic(auto, unfolding(crate::specs::Standard::Types::table_type))]
 pub fn table_type<S: Source>(alloc: Global, source: &mut S) -> Result<Limits, BinFault>
     ensures { Gives table_type_phrase (S.input source.old) (S.input source.new) result }
 {
-    let at = source.place();
-    match source.next()? {
-        None => Err(BinFault::Bad {
-            at,
-            why: BinWhy::End,
-        }),
-        Some(0x70) => Limits::read(alloc, source),
-        Some(_) => Err(BinFault::Bad {
-            at,
-            why: BinWhy::WrongType,
-        }),
-    }
+    only(0x70, BinWhy::WrongType, source)?;
+    Limits::read(alloc, source)
 }
 
 fn table_types<S: Source>(
@@ -128,10 +90,10 @@ fn table_types<S: Source>(
     Ok(tables)
 }
 
-impl Part for Tables {
+impl FromSource for Tables {
     ghost phrase = { vector_phrase table_type_phrase };
 
-    #[tactic(auto, unfolding(crate::specs::Values::vector))]
+    #[tactic(auto, unfolding(crate::specs::Standard::Values::vector))]
     fn read<S: Source>(alloc: Global, source: &mut S) -> Result<Tables, BinFault> {
         let count = u32(source)?;
         let limits = table_types(alloc, count, source)?;
@@ -139,7 +101,7 @@ impl Part for Tables {
     }
 }
 
-#[tactic(auto, unfolding(crate::specs::Types::global_type))]
+#[tactic(auto, unfolding(crate::specs::Standard::Types::global_type))]
 pub fn global_type<S: Source>(alloc: Global, source: &mut S) -> Result<GlobalType, BinFault>
     ensures { Gives global_type_phrase (S.input source.old) (S.input source.new) result }
 {

@@ -1,8 +1,9 @@
 //! Globals and segments (Core 1.0, 5.5.9, 5.5.12 and 5.5.14).
 
-ghost use Rattle.wc_binary.specs.WrittenContents.{global_bytes, elem_bytes, data_bytes, FitsGlobal, FitsElem, FitsData};
-ghost use Rattle.wc_binary.specs.Heads.{front_bytes};
-ghost use Rattle.wc_binary.specs.Encoding.{Writes};
+ghost use Rattle.wc_binary.specs.Writing.Contents.{global_bytes, elem_bytes, data_bytes};
+ghost use Rattle.wc_binary.specs.Writing.Contents.{FitsGlobal, FitsElem, FitsData};
+ghost use Rattle.wc_binary.specs.Writing.Heads.{data_head_bytes};
+ghost use Rattle.wc_binary.specs.Writing.Writes.{Writes};
 
 use crate::encoder::item::{Item, write_vector};
 use crate::encoder::measured::Measured;
@@ -35,8 +36,8 @@ impl Item for Elem {
 }
 
 /// Writes what stands before the bytes of a segment, and their count.
-fn write_front(out: &mut Vec<u8>, segment: &Data) -> Result<(), EncFault>
-    ensures { Writes (FitsData segment.now) out.old.items out.new.items (front_bytes segment.now) result }
+fn write_data_head(out: &mut Vec<u8>, segment: &Data) -> Result<(), EncFault>
+    ensures { Writes (FitsData segment.now) out.old.items out.new.items (data_head_bytes segment.now) result }
 {
     write_u32(out, segment.memory)?;
     segment.offset.write(out)?;
@@ -48,14 +49,14 @@ impl Measured for Data {
 
     ghost Fits = { FitsData };
 
-    fn size(&self, front: &mut Vec<u8>, _scratch: &mut Vec<u8>) -> Result<usize, EncFault> {
-        front.clear();
-        write_front(front, self)?;
-        Ok(front.len().saturating_add(self.bytes.len()))
+    fn size(&self, head: &mut Vec<u8>, _scratch: &mut Vec<u8>) -> Result<usize, EncFault> {
+        head.clear();
+        write_data_head(head, self)?;
+        Ok(head.len().saturating_add(self.bytes.len()))
     }
 
     fn write(&self, out: &mut Vec<u8>, _scratch: &mut Vec<u8>) -> Result<(), EncFault> {
-        write_front(out, self)?;
+        write_data_head(out, self)?;
         out.extend_from_slice(self.bytes.as_slice())?;
         Ok(())
     }

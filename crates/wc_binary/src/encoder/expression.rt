@@ -1,6 +1,6 @@
 //! Expressions (Core 1.0, 5.4.6).
 
-ghost use Rattle.wc_ast.specs.InstructionBytes.{expr_bytes, FitsExpr};
+ghost use Rattle.wc_body.specs.Standard.InstructionBytes.{expr_bytes, FitsExpr};
 
 use crate::encoder::item::Item;
 use crate::fault::EncFault;

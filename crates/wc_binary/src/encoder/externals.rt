@@ -1,9 +1,10 @@
 //! Imports and exports (Core 1.0, 5.5.5 and 5.5.10).
 
 ghost use Rattle.std.specs.Prelude.{◌≡◌, ◌∷◌, []};
-ghost use Rattle.wc_binary.specs.Written.{name_bytes, kind_bytes, desc_bytes, import_bytes, export_bytes, FitsName};
-ghost use Rattle.wc_binary.specs.Written.{FitsDesc, FitsImport, FitsExport};
-ghost use Rattle.wc_binary.specs.Encoding.{Writes};
+ghost use Rattle.wc_binary.specs.Writing.Values.{name_bytes, kind_bytes, desc_bytes};
+ghost use Rattle.wc_binary.specs.Writing.Values.{import_bytes, export_bytes, FitsName};
+ghost use Rattle.wc_binary.specs.Writing.Values.{FitsDesc, FitsImport, FitsExport};
+ghost use Rattle.wc_binary.specs.Writing.Writes.{Writes};
 
 use crate::encoder::item::Item;
 use crate::encoder::types::{write_global_type, write_table_type};

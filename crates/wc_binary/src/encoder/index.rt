@@ -1,7 +1,7 @@
 //! Vectors of indices (Core 1.0, 5.5.1).
 
-ghost use Rattle.wc_leb128.specs.Shortest.{unsigned_bytes};
-ghost use Rattle.wc_ast.specs.ValueBytes.{Fits32};
+ghost use Rattle.wc_leb128.specs.Writing.Bytes.{unsigned_bytes};
+ghost use Rattle.wc_body.specs.Standard.ValueBytes.{Fits32};
 
 use crate::encoder::item::Item;
 use crate::encoder::value::write_u32;

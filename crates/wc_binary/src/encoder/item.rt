@@ -1,12 +1,14 @@
 //! Vectors and sections of items (Core 1.0, 5.1.3 and 5.5.2).
 
 ghost use Rattle.std.specs.Prelude.{ℕ, List as Seq, [], ◌∷◌, ◌++◌, length};
-ghost use Rattle.wc_ast.specs.ValueBytes.{vector_bytes, Fits32, FitsVector};
-ghost use Rattle.wc_binary.specs.Written.{section_bytes, sized_bytes, FitsSection};
-ghost use Rattle.wc_binary.specs.Encoding.{Writes};
+ghost use Rattle.wc_body.specs.Standard.ValueBytes.{vector_bytes, Fits32, FitsVector};
+ghost use Rattle.wc_binary.specs.Writing.Values.{section_bytes, sized_bytes, FitsSection};
+ghost use Rattle.wc_binary.specs.Standard.Sections.{section_id};
+ghost use Rattle.wc_binary.specs.Writing.Writes.{Writes};
 
 use crate::encoder::value::write_length;
 use crate::fault::EncFault;
+use crate::section::SectionKind;
 use std::alloc::Global;
 
 /// What stands in vectors.
@@ -32,11 +34,11 @@ pub fn write_vector<I: Item>(out: &mut Vec<u8>, items: &[I]) -> Result<(), EncFa
 }
 
 /// Writes a section that holds something: its id, the size of its content, and the content.
-pub fn write_content(out: &mut Vec<u8>, id: u8, content: &[u8]) -> Result<(), EncFault>
+pub fn write_content(out: &mut Vec<u8>, kind: SectionKind, content: &[u8]) -> Result<(), EncFault>
     ensures { Writes (Fits32 (length content.now)) out.old.items out.new.items
-        ((id ∷ []) ++ sized_bytes content.now) result }
+        ((section_id kind ∷ []) ++ sized_bytes content.now) result }
 {
-    out.push(id)?;
+    out.push(kind.id())?;
     write_length(out, content.len())?;
     out.extend_from_slice(content)?;
     Ok(())
@@ -46,16 +48,16 @@ pub fn write_content(out: &mut Vec<u8>, id: u8, content: &[u8]) -> Result<(), En
 pub fn write_section<I: Item>(
     alloc: Global,
     out: &mut Vec<u8>,
-    id: u8,
+    kind: SectionKind,
     items: &[I],
 ) -> Result<(), EncFault>
     ensures { Writes (FitsSection I.bytes I.Fits items.now) out.old.items out.new.items
-        (section_bytes id I.bytes items.now) result }
+        (section_bytes (section_id kind) I.bytes items.now) result }
 {
     if items.is_empty() {
         return Ok(());
     }
     let mut content = Vec::new(alloc);
     write_vector(&mut content, items)?;
-    write_content(out, id, content.as_slice())
+    write_content(out, kind, content.as_slice())
 }

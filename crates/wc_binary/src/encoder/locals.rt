@@ -1,7 +1,7 @@
 //! Declared locals (Core 1.0, 5.5.13).
 
-ghost use Rattle.wc_binary.specs.Written.{Anything};
-ghost use Rattle.wc_binary.specs.WrittenLocals.{group_bytes, locals_bytes, FitsLocals};
+ghost use Rattle.wc_binary.specs.Writing.Values.{Anything};
+ghost use Rattle.wc_binary.specs.Writing.Locals.{group_bytes, locals_bytes, FitsLocals};
 
 use crate::encoder::item::{Item, write_vector};
 use crate::encoder::value::write_u32;

@@ -2,12 +2,14 @@
 //! written, so these needn't be laid out for the count.
 
 ghost use Rattle.std.specs.Prelude.{ℕ, List as Seq, length};
-ghost use Rattle.wc_ast.specs.ValueBytes.{vector_bytes, FitsVector};
-ghost use Rattle.wc_binary.specs.Written.{section_bytes, FitsSection};
-ghost use Rattle.wc_binary.specs.Encoding.{Writes, Measures};
+ghost use Rattle.wc_body.specs.Standard.ValueBytes.{vector_bytes, FitsVector};
+ghost use Rattle.wc_binary.specs.Writing.Values.{section_bytes, FitsSection};
+ghost use Rattle.wc_binary.specs.Standard.Sections.{section_id};
+ghost use Rattle.wc_binary.specs.Writing.Writes.{Writes, Measures};
 
 use crate::encoder::value::write_length;
 use crate::fault::EncFault;
+use crate::section::SectionKind;
 use std::alloc::Global;
 
 /// What stands in such a section. The two vectors are room for parts that are laid out on the way.
@@ -17,7 +19,7 @@ pub trait Measured: Sized {
     ghost Fits: { Self → Type 0 };
 
     /// How many bytes the item takes.
-    fn size(&self, front: &mut Vec<u8>, scratch: &mut Vec<u8>) -> Result<usize, EncFault>
+    fn size(&self, head: &mut Vec<u8>, scratch: &mut Vec<u8>) -> Result<usize, EncFault>
         ensures { Measures (Fits self.now) (length (bytes self.now)) result };
 
     /// Writes the item.
@@ -29,12 +31,12 @@ pub trait Measured: Sized {
 fn vector_size<M: Measured>(alloc: Global, items: &[M]) -> Result<usize, EncFault>
     ensures { Measures (FitsVector M.Fits items.now) (length (vector_bytes M.bytes items.now)) result }
 {
-    let mut front = Vec::new(alloc);
+    let mut head = Vec::new(alloc);
     let mut scratch = Vec::new(alloc);
-    write_length(&mut front, items.len())?;
-    let mut size = front.len();
+    write_length(&mut head, items.len())?;
+    let mut size = head.len();
     for item in items {
-        size = size.saturating_add(item.size(&mut front, &mut scratch)?);
+        size = size.saturating_add(item.size(&mut head, &mut scratch)?);
     }
     Ok(size)
 }
@@ -54,17 +56,17 @@ fn write_items<M: Measured>(alloc: Global, out: &mut Vec<u8>, items: &[M]) -> Re
 pub fn write_measured<M: Measured>(
     alloc: Global,
     out: &mut Vec<u8>,
-    id: u8,
+    kind: SectionKind,
     items: &[M],
 ) -> Result<(), EncFault>
     ensures { Writes (FitsSection M.bytes M.Fits items.now) out.old.items out.new.items
-        (section_bytes id M.bytes items.now) result }
+        (section_bytes (section_id kind) M.bytes items.now) result }
 {
     if items.is_empty() {
         return Ok(());
     }
     let size = vector_size(alloc, items)?;
-    out.push(id)?;
+    out.push(kind.id())?;
     write_length(out, size)?;
     out.reserve(size)?;
     write_items(alloc, out, items)

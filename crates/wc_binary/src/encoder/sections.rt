@@ -1,9 +1,10 @@
 //! The sections of a module (Core 1.0, 5.5.15).
 
-ghost use Rattle.wc_binary.specs.Module.{parts_of};
-ghost use Rattle.wc_binary.specs.Written.{start_bytes, FitsStart};
-ghost use Rattle.wc_binary.specs.WrittenModule.{sections_bytes, FitsSections};
-ghost use Rattle.wc_binary.specs.Encoding.{Writes};
+ghost use Rattle.wc_binary.specs.Standard.Module.{parts_of};
+ghost use Rattle.wc_binary.specs.Writing.Values.{start_bytes, FitsStart};
+ghost use Rattle.wc_binary.specs.Writing.Sections.{sections_bytes, FitsSections};
+ghost use Rattle.wc_binary.specs.Standard.Sections.{section_id};
+ghost use Rattle.wc_binary.specs.Writing.Writes.{Writes};
 
 use crate::encoder::funcs::{write_code_section, write_type_section};
 use crate::encoder::item::{write_content, write_section};
@@ -11,19 +12,21 @@ use crate::encoder::measured::write_measured;
 use crate::encoder::types::write_table_section;
 use crate::encoder::value::write_u32;
 use crate::fault::EncFault;
+use crate::section::SectionKind;
 use std::alloc::Global;
 use wc_ast::Module;
 
 /// Writes the start section, unless there is no start function.
 fn write_start_section(alloc: Global, out: &mut Vec<u8>, start: Option<u32>) -> Result<(), EncFault>
-    ensures { Writes (FitsStart start) out.old.items out.new.items (start_bytes 8 start) result }
+    ensures { Writes (FitsStart start) out.old.items out.new.items
+        (start_bytes (section_id SectionKind.Start) start) result }
 {
     let Some(index) = start else {
         return Ok(());
     };
     let mut content = Vec::new(alloc);
     write_u32(&mut content, index)?;
-    write_content(out, 8, content.as_slice())
+    write_content(out, SectionKind::Start, content.as_slice())
 }
 
 /// Writes the sections of a module that hold something, in the order of their ids.
@@ -31,15 +34,15 @@ pub fn write_sections(alloc: Global, out: &mut Vec<u8>, m: &Module) -> Result<()
     ensures { Writes (FitsSections (parts_of m.now)) out.old.items out.new.items
         (sections_bytes (parts_of m.now)) result }
 {
-    write_section(alloc, out, 1, m.types.as_slice())?;
-    write_section(alloc, out, 2, m.imports.as_slice())?;
+    write_section(alloc, out, SectionKind::Type, m.types.as_slice())?;
+    write_section(alloc, out, SectionKind::Import, m.imports.as_slice())?;
     write_type_section(alloc, out, m.funcs.as_slice())?;
     write_table_section(alloc, out, m.tables.as_slice())?;
-    write_section(alloc, out, 5, m.mems.as_slice())?;
-    write_section(alloc, out, 6, m.globals.as_slice())?;
-    write_section(alloc, out, 7, m.exports.as_slice())?;
+    write_section(alloc, out, SectionKind::Memory, m.mems.as_slice())?;
+    write_section(alloc, out, SectionKind::Global, m.globals.as_slice())?;
+    write_section(alloc, out, SectionKind::Export, m.exports.as_slice())?;
     write_start_section(alloc, out, m.start)?;
-    write_section(alloc, out, 9, m.elems.as_slice())?;
+    write_section(alloc, out, SectionKind::Element, m.elems.as_slice())?;
     write_code_section(alloc, out, m.funcs.as_slice())?;
-    write_measured(alloc, out, 11, m.datas.as_slice())
+    write_measured(alloc, out, SectionKind::Data, m.datas.as_slice())
 }

@@ -1,13 +1,16 @@
 //! Types (Core 1.0, 5.3).
 
-ghost use Rattle.wc_ast.specs.ValueBytes.{value_type_bytes, vector_bytes, FitsVector};
-ghost use Rattle.wc_binary.specs.Written.{func_type_bytes, limits_bytes, table_type_bytes, global_type_bytes};
-ghost use Rattle.wc_binary.specs.Written.{section_bytes, Anything, FitsFuncType, FitsLimits, FitsSection};
-ghost use Rattle.wc_binary.specs.Encoding.{Writes};
+ghost use Rattle.wc_body.specs.Standard.ValueBytes.{value_type_bytes, vector_bytes, FitsVector};
+ghost use Rattle.wc_binary.specs.Writing.Values.{func_type_bytes, limits_bytes, table_type_bytes, global_type_bytes};
+ghost use Rattle.wc_binary.specs.Writing.Values.{section_bytes, Anything, FitsFuncType, FitsLimits, FitsSection};
+ghost use Rattle.wc_binary.specs.Standard.Sections.{section_id};
+ghost use Rattle.wc_binary.specs.Writing.Writes.{Writes};
 
 use crate::encoder::item::{Item, write_content, write_vector};
 use crate::encoder::value::{write_length, write_u32};
 use crate::fault::EncFault;
+use crate::section::SectionKind;
+use crate::value_type::byte_of;
 use std::alloc::Global;
 use wc_ast::{FuncType, GlobalType, Limits, ValType};
 
@@ -17,10 +20,7 @@ impl Item for ValType {
     ghost Fits = { Anything };
 
     fn write(&self, out: &mut Vec<u8>) -> Result<(), EncFault> {
-        out.push(match self {
-            ValType::I32 => 0x7f,
-            ValType::I64 => 0x7e,
-        })?;
+        out.push(byte_of(*self))?;
         Ok(())
     }
 }
@@ -84,14 +84,14 @@ pub fn write_table_section(
     tables: &[Limits],
 ) -> Result<(), EncFault>
     ensures { Writes (FitsSection table_type_bytes FitsLimits tables.now) out.old.items out.new.items
-        (section_bytes 4 table_type_bytes tables.now) result }
+        (section_bytes (section_id SectionKind.Table) table_type_bytes tables.now) result }
 {
     if tables.is_empty() {
         return Ok(());
     }
     let mut content = Vec::new(alloc);
     write_table_types(&mut content, tables)?;
-    write_content(out, 4, content.as_slice())
+    write_content(out, SectionKind::Table, content.as_slice())
 }
 
 /// Writes a global type.

@@ -1,8 +1,8 @@
 //! Integers and lengths by their shortest spellings (Core 1.0, 5.2.2).
 
 ghost use Rattle.std.specs.Prelude.{◌≡◌, ◌++◌, ◌<◌, ◌^◌, OnOk};
-ghost use Rattle.wc_leb128.specs.Shortest.{unsigned_bytes};
-ghost use Rattle.wc_binary.specs.Encoding.{Writes};
+ghost use Rattle.wc_leb128.specs.Writing.Bytes.{unsigned_bytes};
+ghost use Rattle.wc_binary.specs.Writing.Writes.{Writes};
 
 use crate::fault::EncFault;
 use std::alloc::AllocError;

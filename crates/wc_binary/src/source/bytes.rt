@@ -1,6 +1,6 @@
 //! The bytes of a slice, which never fail.
 
-ghost use Rattle.std.specs.Prelude.{◌≤◌, length};
+ghost use Rattle.std.specs.Prelude.{◌≤◌, ◌-◌, length};
 
 use crate::fault::BinFault;
 use crate::source::Source;
@@ -17,7 +17,16 @@ pub struct Bytes<'a> {
 impl Source for Bytes<'_> {
     ghost use Rattle.std.specs.Prelude.{drop, true, false};
 
-    ghost input = { λ s. record { place = s.at; known = true; left = drop s.at s.bytes.now; failed = false; count = 0; lender = 0 } };
+    ghost input = { λ s. record {
+      place = s.at;
+      known = true;
+      left = drop s.at s.bytes.now;
+      failed = false;
+      count = 0;
+      lender = 0;
+    } };
+
+    ghost at_hand = { λ s. length s.bytes.now - s.at };
 
     fn place(&self) -> u64 {
         self.at as u64

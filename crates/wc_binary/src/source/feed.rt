@@ -2,6 +2,7 @@
 
 ghost use Rattle.std.specs.Prelude.{◌≤◌, ◌-◌};
 ghost use Rattle.wc_device.specs.Device.{read_count};
+ghost use Rattle.wc_binary.specs.Standard.Decoding.{buffer_size};
 
 use crate::fault::BinFault;
 use crate::source::Source;
@@ -9,24 +10,29 @@ use std::alloc::AllocError;
 use std::io::Read;
 use wc_device::Device;
 
-/// A reader and its bytes that were read and not yet taken, which lie in the buffer from `at` up to `end`. The buffer is
-/// filled by one read, and only once all its bytes were taken: so a fault in bytes that were read comes before the
+/// How many bytes a read gives at most. A fault is told after at most so many more were read.
+pub const BUFFER_SIZE: usize = 4096;
+
+/// A reader and its bytes that were read and not yet taken, which lie in the buffer from `at` up to `end`. The buffer
+/// is filled by one read, and only once all its bytes were taken: so a fault in bytes that were read comes before the
 /// failure of a later read.
 #[derive(Drop)]
 pub struct Feed<'a, R> {
     pub device: &'a mut Device<R>,
-    pub buffer: [u8; 4096],
+    pub buffer: [u8; BUFFER_SIZE],
     pub at: usize,
     pub end: usize,
-    pub ghost within: { end ≤ 4096 },
+    pub ghost within: { end ≤ buffer_size },
     pub ghost ordered: { at ≤ end },
     pub ghost counted: { end - at ≤ read_count device.now },
 }
 
 impl<R: Read> Source for Feed<'_, R> {
-    ghost use Rattle.wc_binary.specs.Feed.{feed_input};
+    ghost use Rattle.wc_binary.specs.Reading.Feed.{feed_input};
 
     ghost input = { feed_input R.remaining };
+
+    ghost at_hand = { λ f. f.end - f.at };
 
     fn place(&self) -> u64 {
         self.device.count() - (self.end - self.at) as u64

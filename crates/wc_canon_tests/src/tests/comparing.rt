@@ -22,11 +22,17 @@ fn modules_are_compared(rt: HostRuntime) -> Result<(), Fail> {
     let customs: &[u8] = b"\0asm\x01\0\0\0\x01\x01\0\0\x02\x01a";
     let cut: &[u8] = b"\0asm\x01\0\0\0\x01";
     for (a, b, text) in [
+        // custom section apart
         (empty, customs, "Same"),
+        // padding apart
         (PADDED, SHORT, "Same"),
+        // a type more
         (empty, PADDED, "Different"),
+        // B refused
         (empty, cut, "B: byte 9: unexpected end"),
+        // A refused
         (cut, empty, "A: byte 9: unexpected end"),
+        // both refused
         (&cut[..7], cut, "A: byte 7: unexpected end"),
     ] {
         assert_eq!(rt; told(rt.alloc(), compare(rt.alloc(), a, b))?.as_str(), text);

@@ -43,11 +43,6 @@ fn broken_rules_are_rendered(rt: HostRuntime) -> Result<(), Fail> {
     let label = Item::Instr { func: 0, number: 1 };
     for (item, why, text) in [
         (
-            Item::FuncType(4),
-            CheckWhy::TypeIndex,
-            "type 4: type index out of range",
-        ),
-        (
             Item::Import(10),
             CheckWhy::Limits,
             "import 10: limits out of range",

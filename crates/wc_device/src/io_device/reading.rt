@@ -1,8 +1,9 @@
 //! Reading from a device.
-ghost use Rattle.std.specs.Prelude.{◌≡◌, ◌+◌, ◌<◌, length, IsErr, IfOk, OnOk, OnErr, true};
+ghost use Rattle.std.specs.Prelude.{◌≡◌, ◌+◌, ◌<◌, ◌||◌, length, IsErr, IfOk, OnOk, OnErr, true};
 ghost use Rattle.std.specs.Io.{ReadsAtMost};
 ghost use Rattle.std.specs.Io.KnownBytes.{ReadConsumes};
-ghost use Rattle.wc_device.specs.Device.{device_inner, has_failed, read_count};
+ghost use Rattle.wc_device.specs.Device.{device_inner, failed_at, first_failure, has_failed, read_count};
+ghost use Rattle.wc_device.specs.Device.{was_asked_again, has_ended};
 
 use super::Device;
 use std::io;
@@ -16,7 +17,7 @@ impl<R: Read> Device<R> {
     ///
     /// # Errors
     /// The reader's own error, of any kind. Where the count has reached 2^64 - 1 and the buffer isn't
-    /// empty, an error of kind `Other`, and the reader isn't asked. No byte is counted, and the failure is kept.
+    /// empty, an error of kind `Other`, and the reader isn't asked. No byte is counted, and the first failure is kept.
     // Once for a buffer of bytes, so it doesn't burden what goes over these one by one.
     #[inline(never)]
     pub fn read(&mut self, buf: &mut [u8]) -> io::Result<usize>
@@ -30,17 +31,26 @@ impl<R: Read> Device<R> {
 
         ensures fails { OnErr result (has_failed self.new ≡ true) }
         ensures goes_on { OnOk result (has_failed self.new ≡ has_failed self.old) }
+        ensures place { OnErr result (failed_at self.new ≡ first_failure (failed_at self.old) (read_count self.old)) }
+        ensures no_place { OnOk result (failed_at self.new ≡ failed_at self.old) }
+
+        ensures ends { IfOk result (λ n. n ≡ 0 → 0 < length buf.old → has_ended self.new ≡ true) }
+        ensures has_more { IfOk result (λ n. 0 < n → has_ended self.new ≡ has_ended self.old) }
+        ensures again { was_asked_again self.new
+            ≡ (was_asked_again self.old || (has_failed self.old || has_ended self.old)) }
     {
+        self.asked_again = self.asked_again || self.failed_at.is_some() || self.ended;
         let room = u64::MAX - self.count;
         let most = (buf.len() as u64).min(room) as usize;
         if most == 0 && !buf.is_empty() {
-            self.failed = true;
+            self.fail();
             return Err(Error::from(ErrorKind::Other));
         }
         let outcome = self.inner.read(&mut buf[..most]);
         match &outcome {
+            Ok(0) if most > 0 => self.ended = true,
             Ok(n) => self.count += *n as u64,
-            Err(_) => self.failed = true,
+            Err(_) => self.fail(),
         }
         outcome
     }

@@ -212,3 +212,82 @@ fn bytes_go_through(rt: HostRuntime) -> Result<(), Fail> {
     );
     Ok(())
 }
+
+#[test]
+fn the_first_failure_and_the_end_are_kept(rt: HostRuntime) -> Result<(), Fail> {
+    // bytes a call, the call that fails; the place, the end and whether it was asked again, after each of three reads
+    for (piece, fails_at, told) in [
+        // none
+        (
+            3,
+            0,
+            [
+                (None, false, false),
+                (None, false, false),
+                (None, false, false),
+            ],
+        ),
+        // a failure at the second read
+        (
+            3,
+            2,
+            [
+                (None, false, false),
+                (Some(3), false, false),
+                (Some(3), false, true),
+            ],
+        ),
+        // the end at the first read
+        (
+            0,
+            0,
+            [(None, true, false), (None, true, true), (None, true, true)],
+        ),
+    ] {
+        let mut device = in_pieces(piece, fails_at);
+        for (failed_at, ended, asked_again) in told {
+            let mut buf = [0u8; 4];
+            let _ = device.read(&mut buf);
+            assert_eq!(rt; device.failed_at(), failed_at);
+            assert_eq!(rt;
+                (device.ended(), device.asked_again()),
+                (ended, asked_again)
+            );
+        }
+    }
+    Ok(())
+}
+
+#[test]
+fn long_pieces_are_handed_on_whole(rt: HostRuntime) -> Result<(), Fail> {
+    let mut device = in_pieces(100_000, 0);
+    let mut buf = [0u8; 70_000];
+    assert_eq!(rt; device.read(&mut buf)?, 70_000);
+    assert_eq!(rt; device.write(&buf)?, 70_000);
+    assert_eq!(rt; (device.count(), device.inner().calls), (70_000, 2));
+    Ok(())
+}
+
+#[test]
+fn all_is_sent_and_flushed_once(rt: HostRuntime) -> Result<(), Fail> {
+    // bytes a call, the call that fails; what is told, the writes and the flushes
+    for (piece, fails_at, told, calls, flushes) in [
+        // in pieces
+        (3, 0, Ok(()), 3, 1),
+        // the third write fails
+        (3, 3, Err(6), 3, 0),
+        // nothing is taken
+        (0, 0, Err(0), 1, 0),
+        // the first write fails
+        (9, 1, Err(0), 1, 0),
+    ] {
+        let mut device = in_pieces(piece, fails_at);
+        assert_eq!(rt; device.send(b"abcdefg"), told);
+        assert_eq!(rt;
+            (device.inner().calls, device.inner().flushes),
+            (calls, flushes)
+        );
+        assert_eq!(rt; device.failed(), told.is_err());
+    }
+    Ok(())
+}

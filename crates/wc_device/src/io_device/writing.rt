@@ -1,7 +1,7 @@
 //! Writing to a device.
-ghost use Rattle.std.specs.Prelude.{◌≡◌, ◌<◌, length, IfOk, OnOk, OnErr, true};
+ghost use Rattle.std.specs.Prelude.{◌≡◌, ◌<◌, ◌≤◌, length, take, IfOk, IfErr, OnOk, OnErr, true};
 ghost use Rattle.std.specs.Io.{WritesAtMost};
-ghost use Rattle.std.specs.Io.KnownBytes.{WriteAppends, Keeps};
+ghost use Rattle.std.specs.Io.KnownBytes.{Appends, WriteAppends, Keeps};
 ghost use Rattle.wc_device.specs.Device.{device_inner, has_failed, read_count};
 
 use super::Device;
@@ -29,9 +29,9 @@ impl<W: Write> Device<W> {
     {
         let outcome = self.inner.write(buf);
         match &outcome {
-            Ok(0) if !buf.is_empty() => self.failed = true,
+            Ok(0) if !buf.is_empty() => self.fail(),
             Ok(_) => {}
-            Err(_) => self.failed = true,
+            Err(_) => self.fail(),
         }
         outcome
     }
@@ -48,8 +48,52 @@ impl<W: Write> Device<W> {
     {
         let outcome = self.inner.flush();
         if outcome.is_err() {
-            self.failed = true;
+            self.fail();
         }
         outcome
+    }
+    /// Writes all the bytes, and doesn't flush. A write that takes only some of them is followed by one of the rest.
+    ///
+    /// # Errors
+    /// How many bytes at the front went out before a write failed. The failure is kept, and nothing is tried again.
+    pub fn write_all(&mut self, bytes: &[u8]) -> Result<(), u64>
+        ensures bytes { OnOk result
+            (Appends (W.contents (device_inner self.old)) (W.contents (device_inner self.new)) bytes.now) }
+        ensures front { IfErr result (λ n. (n ≤ length bytes.now)
+            × Appends (W.contents (device_inner self.old)) (W.contents (device_inner self.new)) (take n bytes.now)) }
+        ensures count { read_count self.new ≡ read_count self.old }
+
+        ensures fails { OnErr result (has_failed self.new ≡ true) }
+        ensures goes_on { OnOk result (has_failed self.new ≡ has_failed self.old) }
+    {
+        let mut sent = 0;
+        while sent < bytes.len() {
+            match self.write(&bytes[sent..]) {
+                Ok(0) | Err(_) => return Err(sent as u64),
+                Ok(n) => sent += n,
+            }
+        }
+        Ok(())
+    }
+    /// Writes all the bytes, and then flushes once.
+    ///
+    /// # Errors
+    /// How many bytes at the front went out before a write failed, or all of them where the flush did. The failure is
+    /// kept, and nothing is tried again.
+    pub fn send(&mut self, bytes: &[u8]) -> Result<(), u64>
+        ensures bytes { OnOk result
+            (Appends (W.contents (device_inner self.old)) (W.contents (device_inner self.new)) bytes.now) }
+        ensures front { IfErr result (λ n. (n ≤ length bytes.now)
+            × Appends (W.contents (device_inner self.old)) (W.contents (device_inner self.new)) (take n bytes.now)) }
+        ensures count { read_count self.new ≡ read_count self.old }
+
+        ensures fails { OnErr result (has_failed self.new ≡ true) }
+        ensures goes_on { OnOk result (has_failed self.new ≡ has_failed self.old) }
+    {
+        self.write_all(bytes)?;
+        match self.flush() {
+            Ok(()) => Ok(()),
+            Err(_) => Err(bytes.len() as u64),
+        }
     }
 }

@@ -1,6 +1,6 @@
 use Rattle.std.proofs.Common.{rules, ◌≡◌, arith, sym, ◌∙◌, suc, ◌-◌, length}
-use Rattle.wc_ast.proofs.GroupLemmas.{ends-with, last-type}
-use Rattle.wc_ast.specs.contracts.val_type.ValType.{the_type}
+use Rattle.wc_ast.proofs.Groups.GroupLemmas.{ends-with, last-type}
+use Rattle.wc_ops.specs.contracts.val_type.ValType.{the_type}
 use denote.Enum.Bare.{same_true, true_same}
 use Rattle.wc_ast.proofs.locals.ends_with.Goals as goal
 

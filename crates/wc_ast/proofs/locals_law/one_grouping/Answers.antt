@@ -1,4 +1,4 @@
-use Rattle.wc_ast.proofs.GroupLemmas.{one-grouping}
+use Rattle.wc_ast.proofs.Groups.GroupLemmas.{one-grouping}
 use Rattle.wc_ast.proofs.locals_law.one_grouping.Goals as goal
 
 pub returns : goal.returns

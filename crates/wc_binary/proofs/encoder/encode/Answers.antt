@@ -1,6 +1,6 @@
 use Rattle.std.proofs.Common.{refl}
 use Rattle.std.proofs.lemmas.Result.{err_from_is_err_and}
-use Rattle.wc_binary.proofs.Encoding.{module-fails, module-written}
+use Rattle.wc_binary.proofs.spelling.Encoding.{module-fails, module-written}
 use Rattle.wc_binary.proofs.encoder.encode.Goals as goal
 
 pub returns-in_err-write_sections : goal.returns-in_err-write_sections

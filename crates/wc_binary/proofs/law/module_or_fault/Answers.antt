@@ -1,6 +1,6 @@
-use Rattle.wc_binary.specs.Style.{free}
-use Rattle.wc_binary.proofs.Order.{bin-rises}
-use Rattle.wc_binary.proofs.OneModule.{rises-or-stop}
+use Rattle.wc_binary.specs.Standard.Style.{free}
+use Rattle.wc_binary.proofs.sections.Order.{bin-rises}
+use Rattle.wc_binary.proofs.sections.OneModule.{rises-or-stop}
 use Rattle.wc_binary.proofs.law.module_or_fault.Goals as goal
 
 pub returns : goal.returns

@@ -1,5 +1,5 @@
-use Rattle.wc_binary.proofs.Modules.{one-canonical}
-use Rattle.wc_binary.proofs.Freed.{canon-bin}
+use Rattle.wc_binary.proofs.spelling.Modules.{one-canonical}
+use Rattle.wc_binary.proofs.phrases.Freed.{canon-bin}
 use Rattle.wc_binary.proofs.law.one_canonical.Goals as goal
 
 pub returns-clause-spells : goal.returns-clause-spells

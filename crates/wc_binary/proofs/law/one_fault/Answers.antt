@@ -1,4 +1,4 @@
-use Rattle.wc_binary.proofs.OneModule.{one-fault}
+use Rattle.wc_binary.proofs.sections.OneModule.{one-fault}
 use Rattle.wc_binary.proofs.law.one_fault.Goals as goal
 
 pub returns : goal.returns

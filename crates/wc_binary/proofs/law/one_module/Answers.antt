@@ -1,6 +1,6 @@
-use Rattle.wc_binary.specs.Style.{free}
-use Rattle.wc_binary.proofs.Order.{bin-rises}
-use Rattle.wc_binary.proofs.OneModule.{rises-one}
+use Rattle.wc_binary.specs.Standard.Style.{free}
+use Rattle.wc_binary.proofs.sections.Order.{bin-rises}
+use Rattle.wc_binary.proofs.sections.OneModule.{rises-one}
 use Rattle.wc_binary.proofs.law.one_module.Goals as goal
 
 pub returns : goal.returns

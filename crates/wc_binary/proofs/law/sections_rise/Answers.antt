@@ -1,5 +1,5 @@
-use Rattle.wc_binary.specs.Style.{free}
-use Rattle.wc_binary.proofs.Order.{bin-rises, rises-bin}
+use Rattle.wc_binary.specs.Standard.Style.{free}
+use Rattle.wc_binary.proofs.sections.Order.{bin-rises, rises-bin}
 use Rattle.wc_binary.proofs.law.sections_rise.Goals as goal
 
 pub returns : goal.returns

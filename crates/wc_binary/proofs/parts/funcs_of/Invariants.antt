@@ -1,5 +1,5 @@
 use Rattle.std.proofs.Common.{◌≡◌, ◌++◌, length, map, drop}
-use Rattle.wc_binary.specs.Module.{type_of, code_of}
+use Rattle.wc_binary.specs.Standard.Module.{type_of, code_of}
 use Rattle.wc_binary.proofs.parts.funcs_of.Given as goal
 
 abbrev pub invariant-loop-code : goal.invariant-loop-code

@@ -1,6 +1,6 @@
 use Rattle.std.proofs.Common.{sym, ap}
-use Rattle.wc_check.specs.Rules.{verdict}
-use Rattle.wc_check.proofs.EnoughLemmas.{enough-breaks-none}
+use Rattle.wc_check.specs.Judging.Verdicts.{verdict}
+use Rattle.wc_check.proofs.Walks.EnoughLemmas.{enough-breaks-none}
 use Rattle.wc_check.proofs.bodies.check_body.Goals as goal
 
 pub returns-then-is_enough : goal.returns-then-is_enough

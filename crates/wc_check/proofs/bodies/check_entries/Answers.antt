@@ -1,5 +1,5 @@
 use Rattle.std.proofs.Common.{◌≤◌, length, arith}
-use Rattle.wc_check.proofs.BodyLemmas.{few-marks, walked-all}
+use Rattle.wc_check.proofs.Walks.BodyLemmas.{few-marks, walked-all}
 use Rattle.wc_check.proofs.bodies.check_entries.Goals as goal
 
 pub loop-entry-init : goal.loop-entry-init

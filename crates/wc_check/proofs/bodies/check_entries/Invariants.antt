@@ -1,7 +1,7 @@
 use Rattle.std.proofs.Common.{◌≡◌, ◌+◌, ◌^◌, ◌<◌, length}
-use Rattle.wc_check.specs.Rules.{verdict}
-use Rattle.wc_check.specs.InstructionRules.{broken_in_body}
-use Rattle.wc_check.proofs.BodyLemmas.{walked}
+use Rattle.wc_check.specs.Judging.Verdicts.{verdict}
+use Rattle.wc_check.specs.Standard.InstructionRules.{broken_in_body}
+use Rattle.wc_check.proofs.Walks.BodyLemmas.{walked}
 use Rattle.wc_check.proofs.bodies.check_entries.Given as goal
 
 abbrev pub invariant-loop-entry : goal.invariant-loop-entry

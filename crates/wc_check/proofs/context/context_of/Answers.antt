@@ -1,5 +1,5 @@
 use Rattle.std.proofs.Common.{arith}
-use Rattle.wc_check.proofs.SpaceLemmas.{few_funcs, few_tables, few_mems}
+use Rattle.wc_check.proofs.Lists.SpaceLemmas.{few_funcs, few_tables, few_mems}
 use Rattle.wc_check.proofs.context.context_of.Goals as goal
 
 pub func_count-requires : goal.func_count-requires

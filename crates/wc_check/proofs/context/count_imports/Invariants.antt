@@ -1,5 +1,5 @@
 use Rattle.std.proofs.Common.{◌≡◌, ◌≤◌, take, length}
-use Rattle.wc_check.specs.Spaces.{imported_funcs, imported_tables, imported_mems, imported_globals}
+use Rattle.wc_check.specs.Standard.Spaces.{imported_funcs, imported_tables, imported_mems, imported_globals}
 use Rattle.wc_check.proofs.context.count_imports.Given as goal
 
 abbrev pub invariant-loop-import : goal.invariant-loop-import

@@ -1,7 +1,7 @@
 use Rattle.std.proofs.Common.{◌+◌, ◌-◌, sym}
 use Rattle.std.proofs.lemmas.Result.{err_from_is_err_and}
-use Rattle.wc_check.specs.Broken.{broken_func}
-use Rattle.wc_check.proofs.VerdictLemmas.{each-fails}
+use Rattle.wc_check.specs.Standard.Broken.{broken_func}
+use Rattle.wc_check.proofs.Lists.VerdictLemmas.{each-fails}
 use Rattle.wc_check.proofs.definitions.check_funcs.Goals as goal
 
 pub returns-in_err-check_func : goal.returns-in_err-check_func

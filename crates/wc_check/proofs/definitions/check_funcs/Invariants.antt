@@ -1,7 +1,8 @@
 use Rattle.std.proofs.Common.{◌≡◌, ◌+◌, drop, length}
-use Rattle.wc_check.specs.Rules.{each, verdict}
-use Rattle.wc_check.specs.Spaces.{imported_funcs}
-use Rattle.wc_check.specs.Broken.{broken_func}
+use Rattle.wc_check.specs.Standard.Rules.{each}
+use Rattle.wc_check.specs.Judging.Verdicts.{verdict}
+use Rattle.wc_check.specs.Standard.Spaces.{imported_funcs}
+use Rattle.wc_check.specs.Standard.Broken.{broken_func}
 use Rattle.wc_check.proofs.definitions.check_funcs.Given as goal
 
 abbrev pub invariant-loop-place : goal.invariant-loop-place

@@ -1,5 +1,5 @@
 use Rattle.std.proofs.Common.{length, ◌-◌, ◌≡◌, ◌+◌, ◌≤◌, drop}
-use Rattle.wc_check.specs.Enough.{settable_count}
+use Rattle.wc_check.specs.Judging.Enough.{settable_count}
 use Rattle.wc_check.proofs.definitions.count_settable.Given as goal
 
 abbrev pub invariant-loop-count : goal.invariant-loop-count

@@ -1,4 +1,4 @@
-use Rattle.wc_check.proofs.NameLemmas.{has_text-insert_key}
+use Rattle.wc_check.proofs.Lists.NameLemmas.{has_text-insert_key}
 use Rattle.wc_check.proofs.exports.add_name.Goals as goal
 
 pub returns-in-Ok-clause-names : goal.returns-in-Ok-clause-names

@@ -1,8 +1,9 @@
 use Rattle.std.proofs.Common.{◌≡◌, ℕ, List, drop, take}
-use Rattle.wc_check.specs.Rules.{each, verdict}
-use Rattle.wc_check.specs.Names.{has_text}
-use Rattle.wc_check.specs.ExportRules.{has_name}
-use Rattle.wc_check.specs.Broken.{broken_export}
+use Rattle.wc_check.specs.Standard.Rules.{each}
+use Rattle.wc_check.specs.Judging.Verdicts.{verdict}
+use Rattle.wc_check.specs.Judging.Names.{has_text}
+use Rattle.wc_check.specs.Standard.ExportRules.{has_name}
+use Rattle.wc_check.specs.Standard.Broken.{broken_export}
 use Rattle.wc_check.proofs.exports.check_exports.Given as goal
 
 abbrev pub invariant-loop-place : goal.invariant-loop-place

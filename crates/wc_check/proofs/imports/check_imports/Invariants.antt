@@ -1,7 +1,8 @@
 use Rattle.std.proofs.Common.{◌≡◌, ◌≤◌, drop, take, length}
-use Rattle.wc_check.specs.Rules.{each, verdict}
-use Rattle.wc_check.specs.Spaces.{imported_tables, imported_mems}
-use Rattle.wc_check.specs.Broken.{broken_import}
+use Rattle.wc_check.specs.Standard.Rules.{each}
+use Rattle.wc_check.specs.Judging.Verdicts.{verdict}
+use Rattle.wc_check.specs.Standard.Spaces.{imported_tables, imported_mems}
+use Rattle.wc_check.specs.Standard.Broken.{broken_import}
 use Rattle.wc_check.proofs.imports.check_imports.Given as goal
 
 abbrev pub invariant-loop-place : goal.invariant-loop-place

@@ -1,6 +1,7 @@
 use Rattle.std.proofs.Common.{◌≡◌, drop}
-use Rattle.wc_check.specs.Rules.{each, verdict}
-use Rattle.wc_check.specs.Broken.{broken_data}
+use Rattle.wc_check.specs.Standard.Rules.{each}
+use Rattle.wc_check.specs.Judging.Verdicts.{verdict}
+use Rattle.wc_check.specs.Standard.Broken.{broken_data}
 use Rattle.wc_check.proofs.segments.check_datas.Given as goal
 
 abbrev pub invariant-loop-place : goal.invariant-loop-place

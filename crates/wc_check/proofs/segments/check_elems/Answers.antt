@@ -1,6 +1,6 @@
 use Rattle.std.proofs.lemmas.Result.{err_from_is_err_and}
-use Rattle.wc_check.specs.Broken.{broken_elem}
-use Rattle.wc_check.proofs.VerdictLemmas.{each-fails, judged-fails}
+use Rattle.wc_check.specs.Standard.Broken.{broken_elem}
+use Rattle.wc_check.proofs.Lists.VerdictLemmas.{each-fails, judged-fails}
 use Rattle.wc_check.proofs.segments.check_elems.Goals as goal
 
 pub returns-in_err-judge : goal.returns-in_err-judge

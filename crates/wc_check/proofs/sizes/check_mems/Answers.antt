@@ -1,8 +1,8 @@
 use Rattle.std.proofs.Common.{◌+◌, get_or, None, refl}
 use Rattle.std.proofs.lemmas.Result.{err_from_is_err_and}
 use Rattle.wc_ast.specs.declared.limits.Limits.{Limits}
-use Rattle.wc_check.specs.SizeRules.{broken_mem}
-use Rattle.wc_check.proofs.VerdictLemmas.{each-fails, judged-fails}
+use Rattle.wc_check.specs.Standard.SizeRules.{broken_mem}
+use Rattle.wc_check.proofs.Lists.VerdictLemmas.{each-fails, judged-fails}
 use Rattle.wc_check.proofs.sizes.check_mems.Goals as goal
 
 pub returns-in_err-judge : goal.returns-in_err-judge

@@ -1,6 +1,7 @@
 use Rattle.std.proofs.Common.{◌≡◌, ◌+◌, drop}
-use Rattle.wc_check.specs.Rules.{each, verdict}
-use Rattle.wc_check.specs.SizeRules.{broken_table}
+use Rattle.wc_check.specs.Standard.Rules.{each}
+use Rattle.wc_check.specs.Judging.Verdicts.{verdict}
+use Rattle.wc_check.specs.Standard.SizeRules.{broken_table}
 use Rattle.wc_check.proofs.sizes.check_tables.Given as goal
 
 abbrev pub invariant-loop-place : goal.invariant-loop-place

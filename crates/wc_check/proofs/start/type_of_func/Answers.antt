@@ -1,6 +1,6 @@
 use Rattle.std.proofs.Common.{◌≡◌, ◌≤◌, ◌<◌, ◌-◌, length, map, sym, ◌∙◌}
-use Rattle.wc_check.specs.Spaces.{imported_funcs}
-use Rattle.wc_check.proofs.SpaceLemmas.{func_start, slice_get-front, slice_get-back}
+use Rattle.wc_check.specs.Standard.Spaces.{imported_funcs}
+use Rattle.wc_check.proofs.Lists.SpaceLemmas.{func_start, slice_get-front, slice_get-back}
 use Rattle.wc_check.proofs.start.type_of_func.Goals as goal
 
 pub returns : goal.returns

@@ -1,6 +1,6 @@
 use Rattle.std.proofs.Common.{◌≡◌, drop}
 use Rattle.std.specs.List.{slice_get}
-use Rattle.wc_check.specs.Spaces.{imported_funcs}
+use Rattle.wc_check.specs.Standard.Spaces.{imported_funcs}
 use Rattle.wc_check.proofs.start.type_of_import.Given as goal
 
 abbrev pub invariant-loop-import : goal.invariant-loop-import

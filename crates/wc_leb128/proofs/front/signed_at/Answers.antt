@@ -1,8 +1,8 @@
 use Rattle.std.proofs.Common.{rules, SFits, w64, ℤ, arith}
 use Rattle.std.proofs.lemmas.Int.{to_z-of_z}
-use Rattle.wc_leb128.specs.Integers.{S}
-use Rattle.wc_leb128.proofs.SignedLaws.{continues, unambiguous}
-use Rattle.wc_leb128.proofs.AtFront.{front-start, front-done, front-bad, front-more, front-end}
+use Rattle.wc_leb128.specs.Standard.Integers.{S}
+use Rattle.wc_leb128.proofs.Laws.SignedLaws.{continues, unambiguous}
+use Rattle.wc_leb128.proofs.Reading.AtFront.{front-start, front-done, front-bad, front-more, front-end}
 use Rattle.wc_leb128.proofs.front.signed_at.Goals as goal
 
 pub loop-byte-init : goal.loop-byte-init

@@ -1,6 +1,6 @@
 use Rattle.std.proofs.Common.{ℤ, length}
-use Rattle.wc_leb128.specs.Integers.{S}
-use Rattle.wc_leb128.proofs.AtFront.{IsMidway}
+use Rattle.wc_leb128.specs.Standard.Integers.{S}
+use Rattle.wc_leb128.proofs.Reading.AtFront.{IsMidway}
 use Rattle.wc_leb128.proofs.front.signed_at.Given as goal
 
 abbrev pub invariant-loop-byte : goal.invariant-loop-byte

@@ -1,7 +1,7 @@
 use Rattle.std.proofs.Common.{ℕ, arith}
-use Rattle.wc_leb128.specs.Integers.{U}
-use Rattle.wc_leb128.proofs.UnsignedLaws.{continues, unambiguous}
-use Rattle.wc_leb128.proofs.AtFront.{front-start, front-done, front-bad, front-more, front-end}
+use Rattle.wc_leb128.specs.Standard.Integers.{U}
+use Rattle.wc_leb128.proofs.Laws.UnsignedLaws.{continues, unambiguous}
+use Rattle.wc_leb128.proofs.Reading.AtFront.{front-start, front-done, front-bad, front-more, front-end}
 use Rattle.wc_leb128.proofs.front.unsigned_at.Goals as goal
 
 pub loop-byte-init : goal.loop-byte-init

@@ -1,6 +1,6 @@
 use Rattle.std.proofs.Common.{ℕ, length}
-use Rattle.wc_leb128.specs.Integers.{U}
-use Rattle.wc_leb128.proofs.AtFront.{IsMidway}
+use Rattle.wc_leb128.specs.Standard.Integers.{U}
+use Rattle.wc_leb128.proofs.Reading.AtFront.{IsMidway}
 use Rattle.wc_leb128.proofs.front.unsigned_at.Given as goal
 
 abbrev pub invariant-loop-byte : goal.invariant-loop-byte

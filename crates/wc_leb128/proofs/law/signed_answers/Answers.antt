@@ -1,7 +1,7 @@
 use Rattle.std.proofs.Common.{ℤ}
-use Rattle.wc_leb128.specs.Integers.{S}
-use Rattle.wc_leb128.proofs.Exact.{exact}
-use Rattle.wc_leb128.proofs.SignedLaws.{apart}
+use Rattle.wc_leb128.specs.Standard.Integers.{S}
+use Rattle.wc_leb128.proofs.Laws.Exact.{exact}
+use Rattle.wc_leb128.proofs.Laws.SignedLaws.{apart}
 use Rattle.wc_leb128.proofs.law.signed_answers.Goals as goal
 
 pub returns : goal.returns

@@ -1,7 +1,7 @@
 use Rattle.std.proofs.Common.{ℤ}
-use Rattle.wc_leb128.specs.Integers.{S}
-use Rattle.wc_leb128.proofs.Exact.{one_of_three}
-use Rattle.wc_leb128.proofs.SignedLaws.{unambiguous, spelled-holds, unfinished-unspelled, begins-decided}
+use Rattle.wc_leb128.specs.Standard.Integers.{S}
+use Rattle.wc_leb128.proofs.Laws.Exact.{one_of_three}
+use Rattle.wc_leb128.proofs.Laws.SignedLaws.{unambiguous, spelled-holds, unfinished-unspelled, begins-decided}
 use Rattle.wc_leb128.proofs.law.signed_spellings.Goals as goal
 
 pub returns-clause-unambiguous : goal.returns-clause-unambiguous

@@ -1,7 +1,7 @@
 use Rattle.std.proofs.Common.{ℕ}
-use Rattle.wc_leb128.specs.Integers.{U}
-use Rattle.wc_leb128.proofs.Exact.{exact}
-use Rattle.wc_leb128.proofs.UnsignedLaws.{apart}
+use Rattle.wc_leb128.specs.Standard.Integers.{U}
+use Rattle.wc_leb128.proofs.Laws.Exact.{exact}
+use Rattle.wc_leb128.proofs.Laws.UnsignedLaws.{apart}
 use Rattle.wc_leb128.proofs.law.unsigned_answers.Goals as goal
 
 pub returns : goal.returns

@@ -1,7 +1,7 @@
 use Rattle.std.proofs.Common.{ℕ}
-use Rattle.wc_leb128.specs.Integers.{U}
-use Rattle.wc_leb128.proofs.Exact.{one_of_three}
-use Rattle.wc_leb128.proofs.UnsignedLaws.{unambiguous, spelled-below, unfinished-unspelled, begins-decided}
+use Rattle.wc_leb128.specs.Standard.Integers.{U}
+use Rattle.wc_leb128.proofs.Laws.Exact.{one_of_three}
+use Rattle.wc_leb128.proofs.Laws.UnsignedLaws.{unambiguous, spelled-below, unfinished-unspelled, begins-decided}
 use Rattle.wc_leb128.proofs.law.unsigned_spellings.Goals as goal
 
 pub returns-clause-unambiguous : goal.returns-clause-unambiguous

@@ -1,8 +1,8 @@
 use Rattle.std.proofs.Common.{◌+◌, ◌/◌, ◌%◌}
-use Rattle.wc_leb128.specs.Shortest.{signed_of, signed_bytes, group_of}
-use Rattle.wc_leb128.proofs.SignedShortest.{signed_bytes-low, signed_bytes-high}
-use Rattle.wc_leb128.proofs.SignedLengths.{length-signed_bytes-some, length-signed_bytes-ten}
-use Rattle.wc_leb128.proofs.Written.{with_one, with_last, room_left}
+use Rattle.wc_leb128.specs.Writing.Bytes.{signed_of, signed_bytes, group_of}
+use Rattle.wc_leb128.proofs.Writing.SignedShortest.{signed_bytes-low, signed_bytes-high}
+use Rattle.wc_leb128.proofs.Writing.SignedLengths.{length-signed_bytes-some, length-signed_bytes-ten}
+use Rattle.wc_leb128.proofs.Writing.Written.{with_one, with_last, room_left}
 use Rattle.wc_leb128.proofs.shortest.groups.Goals as goal
 
 pub push-requires : goal.push-requires

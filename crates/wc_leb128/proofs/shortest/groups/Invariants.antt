@@ -1,5 +1,5 @@
 use Rattle.std.proofs.Common.{◌≡◌, ◌++◌}
-use Rattle.wc_leb128.specs.Shortest.{signed_of, signed_bytes}
+use Rattle.wc_leb128.specs.Writing.Bytes.{signed_of, signed_bytes}
 use Rattle.wc_leb128.proofs.shortest.groups.Given as goal
 
 abbrev pub invariant-loop-rest : goal.invariant-loop-rest

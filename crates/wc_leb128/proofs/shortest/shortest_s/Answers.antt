@@ -1,7 +1,8 @@
 use Rattle.std.proofs.Common.{rules, ◌≡◌, List, ℕ, ℤ}
-use Rattle.wc_leb128.specs.Integers.{S}
-use Rattle.wc_leb128.specs.Shortest.{HoldsSigned, IsShortestSpelling, signed_bytes}
-use Rattle.wc_leb128.proofs.SignedShortest.{signed_bytes-shortest}
+use Rattle.wc_leb128.specs.Standard.Integers.{S}
+use Rattle.wc_leb128.specs.Standard.Shortest.{HoldsSigned, IsShortestSpelling}
+use Rattle.wc_leb128.specs.Writing.Bytes.{signed_bytes}
+use Rattle.wc_leb128.proofs.Writing.SignedShortest.{signed_bytes-shortest}
 use Rattle.wc_leb128.proofs.shortest.shortest_s.Goals as goal
 
 same_bytes : (bytes : List ℕ) (z : ℤ) → bytes ≡ signed_bytes z → IsShortestSpelling S HoldsSigned bytes z

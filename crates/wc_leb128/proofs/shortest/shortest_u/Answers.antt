@@ -1,8 +1,8 @@
 use Rattle.std.proofs.Common.{◌≡◌, ◌+◌, ◌/◌, ◌%◌, ◌∙◌, arith}
-use Rattle.wc_leb128.specs.Shortest.{unsigned_bytes}
-use Rattle.wc_leb128.proofs.UnsignedShortest.{unsigned_bytes-low, unsigned_bytes-high, unsigned_bytes-shortest}
-use Rattle.wc_leb128.proofs.Lengths.{length-unsigned_bytes-some, length-unsigned_bytes-u64}
-use Rattle.wc_leb128.proofs.Written.{with_one, with_last, room_left}
+use Rattle.wc_leb128.specs.Writing.Bytes.{unsigned_bytes}
+use Rattle.wc_leb128.proofs.Writing.UnsignedShortest.{unsigned_bytes-low, unsigned_bytes-high, unsigned_bytes-shortest}
+use Rattle.wc_leb128.proofs.Writing.Lengths.{length-unsigned_bytes-some, length-unsigned_bytes-u64}
+use Rattle.wc_leb128.proofs.Writing.Written.{with_one, with_last, room_left}
 use Rattle.wc_leb128.proofs.shortest.shortest_u.Goals as goal
 
 pub push-requires : goal.push-requires

@@ -1,5 +1,5 @@
 use Rattle.std.proofs.Common.{◌≡◌, ◌++◌}
-use Rattle.wc_leb128.specs.Shortest.{unsigned_bytes}
+use Rattle.wc_leb128.specs.Writing.Bytes.{unsigned_bytes}
 use Rattle.wc_leb128.proofs.shortest.shortest_u.Given as goal
 
 abbrev pub invariant-loop-rest : goal.invariant-loop-rest

@@ -1,7 +1,7 @@
 use Rattle.std.proofs.Common.{refl, arith}
 use Rattle.wc_tokens.specs.declared.classes.TheConstants.{CLASSES}
-use Rattle.wc_tokens.specs.Lexemes.{is_idchar}
-use Rattle.wc_tokens.proofs.ClassLaws.{from_table}
+use Rattle.wc_tokens.specs.Standard.Lexemes.{is_idchar}
+use Rattle.wc_tokens.proofs.Lexing.ClassLaws.{from_table}
 use Rattle.wc_tokens.proofs.classes.is_idchar.Goals as goal
 
 pub returns : goal.returns

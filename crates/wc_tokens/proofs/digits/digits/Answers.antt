@@ -1,5 +1,5 @@
 use Rattle.std.proofs.Common.{◌∙◌, arith}
-use Rattle.wc_tokens.proofs.Scans.{keeps-digit, keeps-apart, ends-other, ends-all, run_to-is}
+use Rattle.wc_tokens.proofs.Integers.Scans.{keeps-digit, keeps-apart, ends-other, ends-all, run_to-is}
 use Rattle.wc_tokens.proofs.digits.digits.Goals.{then-digit-base, else-digit-base+then-after_digit+then-text-at-eq95}
 use Rattle.wc_tokens.proofs.digits.digits.Goals.{else-after_digit-via-then-after_digit+else-text-at-eq95}
 use Rattle.wc_tokens.proofs.digits.digits.Goals.{else-after_digit-via-else-after_digit}

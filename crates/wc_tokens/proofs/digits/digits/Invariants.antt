@@ -1,5 +1,5 @@
 use Rattle.std.proofs.Common.{◌≡◌, ◌-◌, ◌<◌, ◌≤◌, true, false, Some, length, drop}
-use Rattle.wc_tokens.specs.Digits.{scan}
+use Rattle.wc_tokens.specs.Reading.Scans.{scan}
 use Rattle.wc_tokens.proofs.digits.digits.Given as goal
 
 -- what is left, read from here, is read like the whole

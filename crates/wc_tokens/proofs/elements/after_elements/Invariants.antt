@@ -1,5 +1,5 @@
 use Rattle.std.proofs.Common.{◌≡◌, ℕ, List, ◌++◌, length}
-use Rattle.wc_tokens.specs.Strings.{Elements}
+use Rattle.wc_tokens.specs.Standard.Strings.{Elements}
 use Rattle.wc_tokens.proofs.elements.after_elements.Given as goal
 
 -- elements stand before what is left

@@ -1,4 +1,4 @@
-use Rattle.wc_tokens.proofs.LexLaws.{Lexes-FirstFault}
+use Rattle.wc_tokens.proofs.Lexing.LexLaws.{Lexes-FirstFault}
 use Rattle.wc_tokens.proofs.laws.never_both.Goals as goal
 
 pub returns : goal.returns

@@ -1,4 +1,4 @@
-use Rattle.wc_tokens.proofs.LexLaws.{FirstFault-same}
+use Rattle.wc_tokens.proofs.Lexing.LexLaws.{FirstFault-same}
 use Rattle.wc_tokens.proofs.laws.one_fault.Goals as goal
 
 pub returns : goal.returns

@@ -1,4 +1,4 @@
-use Rattle.wc_tokens.proofs.RunLaws.{lex-only, lex-only-fault}
+use Rattle.wc_tokens.proofs.Lexing.RunLaws.{lex-only, lex-only-fault}
 use Rattle.wc_tokens.proofs.lexer.lex.Goals as goal
 
 pub returns-clause-only : goal.returns-clause-only

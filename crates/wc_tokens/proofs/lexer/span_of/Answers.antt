@@ -1,4 +1,4 @@
-use Rattle.wc_tokens.proofs.SpanLaws.{boundary-start, boundary-stop}
+use Rattle.wc_tokens.proofs.Lexing.SpanLaws.{boundary-start, boundary-stop}
 use Rattle.wc_tokens.proofs.lexer.span_of.Goals as goal
 
 pub range-requires-clause-start_boundary : goal.range-requires-clause-start_boundary

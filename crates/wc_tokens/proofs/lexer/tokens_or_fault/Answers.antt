@@ -1,7 +1,7 @@
 use Rattle.std.proofs.Common.{subst, sym, arith}
 use Rattle.std.specs.Str.{IsValidUpTo}
-use Rattle.wc_tokens.specs.Faults.{too_long, not_utf8}
-use Rattle.wc_tokens.proofs.RunLaws.{IsFault-stop}
+use Rattle.wc_tokens.specs.Standard.Faults.{too_long, not_utf8}
+use Rattle.wc_tokens.proofs.Lexing.RunLaws.{IsFault-stop}
 use Rattle.wc_tokens.proofs.lexer.tokens_or_fault.Goals as goal
 
 pub returns-then-text-gt-LONGEST-clause-fault : goal.returns-then-text-gt-LONGEST-clause-fault

@@ -1,4 +1,4 @@
-use Rattle.wc_tokens.proofs.Literals.{IsInteger, IsInteger-plus, IsInteger-minus, IsInteger-unsigned}
+use Rattle.wc_tokens.proofs.Integers.Literals.{IsInteger, IsInteger-plus, IsInteger-minus, IsInteger-unsigned}
 use Rattle.wc_tokens.proofs.numbers.integer.Goals.{After-limited, After-negated, After-limited-2}
 use Rattle.wc_tokens.proofs.numbers.integer.Goals as goal
 

@@ -1,4 +1,4 @@
-use Rattle.wc_tokens.proofs.Literals.{IsUnsigned, IsUnsigned-limited}
+use Rattle.wc_tokens.proofs.Integers.Literals.{IsUnsigned, IsUnsigned-limited}
 use Rattle.wc_tokens.proofs.numbers.unsigned.Goals.{After-limited}
 use Rattle.wc_tokens.proofs.numbers.unsigned.Goals as goal
 

@@ -1,5 +1,5 @@
 use Rattle.std.proofs.Common.{drop, length-drop, arith, sym, ◌∙◌}
-use Rattle.wc_tokens.proofs.NumberLaws.{fitting-some, fitting-none, no-digits, more-behind, all-digits}
+use Rattle.wc_tokens.proofs.Integers.NumberLaws.{fitting-some, fitting-none, no-digits, more-behind, all-digits}
 use Rattle.wc_tokens.proofs.numbers.whole.Goals as goal
 
 pub returns-in_default : goal.returns-in_default

@@ -1,5 +1,5 @@
 use Rattle.std.proofs.Common.{◌≡◌, ℕ, List, ◌∷◌, ◌++◌, length}
-use Rattle.wc_tokens.specs.Strings.{Elements}
+use Rattle.wc_tokens.specs.Standard.Strings.{Elements}
 use Rattle.wc_tokens.proofs.strings.string_bytes.Given as goal
 
 -- behind the quote stand elements of the bytes so far, and then what is left

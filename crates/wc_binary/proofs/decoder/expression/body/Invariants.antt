@@ -1,7 +1,7 @@
 use Rattle.std.proofs.Common.{◌-◌, ◌^◌}
-use Rattle.wc_binary.specs.Reading.{read}
-use Rattle.wc_binary.specs.Instructions.{expr}
-use Rattle.wc_binary.proofs.ReadingEntries.{Draws}
+use Rattle.wc_binary.specs.Reading.Reading.{read}
+use Rattle.wc_binary.specs.Standard.Instructions.{expr}
+use Rattle.wc_binary.proofs.reading.Entries.{Draws}
 use Rattle.wc_binary.proofs.decoder.expression.body.Given as goal
 
 abbrev pub invariant-entries : goal.invariant-entries

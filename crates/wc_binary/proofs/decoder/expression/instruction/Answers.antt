@@ -1,6 +1,6 @@
 use Rattle.std.proofs.Common.{refl}
-use Rattle.wc_ast.specs.declared.op.Op.TheVariants as ops
-use Rattle.wc_binary.proofs.ReadingEntries.{plain-taken}
+use Rattle.wc_ops.specs.declared.op.Op.TheVariants as ops
+use Rattle.wc_binary.proofs.reading.Entries.{plain-taken}
 use Rattle.wc_binary.proofs.decoder.expression.instruction.Goals as goal
 
 pub returns-in_ok-instr-in-Simple : goal.returns-in_ok-instr-in-Simple

@@ -1,8 +1,9 @@
 use Rattle.std.proofs.Common.{arith, []}
 use Rattle.std.proofs.lemmas.Result.{err_from_is_err_and}
-use Rattle.wc_leb128.proofs.UnsignedLaws.{continues, spelled-below}
-use Rattle.wc_binary.proofs.SignedTaking.{held-first, held-next, held-fails}
-use Rattle.wc_binary.proofs.UnsignedTaking.{unsigned-done, unsigned-bad, unsigned-end}
+use Rattle.wc_leb128.proofs.Laws.UnsignedLaws.{continues, spelled-below}
+use Rattle.wc_binary.proofs.reading.Going.{byte-fails}
+use Rattle.wc_binary.proofs.reading.SignedBytes.{held-first, held-next}
+use Rattle.wc_binary.proofs.reading.UnsignedBytes.{unsigned-done, unsigned-bad, unsigned-end}
 use Rattle.wc_binary.proofs.decoder.integer.unsigned_from.Goals as goal
 
 pub loop-value-init : goal.loop-value-init
@@ -25,24 +26,18 @@ pub returns-in-Bad : goal.returns-in-Bad
 returns-in-Bad g c =
     let i = c.loop-value.invariant in
     let u = rw i.1 at c.in-Bad.ensures in
-    unsigned-bad 32 i.0 _ _ _ _ _ _ i.3 i.2 u.0
+    rw c.bad.ensures (unsigned-bad 32 i.0 _ _ _ _ _ _ i.3 i.2 u.0)
 
-pub returns-in_err-next : goal.returns-in_err-next
-returns-in_err-next g c =
-    let i = c.loop-value.invariant in
-    let p = err_from_is_err_and c.from_residual.result c.from_residual.ensures.1 in
-    rw (p.1, p.2) (held-fails 32 i.0 _ _ _ _ _ _ i.3 _ c.in_err-next.field-0.0 c.in_err-next.ensures _)
-
-pub returns-in-None : goal.returns-in-None
-returns-in-None g c =
+pub returns-in_err-byte : goal.returns-in_err-byte
+returns-in_err-byte g c =
     let i = c.loop-value.invariant in
     let u = rw i.1 at c.in-More.ensures in
-    let s = rw c.in-None.is at c.in_ok-next.ensures in
-    rw (c.end.ensures, c.place-at.ensures) (unsigned-end 32 i.0 _ _ _ _ _ _ i.3 _ u.0 s)
+    let p = err_from_is_err_and c.from_residual.result c.from_residual.ensures.1 in
+    rw (p.1, p.2) (byte-fails _ _ _ i.3.going c.in_err-byte.field-0.0 c.in_err-byte.ensures _
+    (unsigned-end 32 i.0 _ _ _ _ _ _ i.3 _ u.0))
 
 pub loop-value-preserved : goal.loop-value-preserved
 loop-value-preserved g c =
     let i = c.loop-value.invariant in
     let u = rw i.1 at c.in-More.ensures in
-    let s = rw c.in-Some.is at c.in_ok-next.ensures in
-    (_, u.1, u.0, rw c.place-at.ensures (held-next 32 i.0 _ _ _ _ _ _ i.3 _ c.in-Some.next s))
+    (_, u.1, u.0, rw c.place-at.ensures (held-next 32 i.0 _ _ _ _ _ _ i.3 _ c.in_ok-byte.byte c.in_ok-byte.ensures))

@@ -1,7 +1,7 @@
 use Rattle.std.proofs.Common.{drop}
-use Rattle.wc_binary.specs.Reading.{read}
-use Rattle.wc_binary.specs.Values.{exactly}
-use Rattle.wc_binary.proofs.Times.{Leads}
+use Rattle.wc_binary.specs.Reading.Reading.{read}
+use Rattle.wc_binary.specs.Standard.Values.{exactly}
+use Rattle.wc_binary.proofs.reading.Times.{Leads}
 use Rattle.wc_binary.proofs.decoder.module.exactly.Given as goal
 
 abbrev pub invariant-loop-b : goal.invariant-loop-b

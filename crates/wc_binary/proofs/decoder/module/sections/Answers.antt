@@ -1,6 +1,6 @@
 use Rattle.std.proofs.Common.{sym}
 use Rattle.std.proofs.lemmas.Result.{err_from_is_err_and}
-use Rattle.wc_binary.proofs.Whole.{finds-fails, finds-all, finds-no-id, content-fails, finds-more}
+use Rattle.wc_binary.proofs.reading.Whole.{finds-fails, finds-all, finds-no-id, content-fails, finds-more}
 use Rattle.wc_binary.proofs.decoder.module.sections.Goals as goal
 
 pub returns-in_err-next : goal.returns-in_err-next
@@ -16,7 +16,7 @@ returns-in-None g c =
 pub returns-in-Err : goal.returns-in-Err
 returns-in-Err g c =
     let s = rw c.in-Some.is at c.in_ok-next.ensures in
-    rw c.place-at.ensures
+    rw (c.bad.ensures, c.place-at.ensures)
     (finds-no-id _ _ _ _ _ c.loop-parts.invariant c.in-Some.byte s c.in-Err.why (sym c.in-Err.ensures))
 
 pub returns-in_err-section : goal.returns-in_err-section
@@ -31,4 +31,4 @@ loop-parts-preserved g c =
     let s = rw c.in-Some.is at c.in_ok-next.ensures in
     let more = finds-more _ _ _ _ _ c.loop-parts.invariant c.in-Some.byte s c.in-Ok.kind
     (sym c.in-Ok.ensures) c.in_ok-section.section _ c.in_ok-section.ensures in
-    rw (c.max-last.ensures, c.number.ensures, c.put.ensures) more
+    rw (c.max-last.ensures, c.id.ensures, c.kind.ensures, c.put.ensures) more

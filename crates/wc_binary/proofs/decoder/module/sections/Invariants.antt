@@ -1,5 +1,5 @@
 use Rattle.std.proofs.Common.{◌-◌, ◌^◌}
-use Rattle.wc_binary.proofs.Whole.{Finds}
+use Rattle.wc_binary.proofs.reading.Whole.{Finds}
 use Rattle.wc_binary.proofs.decoder.module.sections.Given as goal
 
 abbrev pub invariant-loop-parts : goal.invariant-loop-parts

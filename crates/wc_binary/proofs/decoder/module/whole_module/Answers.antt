@@ -1,6 +1,6 @@
 use Rattle.std.proofs.Common.{arith}
 use Rattle.std.proofs.lemmas.Result.{err_from_is_err_and}
-use Rattle.wc_binary.proofs.Whole.{preamble-fails, sections-fail, counts-fail, module-whole}
+use Rattle.wc_binary.proofs.reading.Whole.{preamble-fails, sections-fail, counts-fail, module-whole}
 use Rattle.wc_binary.proofs.decoder.module.whole_module.Goals as goal
 
 pub returns-in_err-preamble : goal.returns-in_err-preamble

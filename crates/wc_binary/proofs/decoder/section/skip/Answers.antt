@@ -1,13 +1,17 @@
-use Rattle.wc_binary.proofs.Times.{skip-end, skip-round}
+use Rattle.std.proofs.lemmas.Result.{err_from_is_err_and}
+use Rattle.wc_binary.proofs.reading.Going.{byte-fails}
+use Rattle.wc_binary.proofs.reading.Times.{skip-end, skip-round}
 use Rattle.wc_binary.proofs.decoder.section.skip.Goals as goal
 
-pub returns-in-None : goal.returns-in-None
-returns-in-None g c =
-    let s = rw c.in-None.is at c.in_ok-next.ensures in
-    rw c.place-at.ensures (skip-end _ _ _ _ c.loop-left.left c.loop-left-test.true c.loop-left.invariant s)
+pub returns-in_err-_byte : goal.returns-in_err-_byte
+returns-in_err-_byte g c =
+    let i = c.loop-left.invariant in
+    let p = err_from_is_err_and c.from_residual.result c.from_residual.ensures.1 in
+    rw (p.1, p.2) (byte-fails _ _ _ i.going c.in_err-_byte.field-0.0 c.in_err-_byte.ensures _
+    (skip-end _ _ _ _ c.loop-left.left c.loop-left-test.true i))
 
 pub loop-left-preserved : goal.loop-left-preserved
 loop-left-preserved g c =
-    let s = rw c.in-Some.is at c.in_ok-next.ensures in
     let i = c.loop-left.invariant in
-    skip-round c.loop-left.left _ _ _ _ c.loop-left-test.true i c.in-Some._byte s _ _ c.pass-left.ensures
+    skip-round c.loop-left.left _ _ _ _ c.loop-left-test.true i c.in_ok-_byte._byte c.in_ok-_byte.ensures _ _
+    c.pass-left.ensures.passed

@@ -1,6 +1,6 @@
-use Rattle.wc_binary.specs.Reading.{read}
-use Rattle.wc_binary.specs.Sections.{skip}
-use Rattle.wc_binary.proofs.Times.{Leads}
+use Rattle.wc_binary.specs.Reading.Reading.{read}
+use Rattle.wc_binary.specs.Standard.Sections.{skip}
+use Rattle.wc_binary.proofs.reading.Times.{Leads}
 use Rattle.wc_binary.proofs.decoder.section.skip.Given as goal
 
 abbrev pub invariant-loop-left : goal.invariant-loop-left

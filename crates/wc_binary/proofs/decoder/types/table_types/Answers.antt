@@ -1,6 +1,6 @@
 use Rattle.std.proofs.lemmas.Result.{err_from_is_err_and}
-use Rattle.wc_binary.specs.Types.{table_type}
-use Rattle.wc_binary.proofs.Times.{times-more, times-fails}
+use Rattle.wc_binary.specs.Standard.Types.{table_type}
+use Rattle.wc_binary.proofs.reading.Times.{times-more, times-fails}
 use Rattle.wc_binary.proofs.decoder.types.table_types.Goals as goal
 
 pub loop-preserved : goal.loop-preserved

@@ -1,6 +1,6 @@
-use Rattle.wc_binary.specs.Module.{code_of}
-use Rattle.wc_binary.specs.WrittenContents.{code_bytes, FitsCode}
-use Rattle.wc_binary.proofs.Encoding.{mapped-written}
+use Rattle.wc_binary.specs.Standard.Module.{code_of}
+use Rattle.wc_binary.specs.Writing.Contents.{code_bytes, FitsCode}
+use Rattle.wc_binary.proofs.spelling.Encoding.{mapped-written}
 use Rattle.wc_binary.proofs.encoder.funcs.write_code_section.Goals as goal
 
 pub returns : goal.returns

@@ -1,9 +1,9 @@
 use Rattle.std.proofs.Common.{[], map, ◌∙◌}
 use Rattle.std.proofs.lemmas.Result.{err_from_is_err_and}
-use Rattle.wc_leb128.specs.Shortest.{unsigned_bytes}
-use Rattle.wc_binary.specs.Module.{type_of}
-use Rattle.wc_ast.specs.ValueBytes.{vector_bytes, Fits32}
-use Rattle.wc_binary.proofs.Encoding.{mapped-fails, get_or-any}
+use Rattle.wc_leb128.specs.Writing.Bytes.{unsigned_bytes}
+use Rattle.wc_binary.specs.Standard.Module.{type_of}
+use Rattle.wc_body.specs.Standard.ValueBytes.{vector_bytes, Fits32}
+use Rattle.wc_binary.proofs.spelling.Encoding.{mapped-fails, get_or-any}
 use Rattle.wc_binary.proofs.encoder.funcs.write_types.Goals as goal
 
 pub returns-in_err-write : goal.returns-in_err-write

@@ -1,6 +1,6 @@
 use Rattle.std.proofs.Common.{◌≡◌, ◌++◌, length, take}
 use Rattle.std.specs.List.{flat_map, AllByRecursion}
-use Rattle.wc_leb128.specs.Shortest.{unsigned_bytes}
+use Rattle.wc_leb128.specs.Writing.Bytes.{unsigned_bytes}
 use Rattle.wc_binary.proofs.encoder.item.write_vector.Given as goal
 
 abbrev pub invariant-loop-item : goal.invariant-loop-item

@@ -1,7 +1,7 @@
 use Rattle.std.proofs.Common.{length}
 use Rattle.std.proofs.lemmas.Result.{err_from_is_err_and}
-use Rattle.wc_ast.specs.ValueBytes.{vector_bytes}
-use Rattle.wc_binary.proofs.Encoding.{item-unmeasured}
+use Rattle.wc_body.specs.Standard.ValueBytes.{vector_bytes}
+use Rattle.wc_binary.proofs.spelling.Encoding.{item-unmeasured}
 use Rattle.wc_binary.proofs.encoder.measured.vector_size.Goals as goal
 
 pub returns-in_err-size : goal.returns-in_err-size

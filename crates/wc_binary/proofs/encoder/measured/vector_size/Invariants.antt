@@ -1,7 +1,7 @@
 use Rattle.std.proofs.Common.{◌≡◌, ◌++◌, ◌-◌, ◌^◌, length, take}
 use Rattle.std.specs.Prelude.{min}
 use Rattle.std.specs.List.{flat_map}
-use Rattle.wc_leb128.specs.Shortest.{unsigned_bytes}
+use Rattle.wc_leb128.specs.Writing.Bytes.{unsigned_bytes}
 use Rattle.wc_binary.proofs.encoder.measured.vector_size.Given as goal
 
 abbrev pub invariant-loop-item : goal.invariant-loop-item

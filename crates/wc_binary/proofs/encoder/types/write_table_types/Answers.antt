@@ -1,8 +1,8 @@
 use Rattle.std.proofs.Common.{[]}
 use Rattle.std.proofs.lemmas.Result.{err_from_is_err_and}
-use Rattle.wc_ast.specs.ValueBytes.{vector_bytes}
-use Rattle.wc_binary.specs.Written.{FitsLimits, table_type_bytes}
-use Rattle.wc_binary.proofs.Encoding.{item-fails, get_or-any}
+use Rattle.wc_body.specs.Standard.ValueBytes.{vector_bytes}
+use Rattle.wc_binary.specs.Writing.Values.{FitsLimits, table_type_bytes}
+use Rattle.wc_binary.proofs.spelling.Encoding.{item-fails, get_or-any}
 use Rattle.wc_binary.proofs.encoder.types.write_table_types.Goals as goal
 
 pub returns-in_err-write_table_type : goal.returns-in_err-write_table_type

@@ -1,5 +1,5 @@
 use Rattle.std.proofs.Common.{refl}
-use Rattle.wc_leb128.proofs.UnsignedShortest.{unsigned_bytes-low}
+use Rattle.wc_leb128.proofs.Writing.UnsignedShortest.{unsigned_bytes-low}
 use Rattle.wc_binary.proofs.encoder.value.write_u32.Goals as goal
 
 pub returns-then-n-lt128 : goal.returns-then-n-lt128

@@ -1,9 +1,9 @@
 use Rattle.std.proofs.Common.{◌<◌, ◌≤◌, ◌-◌, ◌*◌, ◌^◌, ℕ, ℤ, [], arith}
 use Rattle.std.proofs.Math.Pow.{pow_mono}
-use Rattle.wc_leb128.specs.Integers.{S}
-use Rattle.wc_leb128.proofs.SignedLaws.{begins-more, continues}
-use Rattle.wc_leb128.proofs.Push.{sum_fits, push_bad, push_more, state_more}
-use Rattle.wc_leb128.proofs.SignedPush.{push_ended}
+use Rattle.wc_leb128.specs.Standard.Integers.{S}
+use Rattle.wc_leb128.proofs.Laws.SignedLaws.{begins-more, continues}
+use Rattle.wc_leb128.proofs.Reading.Push.{sum_fits, push_bad, push_more, state_more}
+use Rattle.wc_leb128.proofs.Reading.SignedPush.{push_ended}
 use Rattle.wc_leb128.proofs.signed.Signed.push.Goals as goal
 
 below_power : (b r : ℕ) → b < 128 → 7 ≤ r → b < 2 ^ r

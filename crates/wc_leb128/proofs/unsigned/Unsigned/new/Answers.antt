@@ -1,5 +1,5 @@
 use Rattle.std.proofs.Common.{refl}
-use Rattle.wc_leb128.specs.State.{digits}
+use Rattle.wc_leb128.specs.Reading.State.{digits}
 use Rattle.wc_leb128.proofs.unsigned.Unsigned.new.Goals as goal
 
 pub returns : goal.returns

@@ -1,8 +1,8 @@
 use Rattle.std.proofs.Common.{rules, ◌<◌, ◌≤◌, ◌-◌, ◌*◌, ◌^◌, ℕ, [], ◌∷◌, inl, inr, arith}
 use Rattle.std.proofs.Math.Pow.{pow_mono}
-use Rattle.wc_leb128.specs.Integers.{U, Begins}
-use Rattle.wc_leb128.proofs.UnsignedLaws.{begins-stands, continues}
-use Rattle.wc_leb128.proofs.Push.{sum_fits, push_done, push_bad, push_more, state_more}
+use Rattle.wc_leb128.specs.Standard.Integers.{U, Begins}
+use Rattle.wc_leb128.proofs.Laws.UnsignedLaws.{begins-stands, continues}
+use Rattle.wc_leb128.proofs.Reading.Push.{sum_fits, push_done, push_bad, push_more, state_more}
 use Rattle.wc_leb128.proofs.unsigned.Unsigned.push.Goals as goal
 
 below_power : (b r : ℕ) → b < 128 → 7 ≤ r → b < 2 ^ r

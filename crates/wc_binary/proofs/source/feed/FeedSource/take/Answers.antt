@@ -1,16 +1,16 @@
 use Rattle.std.proofs.Common.{arith, ◌≡◌, ◌≤◌, ◌+◌, ◌-◌, length, refl, rules}
-use Rattle.wc_binary.proofs.Feeding.{front-split}
+use Rattle.wc_binary.proofs.reading.Feeding.{pending-split}
 use Rattle.wc_binary.proofs.source.feed.FeedSource.take.Goals as goal
 
-pub returns : goal.returns
-returns g c =
+pub returns-clause-taken : goal.returns-clause-taken
+returns-clause-taken g c =
     let f = c.args.self.now in
     let n = c.min-count.result in
     let le : f.at + n ≤ f.end = omega (arith, c.min-count.ensures, f.ordered) in
     let most : n ≤ c.args.most = omega (arith, c.min-count.ensures) in
     let same : f.at + n - f.at ≡ n = omega arith in
     let whole : f.end ≤ length f.buffer = search rules in
-    let split = front-split f.buffer f.at f.end n _ same le whole in (
+    let split = pending-split f.buffer f.at f.end n _ same le whole in (
       _,
       c.in_ok-extend_from_slice.ensures.items,
       rw split.0 most,

@@ -1,0 +1,2 @@
+-- Groups of locals.
+pub mod GroupLemmas

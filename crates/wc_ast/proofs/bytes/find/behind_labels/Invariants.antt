@@ -1,6 +1,0 @@
-use Rattle.std.proofs.Common.{◌≡◌, ◌-◌}
-use Rattle.wc_ast.specs.Fronts.{behind_labels}
-use Rattle.wc_ast.proofs.bytes.find.behind_labels.Given as goal
-
-abbrev pub invariant-loop : goal.invariant-loop
-invariant-loop l = behind_labels (l.count - l.counter) l.rest ≡ behind_labels l.count l.bytes

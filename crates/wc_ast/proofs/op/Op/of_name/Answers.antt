@@ -1,5 +1,0 @@
-use Rattle.wc_ast.proofs.NameLemmas.{known_name}
-use Rattle.wc_ast.proofs.op.Op.of_name.Goals as goal
-
-pub returns-in-Some : goal.returns-in-Some
-returns-in-Some c = known_name c.args.word.now c.in-Some.op c.in-Some.ensures

@@ -1,0 +1,2 @@
+-- What the parts of a module keep.
+pub mod Locals

@@ -1,0 +1,2 @@
+-- What the standard says of the locals of a function.
+pub mod LocalGroups

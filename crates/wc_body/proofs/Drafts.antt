@@ -1,0 +1,5 @@
+-- Drafts, and what the builder keeps of them.
+pub mod DraftLaws
+pub mod BuildingLemmas
+pub mod NeedsLemmas
+pub mod BuilderLemmas

@@ -1,0 +1,7 @@
+-- Entries by their bytes.
+pub mod Integers
+pub mod Unpacking
+pub mod PutBytes
+pub mod PackedLemmas
+pub mod EntryLemmas
+pub mod EntryBytes

@@ -1,0 +1,6 @@
+-- What bodies and their builder keep.
+pub mod Staying
+pub mod Kept
+pub mod OpenParts
+pub mod NeededAlong
+pub mod PackedBody

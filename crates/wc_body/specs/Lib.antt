@@ -1,0 +1,5 @@
+pub mod Standard
+pub mod Drafting
+pub mod Reading
+pub mod Writing
+pub mod Stored

@@ -1,0 +1,4 @@
+-- Reading entries back from their bytes, computed.
+pub mod Fronts
+pub mod Unpacked
+pub mod LabelItems

@@ -1,0 +1,2 @@
+-- Writing bytes entry by entry.
+pub mod EntryBytes

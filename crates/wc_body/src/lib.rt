@@ -1,0 +1,23 @@
+//! Instructions and the bodies of functions: entries, the builder that takes them, and the bytes that keep them.
+#![tactic(auto)]
+
+pub mod body;
+pub mod body_law;
+pub mod builder;
+mod bytes;
+pub mod entries;
+pub mod entry;
+pub mod instr;
+pub mod labels;
+pub mod needs;
+pub mod try_clone;
+
+pub use crate::body::{Body, NESTING_LIMIT};
+pub use crate::body_law::entries_tell_bodies;
+pub use crate::builder::{BodyBuilder, BuildFault};
+pub use crate::entries::Entries;
+pub use crate::entry::{Entry, Kind};
+pub use crate::instr::{BlockType, Instr, MemArg};
+pub use crate::labels::Labels;
+pub use crate::needs::Needs;
+pub use crate::try_clone::TryClone;

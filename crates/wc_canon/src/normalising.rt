@@ -1,0 +1,39 @@
+//! The answer to an input.
+
+ghost use Rattle.std.specs.Prelude.{◌≡◌, ◌⊎◌, IfOk, IfErr, MatchResult};
+ghost use Rattle.wc_ast.specs.declared.module.Module.{Module};
+ghost use Rattle.wc_binary.specs.Standard.Module.{Canon, IsOrLonger};
+ghost use Rattle.wc_canon.specs.Input.{Means, HasAnswer, HasFault, IsRefused};
+
+use crate::canonical::canonical_bytes;
+use crate::fault::Refusal;
+use crate::spelled::spelled_module;
+use std::alloc::Global;
+
+/// The canonical bytes of the module that the input denotes, to its last byte, or else the one first fault of the
+/// input.
+///
+/// Two inputs that are accepted have equal answers exactly if they denote the same module, and an answer is its own
+/// answer. Custom sections are read and left out. Every input is judged as a binary (WebAssembly Core
+/// Specification 1.0, 5.5.15), and its module by the rules on modules (chapter 3, but for the typing of instructions).
+///
+/// # Errors
+/// `Refusal::Binary` where the input is no binary, and else `Refusal::Check` where its module breaks a rule. Exactly
+/// these inputs are refused; `Refusal::Oversize` never comes, and `Refusal::Memory` only where a growth of memory was
+/// refused.
+pub fn normalise(alloc: Global, input: &[u8]) -> Result<Vec<u8>, Refusal>
+    ensures ok { IfOk result (λ b. HasAnswer input.now b.items) }
+    ensures err { IfErr result (IsRefused input.now) }
+
+    // Each input that denotes a module is answered so, and each one with a fault is refused by it.
+    ensures only { (m : Module) → Means input.now m
+        → MatchResult result (λ b. Canon b.items m) (λ f. f ≡ Refusal.Memory) }
+    ensures only_fault { (fault : Refusal) → HasFault input.now fault
+        → MatchResult result (λ b. ⊥) (λ f. (f ≡ Refusal.Memory) ⊎ (f ≡ fault)) }
+
+    // An input is its own answer, or longer than it.
+    ensures shortest { IfOk result (λ b. IsOrLonger input.now b.items) }
+{
+    let module = spelled_module(alloc, input)?;
+    canonical_bytes(alloc, &module)
+}

@@ -1,0 +1,3 @@
+pub mod VerdictLemmas
+pub mod SpaceLemmas
+pub mod NameLemmas

@@ -1,0 +1,104 @@
+-- What carrying out a line comes to. x and y are the bytes of its inputs, where they are known; a and b say whether an
+-- input couldn't be read; old and new are the bytes that the writer of answers holds, where they are known.
+use Rattle.std.specs.Prelude.{◌≡◌, ◌⊎◌, ℕ, ◌≤◌, List, [], ◌∷◌, ◌++◌, length, take, codes, Bool, true, false}
+use Rattle.std.specs.Prelude.{Option, Some, None, IfSome, option_and_then, option_map, Result, Ok, Err, ⊤}
+use Rattle.std.specs.Io.KnownBytes.{Keeps, Appends}
+use denote.Ref.{Bor}
+use Rattle.wc_device.specs.declared.io_device.Device.{Device}
+use Rattle.wc_device.specs.Device.{device_inner, has_failed, read_count}
+use Rattle.wc_canon.specs.declared.fault.Refusal.{Refusal}
+use Rattle.wc_canon.specs.Input.{IsAccepted, HasFault}
+use Rattle.wc_canon.specs.Comparing.{IsSame, IsDifferent}
+use Rattle.wc_canon.specs.Run.{IsAnswerOf}
+use Rattle.wc_cli.specs.declared.command_line.Line.{Line}
+use Rattle.wc_cli.specs.declared.command_line.Line.TheVariants.{Make, Check, Compare}
+use Rattle.wc_cli.specs.declared.failure.Failure.{Failure}
+use Rattle.wc_cli.specs.declared.failure.Failure.TheVariants.{Refused, CannotRead, CannotWrite, NotText}
+use Rattle.wc_cli.specs.declared.failure.Failure.TheVariants.{NoSubcommand, OutOfMemory}
+use Rattle.wc_cli.specs.Failing.{Reports}
+
+-- ---- inputs, each the device of an opened reader, or none where it can't be opened
+
+-- its bytes, where they are known
+abbrev pub input_bytes : {R : Type 0} → (R → Option (List ℕ)) → Option (Device R) → Option (List ℕ)
+input_bytes remaining None = None
+input_bytes remaining (Some d) = remaining (device_inner d)
+
+-- it wasn't opened, or a read of it failed
+abbrev pub is_unread : {R : Type 0} → Option (Device R) → Bool
+is_unread None = true
+is_unread (Some d) = has_failed d
+
+-- nothing was read of it
+abbrev pub IsNewInput : {R : Type 0} → Option (Device R) → Type 0
+IsNewInput None = ⊤
+IsNewInput (Some d) = (has_failed d ≡ false) × (read_count d ≡ 0)
+
+-- ---- what a line asks for
+
+-- a word and a line end
+abbrev pub word_line : List ℕ → List ℕ
+word_line word = word ++ (10 ∷ [])
+
+-- P holds of the bytes of both inputs, where they are known
+abbrev pub IfBoth : Option (List ℕ) → Option (List ℕ) → (List ℕ → List ℕ → Type 0) → Type 0
+IfBoth x y P = IfSome x (λ u. IfSome y (P u))
+
+-- the text that answers a line, and its status
+abbrev pub IsAnswer : Line → Option (List ℕ) → Option (List ℕ) → List ℕ → ℕ → Type 0
+IsAnswer (Make job input output) x y text status = IsAnswerOf x text × (status ≡ 0)
+IsAnswer (Check input) x y text status = IfSome x IsAccepted × (text ≡ word_line (codes "ok")) × (status ≡ 0)
+IsAnswer (Compare p q) x y text status =
+    (IfBoth x y IsSame × (text ≡ word_line (codes "same")) × (status ≡ 0))
+    ⊎ (IfBoth x y IsDifferent × (text ≡ word_line (codes "different")) × (status ≡ 1))
+
+-- the input at the path is refused for f: the first one of a line that is
+abbrev pub IsRefusedAt : Line → Option (List ℕ) → Option (List ℕ) → List ℕ → Refusal → Type 0
+IsRefusedAt (Make job input output) x y path f = (path ≡ input.now) × IfSome x (λ u. HasFault u f)
+IsRefusedAt (Check input) x y path f = (path ≡ input.now) × IfSome x (λ u. HasFault u f)
+IsRefusedAt (Compare p q) x y path f =
+    ((path ≡ p.now) × IfSome x (λ u. HasFault u f))
+    ⊎ ((path ≡ q.now) × IfSome x IsAccepted × IfSome y (λ v. HasFault v f))
+
+-- the input at the path couldn't be read: the first one of a line that couldn't
+abbrev pub IsUnreadAt : Line → Bool → Bool → List ℕ → Type 0
+IsUnreadAt (Make job input output) a b path = (path ≡ input.now) × (a ≡ true)
+IsUnreadAt (Check input) a b path = (path ≡ input.now) × (a ≡ true)
+IsUnreadAt (Compare p q) a b path = ((path ≡ p.now) × (a ≡ true)) ⊎ ((path ≡ q.now) × (a ≡ false) × (b ≡ true))
+
+-- each input of a line could be read
+abbrev pub AreRead : Line → Bool → Bool → Type 0
+AreRead (Make job input output) a b = a ≡ false
+AreRead (Check input) a b = a ≡ false
+AreRead (Compare p q) a b = (a ≡ false) × (b ≡ false)
+
+-- where the answer goes: a path, or none for the standard output
+abbrev pub goes_to : Line → Option (Bor (List ℕ))
+goes_to (Make job input output) = output
+goes_to (Check input) = None
+goes_to (Compare p q) = None
+
+-- ---- what came of it
+
+-- the status once the whole answer went out, or the failure: failed says whether the writer of answers failed
+abbrev pub Ends : Line → Option (List ℕ) → Option (List ℕ) → Bool → Bool → Bool → Option (List ℕ) → Option (List ℕ)
+    → Result ℕ Failure → Type 0
+Ends line x y a b failed old new (Ok status) =
+    AreRead line a b × (failed ≡ false)
+    × ((text : List ℕ) × IsAnswer line x y text status × Appends old new text)
+Ends line x y a b failed old new (Err (Refused path f)) =
+    AreRead line a b × (failed ≡ false) × Keeps old new × IsRefusedAt line x y path.now f
+Ends line x y a b failed old new (Err (CannotRead path)) =
+    IsUnreadAt line a b path.now × (failed ≡ false) × Keeps old new
+Ends line x y a b failed old new (Err (CannotWrite path)) =
+    AreRead line a b × (failed ≡ true) × (path ≡ goes_to line)
+    × ((text : List ℕ) × (status n : ℕ) × IsAnswer line x y text status × (n ≤ length text)
+    × Appends old new (take n text))
+Ends line x y a b failed old new (Err NotText) = ⊥
+Ends line x y a b failed old new (Err NoSubcommand) = ⊥
+Ends line x y a b failed old new (Err OutOfMemory) = (failed ≡ false) × Keeps old new
+
+-- the same is told: the status alone, or the failure by its status and its line
+abbrev pub IsTold : Result ℕ Failure → ℕ → Bool → Option (List ℕ) → Option (List ℕ) → Type 0
+IsTold (Ok s) status failed old new = (status ≡ s) × Keeps old new
+IsTold (Err f) status failed old new = Reports f status failed old new

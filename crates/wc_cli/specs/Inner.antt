@@ -1,0 +1,2 @@
+-- What private functions speak of: no promise is stated by these.
+pub mod Reading

@@ -1,0 +1,55 @@
+-- What a private function answers on the way.
+use Rattle.std.specs.Prelude.{◌≡◌, ◌⊎◌, ℕ, ◌≤◌, List, length, take, Bool, true, false}
+use Rattle.std.specs.Prelude.{Option, None, Some, IfSome, Result, Ok, Err, ⊤}
+use Rattle.std.specs.Io.KnownBytes.{Appends}
+use denote.Ref.{Bor}
+use Rattle.wc_canon.specs.declared.fault.Refusal.{Refusal}
+use Rattle.wc_canon.specs.declared.fault.Refusal.TheVariants.{Memory}
+use Rattle.wc_canon.specs.declared.comparing.Comparison.{Comparison}
+use Rattle.wc_canon.specs.Input.{IsAccepted, HasFault}
+use Rattle.wc_canon.specs.Comparing.{Compares}
+use Rattle.wc_cli.specs.declared.failure.Failure.{Failure}
+use Rattle.wc_cli.specs.declared.failure.Failure.TheVariants.{Refused, CannotRead, CannotWrite, NotText}
+use Rattle.wc_cli.specs.declared.failure.Failure.TheVariants.{NoSubcommand, OutOfMemory}
+
+-- an input was read to its end; or it couldn't be read, as unread says, or memory was refused
+abbrev pub Reads : {V : Type 0} → List ℕ → Bool → Result V Failure → Type 0
+Reads path unread (Ok v) = unread ≡ false
+Reads path unread (Err (Refused p f)) = ⊥
+Reads path unread (Err (CannotRead p)) = (p.now ≡ path) × (unread ≡ true)
+Reads path unread (Err (CannotWrite p)) = ⊥
+Reads path unread (Err NotText) = ⊥
+Reads path unread (Err NoSubcommand) = ⊥
+Reads path unread (Err OutOfMemory) = ⊤
+
+-- a text went out to the standard output, or its first bytes: failed says whether the writer failed
+abbrev pub Says : {V : Type 0} → List ℕ → Bool → Option (List ℕ) → Option (List ℕ) → Result V Failure → Type 0
+Says text failed old new (Ok v) = (failed ≡ false) × Appends old new text
+Says text failed old new (Err (Refused p f)) = ⊥
+Says text failed old new (Err (CannotRead p)) = ⊥
+Says text failed old new (Err (CannotWrite (Some p))) = ⊥
+Says text failed old new (Err (CannotWrite None)) =
+    (failed ≡ true) × ((n : ℕ) × (n ≤ length text) × Appends old new (take n text))
+Says text failed old new (Err NotText) = ⊥
+Says text failed old new (Err NoSubcommand) = ⊥
+Says text failed old new (Err OutOfMemory) = ⊥
+
+-- the failure where the input at the path is refused so
+abbrev pub refusal_failure : Bor (List ℕ) → Refusal → Failure
+refusal_failure path Memory = OutOfMemory
+refusal_failure path f = Refused path f
+
+-- what a comparison of two inputs came to, by their paths: Ends says the same of the whole line
+abbrev pub ComparesInputs : List ℕ → List ℕ → Option (List ℕ) → Option (List ℕ) → Bool → Bool
+    → Result Comparison Failure → Type 0
+ComparesInputs p q x y a b (Ok c) = (a ≡ false) × (b ≡ false) × IfSome x (λ u. IfSome y (λ v. Compares u v c))
+ComparesInputs p q x y a b (Err (Refused path f)) =
+    (a ≡ false) × (b ≡ false)
+    × (((path.now ≡ p) × IfSome x (λ u. HasFault u f))
+    ⊎ ((path.now ≡ q) × IfSome x IsAccepted × IfSome y (λ v. HasFault v f)))
+ComparesInputs p q x y a b (Err (CannotRead path)) =
+    ((path.now ≡ p) × (a ≡ true)) ⊎ ((path.now ≡ q) × (a ≡ false) × (b ≡ true))
+ComparesInputs p q x y a b (Err (CannotWrite path)) = ⊥
+ComparesInputs p q x y a b (Err NotText) = ⊥
+ComparesInputs p q x y a b (Err NoSubcommand) = ⊥
+ComparesInputs p q x y a b (Err OutOfMemory) = ⊤

@@ -1,0 +1,79 @@
+//! The subcommands, their arguments and their help.
+
+ghost use Rattle.std.specs.Prelude.{◌≡◌, IfOk, false};
+ghost use Rattle.clap.specs.Words.{app_of, rule_of};
+ghost use Rattle.clap.specs.declared.Command.TheViews.{out-Command as fields_of};
+ghost use Rattle.wc_cli.specs.Program.{path_rule, output_rule, binary_app, check_app, compare_app, program};
+
+use clap::{Arg, ArgAction, Command};
+use std::alloc::{AllocError, Global};
+
+/// A path that has to be given.
+fn path<'a>(alloc: Global, id: &'a str, help: &'a str) -> Arg<'a>
+    ensures rule { rule_of result ≡ path_rule id.entry.now }
+    ensures own { result.global ≡ false }
+{
+    Arg::new(alloc, id)
+        .required(true)
+        .action(ArgAction::Set)
+        .help(help)
+}
+
+/// `-o OUT` and `--output OUT`.
+fn output<'a>(alloc: Global) -> Arg<'a>
+    ensures rule { rule_of result ≡ output_rule }
+    ensures own { result.global ≡ false }
+{
+    Arg::new(alloc, "OUT")
+        .short('o')
+        .long("output")
+        .action(ArgAction::Set)
+        .help("The file to write, in place of standard output")
+}
+
+fn binary<'a>(alloc: Global) -> Result<Command<'a>, AllocError>
+    ensures app { IfOk result (λ c. app_of c ≡ binary_app) }
+    ensures own { IfOk result (λ c. (fields_of c).has_globals ≡ false) }
+{
+    Command::new(alloc, "binary")
+        .about("Write the canonical bytes of a module")
+        .after_help("Example: wcanon binary in.wasm -o out.wasm")
+        .arg(path(alloc, "IN", "The module to read"))?
+        .arg(output(alloc))
+}
+
+fn check<'a>(alloc: Global) -> Result<Command<'a>, AllocError>
+    ensures app { IfOk result (λ c. app_of c ≡ check_app) }
+    ensures own { IfOk result (λ c. (fields_of c).has_globals ≡ false) }
+{
+    Command::new(alloc, "check")
+        .about("Tell whether a module is accepted, or its first fault")
+        .after_help("Example: wcanon check in.wasm")
+        .arg(path(alloc, "IN", "The module to read"))
+}
+
+fn compare<'a>(alloc: Global) -> Result<Command<'a>, AllocError>
+    ensures app { IfOk result (λ c. app_of c ≡ compare_app) }
+    ensures own { IfOk result (λ c. (fields_of c).has_globals ≡ false) }
+{
+    Command::new(alloc, "compare")
+        .about("Tell whether two files denote the same module")
+        .after_help("Example: wcanon compare a.wasm b.wasm")
+        .arg(path(alloc, "A", "One module"))?
+        .arg(path(alloc, "B", "The other module"))
+}
+
+/// The program's command, with its subcommands.
+pub(crate) fn wcanon<'a>(alloc: Global) -> Result<Command<'a>, AllocError>
+    ensures { IfOk result (λ c. app_of c ≡ program) }
+{
+    Command::new(alloc, "wcanon")
+        .about("Gives WebAssembly modules one canonical binary form")
+        .after_help(
+            "Examples:\n  wcanon binary in.wasm -o out.wasm\n  wcanon check in.wasm\n  wcanon compare a.wasm b.wasm",
+        )
+        .subcommand_required(true)
+        .subcommand(binary(alloc)?)?
+        .subcommand(check(alloc)?)?
+        .subcommand(compare(alloc)?)
+}

@@ -1,0 +1,4 @@
+//! Command lines, how they are carried out, and what is told.
+mod acting;
+mod devices;
+mod lines;

@@ -1,0 +1,108 @@
+//! Command lines, their statuses and the help.
+
+use std::alloc::Global;
+use std::test::Fail;
+use wc_cli::{line, status_of};
+
+/// What the words of a text ask for, or the status of its error.
+fn told(alloc: Global, text: &str) -> Result<String, Fail> {
+    let words: Vec<&str> = text.split(' ').collect(alloc)?;
+    let told = match line(alloc, words.as_slice()) {
+        Ok(Some(line)) => format!(in alloc; "{line:?}")?,
+        Ok(None) => "none".to_string(alloc)?,
+        Err(error) => format!(in alloc; "status {}", status_of(&error))?,
+    };
+    Ok(told)
+}
+
+#[test]
+fn words_are_read(rt: HostRuntime) -> Result<(), Fail> {
+    for (text, what) in [
+        // without OUT
+        (
+            "wcanon binary a.wasm",
+            "Make { job: Binary, input: \"a.wasm\", output: None }",
+        ),
+        // OUT behind
+        (
+            "wcanon binary a.wasm -o b.wasm",
+            "Make { job: Binary, input: \"a.wasm\", output: Some(\"b.wasm\") }",
+        ),
+        // OUT before, long
+        (
+            "wcanon binary --output b.wasm a.wasm",
+            "Make { job: Binary, input: \"a.wasm\", output: Some(\"b.wasm\") }",
+        ),
+        // check
+        ("wcanon check a.wasm", "Check { input: \"a.wasm\" }"),
+        // compare
+        (
+            "wcanon compare a.wasm b.wasm",
+            "Compare { a: \"a.wasm\", b: \"b.wasm\" }",
+        ),
+    ] {
+        assert_eq!(rt; told(rt.alloc(), text)?.as_str(), what);
+    }
+    Ok(())
+}
+
+#[test]
+fn errors_have_their_status(rt: HostRuntime) -> Result<(), Fail> {
+    for (text, status) in [
+        // no subcommand
+        ("wcanon", "status 2"),
+        // unknown one
+        ("wcanon convert a.wasm", "status 2"),
+        // path missing
+        ("wcanon binary", "status 2"),
+        // a path too many
+        ("wcanon binary a.wasm b.wasm", "status 2"),
+        // OUT missing
+        ("wcanon binary a.wasm -o", "status 2"),
+        // path missing
+        ("wcanon check", "status 2"),
+        // option of another
+        ("wcanon check a.wasm -o b.wasm", "status 2"),
+        // B missing
+        ("wcanon compare a.wasm", "status 2"),
+        // help, four ways
+        ("wcanon --help", "status 0"),
+        ("wcanon -h", "status 0"),
+        ("wcanon help", "status 0"),
+        ("wcanon compare --help", "status 0"),
+    ] {
+        assert_eq!(rt; told(rt.alloc(), text)?.as_str(), status);
+    }
+    Ok(())
+}
+
+/// The text of the error that the words of a text are.
+fn shown(rt: &HostRuntime, text: &str) -> Result<String, Fail> {
+    let words: Vec<&str> = text.split(' ').collect(rt.alloc())?;
+    match line(rt.alloc(), words.as_slice()) {
+        Ok(_) => Ok(String::new(rt.alloc())),
+        Err(error) => Ok(format!(in rt.alloc(); "{error}")?),
+    }
+}
+
+#[test]
+fn help_names_each_subcommand(rt: HostRuntime) -> Result<(), Fail> {
+    let help = shown(&rt, "wcanon --help")?;
+    for part in [
+        "  binary   Write the canonical bytes of a module\n",
+        "  check    Tell whether a module is accepted, or its first fault\n",
+        "  compare  Tell whether two files denote the same module\n",
+        "  wcanon binary in.wasm -o out.wasm\n",
+        "  wcanon check in.wasm\n",
+        "  wcanon compare a.wasm b.wasm",
+    ] {
+        assert!(rt; help.contains(part), "{help}");
+    }
+    let help = shown(&rt, "wcanon compare --help")?;
+    assert!(rt; help.contains("Usage: wcanon compare <A> <B>"), "{help}");
+    assert!(rt;
+        help.contains("Example: wcanon compare a.wasm b.wasm"),
+        "{help}"
+    );
+    Ok(())
+}

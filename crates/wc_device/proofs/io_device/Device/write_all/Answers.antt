@@ -1,0 +1,11 @@
+use Rattle.std.proofs.Common.{rules}
+use Rattle.wc_device.proofs.Writing.{appends_more}
+use Rattle.wc_device.proofs.io_device.Device.write_all.Goals as goal
+
+pub loop-sent-preserved : goal.loop-sent-preserved
+loop-sent-preserved g c = record {
+  within = search rules;
+  same = search rules;
+  counted = search rules;
+  appended = appends_more _ _ _ _ _ _ c.loop-sent.invariant.appended c.in-Ok.ensures.bytes;
+}

@@ -1,0 +1,4 @@
+pub mod Spellings
+pub mod Exact
+pub mod UnsignedLaws
+pub mod SignedLaws

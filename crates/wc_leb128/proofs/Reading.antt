@@ -1,0 +1,5 @@
+pub mod SignedEnd
+pub mod SignedPush
+pub mod Digits
+pub mod Push
+pub mod AtFront

@@ -1,0 +1,4 @@
+pub mod Integers
+pub mod Shortest
+pub mod Pushing
+pub mod Laws

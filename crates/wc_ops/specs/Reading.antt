@@ -1,0 +1,3 @@
+-- The same, computed.
+pub mod OpcodeMeaning
+pub mod NameSlots

@@ -1,0 +1,34 @@
+//! Laws of the opcode table. Each function only states its law: it does nothing.
+
+ghost use Rattle.std.specs.Prelude.{◌≡◌, ℕ, List};
+ghost use Rattle.wc_ops.specs.Standard.ByteMeaning.{IsOpByte};
+ghost use Rattle.wc_ops.specs.Standard.NameMeaning.{IsOpName};
+ghost use Rattle.wc_ops.specs.Standard.Opcodes.{row};
+ghost use Rattle.wc_ops.specs.declared.op.Op.{Op};
+ghost use Rattle.wc_ops.specs.declared.op.OpByte.{OpByte};
+ghost use Rattle.wc_ops.specs.declared.op.OpByte.TheVariants as bytes;
+ghost use Rattle.wc_ops.specs.declared.op.OpName.{OpName};
+ghost use Rattle.wc_ops.specs.declared.op.OpName.TheVariants as names;
+
+use crate::op::Op;
+
+/// A byte has one meaning, and so has a word.
+pub fn one_meaning()
+    ensures byte { (byte : ℕ) (x y : OpByte) → IsOpByte byte x → IsOpByte byte y → x ≡ y }
+    ensures name { (word : List ℕ) (x y : OpName) → IsOpName word x → IsOpName word y → x ≡ y }
+{}
+
+/// An instruction's opcode and its name lead back to it.
+pub fn leads_back()
+    ensures byte { (op : Op) (x : OpByte) → IsOpByte (row op).byte x → x ≡ bytes.Known op }
+    ensures name { (op : Op) (x : OpName) → IsOpName (row op).name x → x ≡ names.Known op }
+{}
+
+/// No two instructions share an opcode or a name.
+pub fn rows_differ(a: Op, b: Op)
+    ensures byte { (row a).byte ≡ (row b).byte → a ≡ b }
+    ensures name { (row a).name ≡ (row b).name → a ≡ b }
+{
+    let _ = Op::of_byte(a.byte());
+    let _ = Op::of_name(a.name());
+}

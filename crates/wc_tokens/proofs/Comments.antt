@@ -1,0 +1,2 @@
+pub mod AfterComments
+pub mod CommentLaws

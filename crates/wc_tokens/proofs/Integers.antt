@@ -1,0 +1,4 @@
+pub mod Scans
+pub mod DigitLaws
+pub mod NumberLaws
+pub mod Literals

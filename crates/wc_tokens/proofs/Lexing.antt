@@ -1,0 +1,5 @@
+pub mod ClassLaws
+pub mod Utf8Laws
+pub mod LexLaws
+pub mod SpanLaws
+pub mod RunLaws

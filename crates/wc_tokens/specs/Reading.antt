@@ -1,0 +1,5 @@
+pub mod Scans
+pub mod Numbers
+pub mod Elements
+pub mod Heads
+pub mod Stops

@@ -1,0 +1,180 @@
+//! What stands at the front of a text: a gap, a token, or a fault.
+
+ghost use Rattle.std.specs.Prelude.{◌≡◌, ◌≤◌, ◌+◌, ◌⊎◌, ℕ, List, ◌∷◌, length, take, drop, MatchOption, true};
+ghost use Rattle.std.specs.List.{AllByRecursion};
+ghost use Rattle.wc_tokens.specs.Standard.Gaps.{Inside};
+ghost use Rattle.wc_tokens.specs.Standard.Lexemes.{is_idchar, IsIdchar, BeginsNoIdchar};
+ghost use Rattle.wc_tokens.specs.Reading.Heads.{BlanksEnd, LineEnds, RunEnds, IsHead, IsHeadOrEnd};
+
+use crate::bytes::behind;
+use crate::classes::{is_blank, is_idchar};
+use crate::elements::after_elements;
+use crate::fault::LexWhy;
+use crate::token::TokenKind;
+
+/// What stands at the front of a text.
+#[derive(Clone, Copy)]
+pub enum Head<'a> {
+    /// A blank or a comment, and what follows it.
+    Gap(&'a [u8]),
+    /// A token, and what follows it.
+    Token(TokenKind, &'a [u8]),
+    /// Nothing whole: the text from the fault on, and its reason.
+    Stuck(&'a [u8], LexWhy),
+}
+
+/// What follows the blanks at the front of a text.
+#[inline(always)]
+pub fn after_blanks(text: &[u8]) -> &[u8]
+    ensures { BlanksEnd text.now result.now }
+{
+    let mut at = 0;
+    while at < text.len() && is_blank(text[at]) {
+        at += 1;
+    }
+    &text[at..]
+}
+
+/// What follows a line.
+fn after_line(text: &[u8]) -> &[u8]
+    ensures { LineEnds text.now result.now }
+{
+    let mut at = 0;
+    while at < text.len() && text[at] != b'\n' {
+        at += 1;
+    }
+    &text[at..]
+}
+
+/// What follows a block comment whose `(;` stands before the text, if it is closed.
+fn after_comment(text: &[u8]) -> Option<&[u8]>
+    ensures { MatchOption result ((rest : List ℕ) → ¬ (Inside text.now (59 ∷ 41 ∷ rest)))
+        (λ rest. Inside text.now (59 ∷ 41 ∷ rest.now)) }
+{
+    let mut depth = 0usize;
+    let mut at = 0;
+    while at + 1 < text.len() {
+        if text[at] == b'(' && text[at + 1] == b';' {
+            depth += 1;
+            at += 2;
+        } else if text[at] == b';' && text[at + 1] == b')' {
+            if depth == 0 {
+                return Some(&text[at + 2..]);
+            }
+            depth -= 1;
+            at += 2;
+        } else {
+            at += 1;
+        }
+    }
+    None
+}
+
+/// How many idchars stand at the front, looked at two a round: a last byte without a second isn't looked at.
+#[inline(always)]
+fn count_in_pairs(text: &[u8]) -> usize
+    ensures within { result ≤ length text.now }
+    ensures idchars { AllByRecursion IsIdchar (take result text.now) }
+    ensures ended { (length text.now ≤ result + 1) ⊎ BeginsNoIdchar (drop result text.now) }
+{
+    let mut at = 0;
+    while at + 1 < text.len() {
+        if !is_idchar(text[at]) {
+            return at;
+        }
+        if !is_idchar(text[at + 1]) {
+            return at + 1;
+        }
+        at += 2;
+    }
+    at
+}
+
+/// What follows a run of idchars.
+#[inline(always)]
+fn after_run(text: &[u8]) -> &[u8]
+    ensures { RunEnds text.now result.now }
+{
+    // Most bytes of a text pass here, so a round takes two.
+    let mut at = count_in_pairs(text);
+    while at < text.len() && is_idchar(text[at]) {
+        at += 1;
+    }
+    &text[at..]
+}
+
+/// A parenthesis or a block comment.
+#[inline(always)]
+fn parenthesis<'a>(text: &'a [u8], rest: &'a [u8]) -> Head<'a>
+    requires { text.now ≡ 40 ∷ rest.now }
+    ensures { IsHead text.now result }
+{
+    let Some(inside) = behind(rest, b';') else {
+        return Head::Token(TokenKind::Open, rest);
+    };
+    match after_comment(inside) {
+        Some(after) => Head::Gap(after),
+        None => Head::Stuck(text, LexWhy::CommentOpen),
+    }
+}
+
+/// A line comment or a lone semicolon.
+fn semicolon<'a>(text: &'a [u8], rest: &'a [u8]) -> Head<'a>
+    requires { text.now ≡ 59 ∷ rest.now }
+    ensures { IsHead text.now result }
+{
+    match behind(rest, b';') {
+        Some(line) => Head::Gap(after_line(line)),
+        None => Head::Stuck(text, LexWhy::Character),
+    }
+}
+
+/// A string.
+fn string<'a>(text: &'a [u8], rest: &'a [u8]) -> Head<'a>
+    requires { text.now ≡ 34 ∷ rest.now }
+    ensures { IsHead text.now result }
+{
+    let end = after_elements(rest);
+    if end.is_empty() {
+        return Head::Stuck(text, LexWhy::StringOpen);
+    }
+    match behind(end, b'"') {
+        Some(after) => Head::Token(TokenKind::Str, after),
+        None => Head::Stuck(end, LexWhy::Escape),
+    }
+}
+
+/// A word or an identifier.
+#[inline(always)]
+fn run<'a>(text: &'a [u8], first: u8, rest: &'a [u8]) -> Head<'a>
+    requires front { text.now ≡ first ∷ rest.now }
+    requires idchar { is_idchar first ≡ true }
+    ensures { IsHead text.now result }
+{
+    let after = after_run(rest);
+    if first == b'$' && after.len() < rest.len() {
+        return Head::Token(TokenKind::Id, after);
+    }
+    Head::Token(TokenKind::Word, after)
+}
+
+/// What stands at the front of a text, or `None` at its end.
+#[inline(always)]
+pub fn next_head(text: &[u8]) -> Option<Head<'_>>
+    ensures { IsHeadOrEnd text.now result }
+{
+    let (first, rest) = text.split_first()?;
+    if is_idchar(*first) {
+        return Some(run(text, *first, rest));
+    }
+    if is_blank(*first) {
+        return Some(Head::Gap(rest));
+    }
+    match *first {
+        b'(' => Some(parenthesis(text, rest)),
+        b')' => Some(Head::Token(TokenKind::Close, rest)),
+        b';' => Some(semicolon(text, rest)),
+        b'"' => Some(string(text, rest)),
+        _ => Some(Head::Stuck(text, LexWhy::Character)),
+    }
+}
