@@ -1,0 +1,12 @@
+pub mod ReadStrings
+pub mod Words
+pub mod Lexing
+pub mod ReadNumbers
+pub mod Naming
+pub mod Numbering
+pub mod Putting
+pub mod Stringing
+pub mod Values
+pub mod Instructions
+pub mod Apart
+pub mod Whole

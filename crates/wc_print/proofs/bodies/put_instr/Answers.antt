@@ -1,0 +1,57 @@
+use Rattle.std.proofs.Common.{◌≡◌, ◌∙◌, refl, codes, rules, w32, w64, SFits}
+use Rattle.std.proofs.Math.Facts.{to_z-of_z}
+use Rattle.wc_ops.specs.Standard.Opcodes.{simple, index, memory}
+use Rattle.wc_tokens.specs.Standard.Lexemes.{is_idchar}
+use Rattle.wc_print.specs.Printed.{word}
+use Rattle.wc_print.proofs.Naming.{simple-word, index-word, memory-word}
+use Rattle.wc_print.proofs.Putting.{chain-last}
+use Rattle.wc_print.proofs.bodies.put_instr.Goals as goal
+
+pub returns-in-Simple : goal.returns-in-Simple
+returns-in-Simple c =
+    let op = c.in-Simple.op in
+    rw c.in-Simple.is (c.put_at.ensures (word (simple op).name) c.simple_line.ensures (simple-word op))
+
+pub returns-in_ok-put_at-in-Index : goal.returns-in_ok-put_at-in-Index
+returns-in_ok-put_at-in-Index c =
+    let op = c.in-Index.op in
+    rw c.in-Index.is
+    (chain-last _ _ _ (c.in_ok-put_at-in-Index.ensures (word (index op).name) c.index_line.ensures (index-word op))
+    c.put_number.ensures)
+
+pub returns-in_ok-put_at-in-Mem : goal.returns-in_ok-put_at-in-Mem
+returns-in_ok-put_at-in-Mem c =
+    let op = c.in-Mem.op in
+    rw c.in-Mem.is
+    (chain-last _ _ _ (c.in_ok-put_at-in-Mem.ensures (word (memory op).name) c.memory_line.ensures (memory-word op))
+    c.put_memory.ensures)
+
+pub returns-in_ok-put_at-in-BrTable : goal.returns-in_ok-put_at-in-BrTable
+unfolding is_idchar
+returns-in_ok-put_at-in-BrTable c =
+    rw c.in-BrTable.is
+    (chain-last _ _ _ (c.in_ok-put_at-in-BrTable.ensures (word (codes "br_table")) refl refl) c.put_labels.ensures)
+
+pub returns-in_ok-put_at-in-CallIndirect : goal.returns-in_ok-put_at-in-CallIndirect
+unfolding is_idchar
+returns-in_ok-put_at-in-CallIndirect c =
+    rw c.in-CallIndirect.is
+    (chain-last _ _ _ (c.in_ok-put_at-in-CallIndirect.ensures (word (codes "call_indirect")) refl refl) c.put_type_use.ensures)
+
+pub returns-in_ok-put_at-in-I32Const : goal.returns-in_ok-put_at-in-I32Const
+unfolding is_idchar
+returns-in_ok-put_at-in-I32Const c =
+    let fits : SFits w32 c.in-I32Const.n = search rules in
+    let wide : SFits w64 c.in-I32Const.n = search rules in
+    let same : c.from.result ≡ c.in-I32Const.n = c.from.ensures ∙ to_z-of_z fits in
+    rw c.in-I32Const.is
+    (chain-last _ _ _ (c.in_ok-put_at-in-I32Const.ensures (word (codes "i32.const")) refl refl)
+    (rw (to_z-of_z wide) at (rw same at c.put_integer.ensures)))
+
+pub returns-in_ok-put_at-in-I64Const : goal.returns-in_ok-put_at-in-I64Const
+unfolding is_idchar
+returns-in_ok-put_at-in-I64Const c =
+    let fits : SFits w64 c.in-I64Const.n = search rules in
+    rw c.in-I64Const.is
+    (chain-last _ _ _ (c.in_ok-put_at-in-I64Const.ensures (word (codes "i64.const")) refl refl)
+    (rw (to_z-of_z fits) at c.put_integer-in-I64Const.ensures))

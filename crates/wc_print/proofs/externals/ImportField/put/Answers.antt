@@ -1,0 +1,15 @@
+use Rattle.std.proofs.Common.{[], ◌∷◌, refl, ◌∙◌, codes}
+use Rattle.wc_tokens.specs.Standard.Lexemes.{is_idchar}
+use Rattle.wc_print.specs.Printed.{opening, closing, word, next, below}
+use Rattle.wc_print.proofs.Putting.{literal, literal-last, chain-last}
+use Rattle.wc_print.proofs.externals.ImportField.put.Goals as goal
+
+pub returns : goal.returns
+unfolding is_idchar
+returns c =
+    chain-last _ _ _
+    (literal (below 2 opening ∷ next (word (codes "import")) ∷ []) (tt, (refl, tt)) c.in_ok-extend_from_slice.ensures.items)
+    (chain-last _ _ _ (rw (c.as_bytes.ensures.value ∙ c.as_str.ensures.bytes) at c.in_ok-put_string.ensures)
+    (chain-last _ _ _ (rw (c.as_bytes-2.ensures.value ∙ c.as_str-2.ensures.bytes) at c.in_ok-put_string-2.ensures)
+    (chain-last _ _ _ c.in_ok-put_desc.ensures
+    (literal-last (next closing ∷ []) _ _ _ (tt, tt) c.extend_from_slice-2.ensures.items))))

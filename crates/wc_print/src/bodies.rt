@@ -1,0 +1,191 @@
+//! Instructions: a line for each, or all behind one another.
+
+ghost use Rattle.std.specs.Prelude.{◌≡◌, ◌∷◌, [], ◌++◌, OnOk};
+ghost use Rattle.std.specs.List.{flat_map};
+ghost use Rattle.wc_body.specs.Standard.Entries.{mark, begin_of};
+ghost use Rattle.wc_body.specs.Standard.Nested.{flatten, plain};
+ghost use Rattle.wc_ops.specs.Standard.Opcodes.{memory};
+ghost use Rattle.wc_print.specs.Printed.{Printed, number, after, below, printed};
+ghost use Rattle.wc_print.specs.Printable.{IsSpelled, Put};
+ghost use Rattle.wc_print.specs.Lines.{block_items, number_items, offset_items, bytes_of, align_items, mark_items};
+ghost use Rattle.wc_print.specs.Lines.{body_items, expr_items};
+ghost use Rattle.wc_print.specs.Places.{item_at};
+
+use crate::lines::{head_line, index_line, memory_line, simple_line};
+use crate::numbers::{put_integer, put_natural, put_number};
+use crate::types::{put_result, put_type_use};
+use std::alloc::AllocError;
+use wc_ast::{BlockType, Body, Entry, Instr, Kind, Labels, MemArg, MemOp};
+
+/// Where an instruction stands.
+#[derive(Clone, Copy)]
+pub enum Place {
+    /// On a line of its own.
+    Line,
+    /// Behind a space.
+    Inline,
+}
+
+/// Puts a line, or the same behind a space in place of the line's end and four spaces.
+#[inline(always)]
+fn put_at(out: &mut Vec<u8>, place: Place, line: &'static str) -> Result<(), AllocError>
+    ensures { (p : Printed) → line.now ≡ printed (below 4 p ∷ []) → IsSpelled p
+        → OnOk result (Put (item_at place p ∷ []) out.old.items out.new.items) }
+{
+    let line = line.as_bytes();
+    match place {
+        Place::Line => out.extend_from_slice(line),
+        Place::Inline => out.extend_from_slice(&line[line.len().min(4)..]),
+    }
+}
+
+fn put_block_type(out: &mut Vec<u8>, block_type: BlockType) -> Result<(), AllocError>
+    ensures { OnOk result (Put (block_items block_type) out.old.items out.new.items) }
+{
+    match block_type {
+        BlockType::Empty => Ok(()),
+        BlockType::Value(value_type) => put_result(out, value_type),
+        BlockType::Index(index) => put_type_use(out, index),
+    }
+}
+
+/// The labels of a table, and its default.
+fn put_labels(out: &mut Vec<u8>, default: u32, labels: Labels<'_>) -> Result<(), AllocError>
+    ensures { let items = number_items labels.entry ++ after (number default) ∷ [] in
+        OnOk result (Put items out.old.items out.new.items) }
+{
+    let mut labels = labels;
+    while let Some(label) = labels.next() {
+        put_number(out, label)?;
+    }
+    put_number(out, default)
+}
+
+#[inline(always)]
+fn put_offset(out: &mut Vec<u8>, offset: u32) -> Result<(), AllocError>
+    ensures { OnOk result (Put (offset_items offset) out.old.items out.new.items) }
+{
+    if offset == 0 {
+        return Ok(());
+    }
+    out.extend_from_slice(b" offset=")?;
+    put_natural(out, offset)
+}
+
+/// An alignment in bytes.
+fn align_bytes(align: u32) -> u32
+    ensures { result ≡ bytes_of align }
+{
+    match align {
+        0 => 1,
+        1 => 2,
+        2 => 4,
+        _ => 8,
+    }
+}
+
+#[inline(always)]
+fn put_align(out: &mut Vec<u8>, op: MemOp, align: u32) -> Result<(), AllocError>
+    ensures { OnOk result (Put (align_items (memory op).alignment align) out.old.items out.new.items) }
+{
+    if align == op.natural_alignment() {
+        return Ok(());
+    }
+    out.extend_from_slice(b" align=")?;
+    put_natural(out, align_bytes(align))
+}
+
+#[inline(always)]
+fn put_memory(out: &mut Vec<u8>, op: MemOp, arg: MemArg) -> Result<(), AllocError>
+    ensures { let items = offset_items arg.offset ++ align_items (memory op).alignment arg.align in
+        OnOk result (Put items out.old.items out.new.items) }
+{
+    put_offset(out, arg.offset)?;
+    put_align(out, op, arg.align)
+}
+
+#[inline(always)]
+fn put_instr(out: &mut Vec<u8>, place: Place, instr: Instr<'_>) -> Result<(), AllocError>
+    ensures { OnOk result (Put (mark_items (item_at place) (plain instr.entry)) out.old.items out.new.items) }
+{
+    match instr {
+        Instr::Simple(op) => put_at(out, place, simple_line(op)),
+        Instr::Index(op, index) => {
+            put_at(out, place, index_line(op))?;
+            put_number(out, index)
+        }
+        Instr::Mem(op, arg) => {
+            put_at(out, place, memory_line(op))?;
+            put_memory(out, op, arg)
+        }
+        Instr::BrTable(default, labels) => {
+            put_at(out, place, "\n    br_table")?;
+            put_labels(out, default, labels)
+        }
+        Instr::CallIndirect(index) => {
+            put_at(out, place, "\n    call_indirect")?;
+            put_type_use(out, index)
+        }
+        Instr::I32Const(n) => {
+            put_at(out, place, "\n    i32.const")?;
+            put_integer(out, i64::from(n))
+        }
+        Instr::I64Const(n) => {
+            put_at(out, place, "\n    i64.const")?;
+            put_integer(out, n)
+        }
+    }
+}
+
+/// The head of a block, a loop or an if.
+#[inline(always)]
+fn put_head(
+    out: &mut Vec<u8>,
+    place: Place,
+    kind: Kind,
+    block_type: BlockType,
+) -> Result<(), AllocError>
+    ensures { OnOk result (Put (mark_items (item_at place) (begin_of kind block_type)) out.old.items out.new.items) }
+{
+    put_at(out, place, head_line(kind))?;
+    put_block_type(out, block_type)
+}
+
+#[inline(always)]
+fn put_entry(out: &mut Vec<u8>, place: Place, entry: Entry<'_>) -> Result<(), AllocError>
+    ensures { OnOk result (Put (mark_items (item_at place) (mark entry.entry)) out.old.items out.new.items) }
+{
+    match entry {
+        Entry::Plain(instr) => put_instr(out, place, instr),
+        Entry::Begin(kind, block_type) => put_head(out, place, kind, block_type),
+        Entry::Else => put_at(out, place, "\n    else"),
+        Entry::End => put_at(out, place, "\n    end"),
+    }
+}
+
+/// The instructions of a body.
+#[inline(always)]
+fn put_entries(out: &mut Vec<u8>, place: Place, body: &Body) -> Result<(), AllocError>
+    ensures { let items = flat_map (mark_items (item_at place)) (flatten body.now) in
+        OnOk result (Put items out.old.items out.new.items) }
+{
+    let mut entries = body.entries();
+    while let Some(entry) = entries.next() {
+        put_entry(out, place, entry)?;
+    }
+    Ok(())
+}
+
+/// The instructions of a function, each on a line.
+pub fn put_lines(out: &mut Vec<u8>, body: &Body) -> Result<(), AllocError>
+    ensures { OnOk result (Put (body_items body.now) out.old.items out.new.items) }
+{
+    put_entries(out, Place::Line, body)
+}
+
+/// The instructions of a constant expression, on the line.
+pub fn put_inline(out: &mut Vec<u8>, body: &Body) -> Result<(), AllocError>
+    ensures { OnOk result (Put (expr_items body.now) out.old.items out.new.items) }
+{
+    put_entries(out, Place::Inline, body)
+}

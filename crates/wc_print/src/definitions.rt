@@ -1,0 +1,71 @@
+//! Functions, tables, memories and globals (Core 1.0, 6.6.5 to 6.6.8).
+
+ghost use Rattle.std.specs.Prelude.{OnOk};
+ghost use Rattle.std.specs.List.{flat_map};
+ghost use Rattle.wc_print.specs.Printable.{Put};
+ghost use Rattle.wc_print.specs.Layout.{func_items, table_items, memory_items, global_items};
+
+use crate::bodies::{put_inline, put_lines};
+use crate::field::Field;
+use crate::types::{put_global_type, put_limits, put_locals, put_type_use};
+use std::alloc::AllocError;
+use wc_ast::{Func, Global, Limits};
+
+impl Field for Func {
+    ghost items = { func_items };
+
+    fn put(&self, out: &mut Vec<u8>) -> Result<(), AllocError> {
+        out.extend_from_slice(b"\n  (func")?;
+        put_type_use(out, self.ty)?;
+        put_locals(out, &self.locals)?;
+        put_lines(out, &self.body)?;
+        out.extend_from_slice(b"\n  )")
+    }
+}
+
+fn put_table(out: &mut Vec<u8>, limits: Limits) -> Result<(), AllocError>
+    ensures { OnOk result (Put (table_items limits) out.old.items out.new.items) }
+{
+    out.extend_from_slice(b"\n  (table")?;
+    put_limits(out, limits)?;
+    out.extend_from_slice(b" funcref)")
+}
+
+/// The tables, by their limits.
+pub fn put_tables(out: &mut Vec<u8>, tables: &[Limits]) -> Result<(), AllocError>
+    ensures { OnOk result (Put (flat_map table_items tables.now) out.old.items out.new.items) }
+{
+    for limits in tables {
+        put_table(out, *limits)?;
+    }
+    Ok(())
+}
+
+fn put_memory(out: &mut Vec<u8>, limits: Limits) -> Result<(), AllocError>
+    ensures { OnOk result (Put (memory_items limits) out.old.items out.new.items) }
+{
+    out.extend_from_slice(b"\n  (memory")?;
+    put_limits(out, limits)?;
+    out.extend_from_slice(b")")
+}
+
+/// The memories, by their limits.
+pub fn put_memories(out: &mut Vec<u8>, memories: &[Limits]) -> Result<(), AllocError>
+    ensures { OnOk result (Put (flat_map memory_items memories.now) out.old.items out.new.items) }
+{
+    for limits in memories {
+        put_memory(out, *limits)?;
+    }
+    Ok(())
+}
+
+impl Field for Global {
+    ghost items = { global_items };
+
+    fn put(&self, out: &mut Vec<u8>) -> Result<(), AllocError> {
+        out.extend_from_slice(b"\n  (global")?;
+        put_global_type(out, self.ty)?;
+        put_inline(out, &self.init)?;
+        out.extend_from_slice(b")")
+    }
+}

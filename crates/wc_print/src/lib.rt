@@ -1,0 +1,17 @@
+//! Modules as text (Core 1.0, chapter 6), in one layout of this project's own.
+#![tactic(auto)]
+
+mod bodies;
+mod definitions;
+mod externals;
+mod field;
+mod laws;
+mod lines;
+mod numbers;
+mod printing;
+mod segments;
+mod strings;
+mod types;
+
+pub use laws::{printed_lexes, printed_values};
+pub use printing::print;
