@@ -1,0 +1,14 @@
+pub mod Run
+pub mod Edges
+pub mod Places
+pub mod TabledText
+pub mod TabledFields
+pub mod TabledSegments
+pub mod TabledOffsets
+pub mod TabledBlocks
+pub mod TabledFolded
+pub mod Tabling
+pub mod Machine
+pub mod States
+pub mod Ends
+pub mod Parses

@@ -1,0 +1,17 @@
+-- The grammar: what each rule says.
+use Rattle.wc_syntax.specs.Phrases.{Phrase, Nonterminal, text, modulefield, offset, instr, foldedinstr, export, local, typeuse, param, result}
+use Rattle.wc_syntax.specs.Types.{param_body, result_body, local_body, typeuse_body}
+use Rattle.wc_syntax.specs.Instructions.{instr_body, foldedinstr_body}
+use Rattle.wc_syntax.specs.Fields.{export_body, offset_body, modulefield_body, text_body}
+
+abbrev pub body : Nonterminal → Phrase
+body (text d) = text_body d
+body (modulefield d) = modulefield_body d
+body (offset d) = offset_body d
+body (instr d) = instr_body d
+body (foldedinstr d) = foldedinstr_body d
+body export = export_body
+body local = local_body
+body typeuse = typeuse_body
+body param = param_body
+body result = result_body

@@ -1,0 +1,12 @@
+pub mod Phrases
+pub mod Types
+pub mod Instructions
+pub mod Fields
+pub mod Grammar
+pub mod Deriving
+pub mod Reasons
+pub mod Order
+pub mod Kinds
+pub mod Table
+pub mod Instead
+pub mod Parsing

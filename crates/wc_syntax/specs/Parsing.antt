@@ -1,0 +1,25 @@
+-- What reading a text promises.
+use Rattle.std.specs.Prelude.{◌≡◌, ℕ, List, map}
+use Rattle.wc_syntax.specs.declared.kind.Kind.{Kind}
+use Rattle.wc_syntax.specs.declared.kept.Kept.{Kept}
+use Rattle.wc_syntax.specs.declared.refusal.Refusal.{Refusal}
+use Rattle.wc_syntax.specs.declared.refusal.Refusal.TheVariants as refusal
+use Rattle.wc_syntax.specs.Phrases.{word, The, text}
+use Rattle.wc_syntax.specs.Deriving.{at, Event, kept, numbered, Derives}
+use Rattle.wc_syntax.specs.Reasons.{FirstFault}
+
+abbrev pub event : Kept → Event
+event k = kept k.role (at k.at (word k.kind))
+
+abbrev pub events : List Kept → List Event
+events ks = map event ks
+
+-- tokens of these kinds are a text, in which at most d instructions are nested, and these are all that are kept of them
+pub record Parsed (d : ℕ) (ks : List Kind) (es : List Event) : Type 0 where
+  pub derives : Derives (The (text d)) (numbered 0 ks) es
+  pub only : (fs : List Event) → Derives (The (text d)) (numbered 0 ks) fs → fs ≡ es
+
+-- it is the first fault, or memory was refused
+abbrev pub IsRefusal : ℕ → List Kind → Refusal → Type 0
+IsRefusal d ks refusal.Memory = Unit {0}
+IsRefusal d ks (refusal.Bad p r) = FirstFault d ks p r
