@@ -1,0 +1,12 @@
+pub mod DigitLemmas
+pub mod NumberLemmas
+pub mod KeywordLemmas
+pub mod NameLemmas
+pub mod WordLemmas
+pub mod Utf8Lemmas
+pub mod StringLemmas
+pub mod SameNumbers
+pub mod SameNames
+pub mod SameSymbols
+pub mod RangeLemmas
+pub mod Forms

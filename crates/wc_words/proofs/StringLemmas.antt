@@ -1,0 +1,88 @@
+-- Strings whose bytes are UTF-8.
+use Rattle.std.proofs.Common.{◌≡◌, ℕ, ◌+◌, ◌<◌, ◌≤◌, nat_eq, ◌==◌, ◌||◌, Bool, true, false, ◌↔◌, IsTrue, IsUtf8, List, [], ◌∷◌, ◌++◌, length, take, drop, get_or}
+use Rattle.std.proofs.Common.{refl, sym, ap, subst, ◌∙◌, arith, length-append, lit<, append_assoc}
+use Rattle.std.specs.List.{list_any}
+use Rattle.std.proofs.lemmas.Bool.{or_left, or_right}
+use Rattle.std.proofs.lemmas.Str.{IsUtf8-drop, IsUtf8-take, IsCharBoundary-after_ascii, IsCharBoundary-before_ascii}
+use Rattle.wc_tokens.specs.Standard.Strings.{Element, plain, escape, byte, unicode, Elements, none, more, IsString}
+use Rattle.wc_tokens.proofs.Escapes.ElementLaws.{Elements-same, read_element-quote}
+use Rattle.wc_syntax.specs.declared.kind.Kind.TheVariants as kind
+use Rattle.wc_words.specs.declared.symbol.Symbol.{Symbol}
+use Rattle.wc_words.specs.Symbols.{bare}
+use Rattle.wc_words.specs.Tokens.{StringIs, name, no_name}
+
+abbrev any_backslash : List ℕ → Bool
+any_backslash text = list_any (λ c. c == 92) text
+
+or-both : (a b : Bool) → (a || b) ≡ false → (a ≡ false) × (b ≡ false)
+or-both true b e = absurd cc
+or-both false b e = (refl, e)
+
+any-append : (xs ys : List ℕ) → any_backslash (xs ++ ys) ≡ false → (any_backslash xs ≡ false) × (any_backslash ys ≡ false)
+any-append [] ys e = (refl, e)
+any-append (x ∷ xs) ys e =
+    let p = or-both (x == 92) (any_backslash (xs ++ ys)) e in
+    let q = any-append xs ys p.1 in
+    (rw (p.0) q.0, q.1)
+
+-- an element without a backslash stands for itself
+same-part : {part value : List ℕ} → Element part value → any_backslash part ≡ false → value ≡ part
+same-part (plain c p) e = refl
+same-part (escape c v) e = absurd cc
+same-part (byte h l p q) e = absurd cc
+same-part (unicode d p) e = absurd cc
+
+same-body : {body bytes : List ℕ} → Elements body bytes → any_backslash body ≡ false → bytes ≡ body
+same-body none e = refl
+same-body (more {part = part} {rest = rest} {value = value} {values = values} f fs) e =
+    let p = any-append part rest e in
+    let a : value ≡ part = same-part f p.0 in
+    let b : values ≡ rest = same-body fs p.1 in
+    cc
+
+inside : (body : List ℕ) → IsUtf8 (34 ∷ (body ++ 34 ∷ [])) → IsUtf8 body
+inside body u =
+    let text = 34 ∷ (body ++ 34 ∷ []) in
+    let first = IsCharBoundary-after_ascii text 0 u (omega arith) (lit< tt) in
+    let v : IsUtf8 (body ++ 34 ∷ []) = IsUtf8-drop text 1 u first in
+    let quote : get_or (body ++ 34 ∷ []) (length body) 0 ≡ 34 = get_or-append_seam body in
+    let last = IsCharBoundary-before_ascii (body ++ 34 ∷ []) (length body)
+    (omega (arith, length-append body (34 ∷ []))) (omega (arith, quote)) in
+    subst IsUtf8 (take-append_seam body (34 ∷ [])) (IsUtf8-take (body ++ 34 ∷ []) (length body) v last)
+  where
+    get_or-append_seam : (xs : List ℕ) → get_or (xs ++ 34 ∷ []) (length xs) 0 ≡ 34
+    get_or-append_seam [] = refl
+    get_or-append_seam (x ∷ xs) = get_or-append_seam xs
+
+    take-append_seam : (xs ys : List ℕ) → take (length xs) (xs ++ ys) ≡ xs
+    take-append_seam [] ys = refl
+    take-append_seam (x ∷ xs) ys = ap (λ (t : List ℕ). x ∷ t) (take-append_seam xs ys)
+
+-- a string without escapes in a text is a name
+pub plain-name : (text bytes : List ℕ) → IsUtf8 text → list_any (λ c. c == 92) text ≡ false → IsString text bytes → IsUtf8 bytes
+plain-name text bytes u e s =
+    let whole : any_backslash (34 ∷ (s.body ++ 34 ∷ [])) ≡ false = subst (λ (t : List ℕ). any_backslash t ≡ false) s.text_is e in
+    let body = (any-append s.body (34 ∷ []) whole).0 in
+    let same : bytes ≡ s.body = same-body s.elements body in
+    subst IsUtf8 (sym same) (inside s.body (subst IsUtf8 s.text_is u))
+
+pub string-name : (text bytes : List ℕ) (r : Bool) (s : Symbol) → IsString text bytes → IsTrue r ↔ IsUtf8 bytes
+    → r ≡ true → s ≡ bare kind.Name → StringIs text s
+string-name text bytes r s i u e is = rw is (name i (u.0 e))
+
+pub string-text : (text bytes : List ℕ) (r : Bool) (s : Symbol) → IsString text bytes → IsTrue r ↔ IsUtf8 bytes
+    → r ≡ false → s ≡ bare kind.Text → StringIs text s
+string-text text bytes r s i u e is = rw is (no_name i (λ v. let t : r ≡ true = u.1 v in absurd cc))
+
+-- a string stands for one list of bytes
+IsString-same : {text v w : List ℕ} → IsString text v → IsString text w → v ≡ w
+IsString-same {text} {v} {w} a b =
+    let e : 34 ∷ (a.body ++ 34 ∷ []) ≡ 34 ∷ (b.body ++ 34 ∷ []) = sym a.text_is ∙ b.text_is in
+    let f : a.body ++ 34 ∷ [] ≡ b.body ++ 34 ∷ [] = cc in
+    (Elements-same (34 ∷ []) (34 ∷ []) a.elements b.elements f (read_element-quote []) (read_element-quote [])).bytes_is
+
+pub StringIs-same : {text : List ℕ} {s o : Symbol} → StringIs text s → StringIs text o → s ≡ o
+StringIs-same (name i u) (name j v) = refl
+StringIs-same (no_name i u) (no_name j v) = refl
+StringIs-same (name i u) (no_name j v) = absurd (v (subst IsUtf8 (IsString-same i j) u))
+StringIs-same (no_name i u) (name j v) = absurd (u (subst IsUtf8 (IsString-same j i) v))

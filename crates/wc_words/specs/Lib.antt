@@ -1,0 +1,9 @@
+pub mod Symbols
+pub mod Numbers
+pub mod Names
+pub mod Words
+pub mod Shapes
+pub mod Tokens
+pub mod Reading
+pub mod Ranges
+pub mod Literals

@@ -1,0 +1,22 @@
+//! Laws of tokens' kinds and values. Each function only states its law: it does nothing.
+
+ghost use Rattle.std.specs.Prelude.{◌≡◌, ℕ, List};
+ghost use Rattle.wc_tokens.specs.Standard.Numbers.{Signed, Literal, FitsBits};
+ghost use Rattle.wc_tokens.specs.declared.token.TokenKind.{TokenKind};
+ghost use Rattle.wc_words.specs.Literals.{IsLiteral32, IsLiteral64};
+ghost use Rattle.wc_words.specs.Tokens.{TokenIs};
+ghost use Rattle.wc_words.specs.Words.{WordIs};
+ghost use Rattle.wc_words.specs.declared.symbol.Symbol.{Symbol};
+
+/// A token has one kind and one value.
+pub fn one_symbol()
+    ensures { (kind : TokenKind) (text : List ℕ) (s o : Symbol) → TokenIs kind text s → TokenIs kind text o → s ≡ o }
+{}
+
+/// A word that is a literal of 32 or of 64 bits has such a kind, and its value gives the bits of either.
+pub fn literals_have_bits()
+    ensures of_32 { (text : List ℕ) (s : Symbol) (l : Signed)
+        → WordIs text s → Literal text l → FitsBits 32 l → IsLiteral32 s l }
+    ensures of_64 { (text : List ℕ) (s : Symbol) (l : Signed)
+        → WordIs text s → Literal text l → FitsBits 64 l → IsLiteral64 s l }
+{}

@@ -1,0 +1,18 @@
+//! What each token is to the grammar of the text format: its kind and its value.
+#![tactic(auto)]
+
+mod digits;
+mod keyword;
+mod law;
+mod name;
+mod number;
+mod shape;
+mod string;
+mod symbol;
+mod token;
+mod utf8;
+mod word;
+
+pub use law::{literals_have_bits, one_symbol};
+pub use symbol::{Symbol, Value};
+pub use token::symbol_of;
