@@ -3,3 +3,4 @@ pub mod SignedPush
 pub mod Digits
 pub mod Push
 pub mod AtFront
+pub mod OneByte

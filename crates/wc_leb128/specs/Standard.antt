@@ -2,3 +2,4 @@ pub mod Integers
 pub mod Shortest
 pub mod Pushing
 pub mod Laws
+pub mod OneByte

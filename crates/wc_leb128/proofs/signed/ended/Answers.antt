@@ -1,6 +1,7 @@
 use Rattle.std.proofs.Common.{rules, ◌^◌, ◌-◌, ◌*◌, arith, suc}
 use Rattle.std.proofs.lemmas.Int.{ints}
-use Rattle.wc_leb128.proofs.Reading.SignedEnd.{HasRoom, sum_fits, raised, next_fits, distance_is, ends_positive, ends_negative}
+use Rattle.wc_leb128.proofs.Reading.SignedEnd.{HasRoom, sum_fits, raised, next_fits, distance_is, ends_positive}
+use Rattle.wc_leb128.proofs.Reading.SignedEnd.{ends_negative}
 use Rattle.wc_leb128.proofs.signed.ended.Goals as goal
 
 positive_room : (c : goal.Else-not-fits) → HasRoom c.args.low c.args.shift c.args.room c.args.b
