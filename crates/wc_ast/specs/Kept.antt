@@ -1,2 +1,3 @@
 -- What the parts of a module keep.
 pub mod Locals
+pub mod CodeRow

@@ -1,2 +1,3 @@
 -- What the standard says of the locals of a function.
 pub mod LocalGroups
+pub mod Codes

@@ -2,32 +2,42 @@
 //! of the crates below.
 #![tactic(auto)]
 
+pub mod code_ref;
+pub mod codes;
 pub mod export;
 pub mod func;
+pub mod func_ref;
 pub mod func_type;
+pub mod funcs;
 pub mod import;
 pub mod limits;
 pub mod list;
 pub mod locals;
 pub mod locals_law;
+pub mod locals_ref;
 pub mod module;
 pub mod name;
 pub mod segment;
 
+pub use crate::code_ref::{CodeRef, CodeRefs};
+pub use crate::codes::{Codes, FuncCode};
 pub use crate::export::{Export, ExportKind};
 pub use crate::func::{Func, Global};
+pub use crate::func_ref::{FuncRef, FuncRefs};
 pub use crate::func_type::FuncType;
+pub use crate::funcs::Funcs;
 pub use crate::import::{Desc, Import};
 pub use crate::limits::{GlobalType, Limits};
 pub use crate::list::List;
 pub use crate::locals::{Group, LOCALS_LIMIT, Locals, LocalsFault};
 pub use crate::locals_law::one_grouping;
+pub use crate::locals_ref::LocalsRef;
 pub use crate::module::Module;
 pub use crate::name::Name;
 pub use crate::segment::{Data, Elem};
 pub use wc_body::{
-    BlockType, Body, BodyBuilder, BuildFault, Entries, Entry, Instr, Kind, Labels, MemArg,
-    NESTING_LIMIT, Needs, TryClone, entries_tell_bodies,
+    BlockType, Body, BodyBuilder, BodyRef, BuildFault, Entries, Entry, Instr, Kind, Labels, MemArg,
+    NESTING_LIMIT, Needs, OwnNeeds, TryClone, entries_tell_bodies,
 };
 pub use wc_ops::{
     IndexOp, MemOp, Op, OpByte, OpName, SimpleOp, ValType, leads_back, one_meaning, rows_differ,

@@ -83,6 +83,14 @@ impl Locals {
         Ok(())
     }
 
+    /// Takes all locals away, and keeps the memory.
+    pub fn clear(&mut self)
+        ensures { self.new ≡ [] }
+    {
+        self.groups.clear();
+        self.total = 0;
+    }
+
     /// How many locals there are.
     pub fn len(&self) -> u32
         ensures count { result ≡ length self.now }

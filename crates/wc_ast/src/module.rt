@@ -3,8 +3,9 @@
 ghost use Rattle.std.specs.Prelude.{◌≡◌, [], IfOk};
 
 use crate::export::Export;
-use crate::func::{Func, Global};
+use crate::func::Global;
 use crate::func_type::FuncType;
+use crate::funcs::Funcs;
 use crate::import::Import;
 use crate::limits::Limits;
 use crate::list::List;
@@ -18,7 +19,7 @@ pub struct Module {
     pub types: List<FuncType>,
     pub imports: List<Import>,
     /// The functions that the module defines.
-    pub funcs: List<Func>,
+    pub funcs: Funcs,
     /// Tables, by their limits: a table holds references to functions.
     pub tables: List<Limits>,
     /// Memories, by their limits.
@@ -48,7 +49,7 @@ impl Module {
         Module {
             types: List::new(alloc),
             imports: List::new(alloc),
-            funcs: List::new(alloc),
+            funcs: Funcs::new(alloc),
             tables: List::new(alloc),
             mems: List::new(alloc),
             globals: List::new(alloc),

@@ -4,4 +4,5 @@ mod bodies;
 mod lists;
 mod needs;
 mod opcodes;
+mod rows;
 mod spellings;

@@ -5,3 +5,4 @@ pub mod PutBytes
 pub mod PackedLemmas
 pub mod EntryLemmas
 pub mod EntryBytes
+pub mod BodyRowLemmas

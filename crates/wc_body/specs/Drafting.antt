@@ -4,3 +4,4 @@ pub mod Kept
 pub mod OpenParts
 pub mod NeededAlong
 pub mod PackedBody
+pub mod BodyRow

@@ -2,17 +2,21 @@
 
 ghost use Rattle.std.specs.Prelude.{◌≡◌, IfOk};
 
+use crate::body_ref::BodyRef;
 use crate::entries::Entries;
 use crate::needs::Needs;
 use crate::try_clone::TryClone;
-use std::alloc::AllocError;
+use std::alloc::{AllocError, Global};
 use std::marker::Model;
 
 /// How many blocks, loops and ifs may be open at once in a body. It is a limit of this project (Core 1.0, 7.2 allows
 /// one).
 pub const NESTING_LIMIT: usize = 20_000;
 
-/// An expression (Core 1.0, 2.4.7). A contract sees the instructions nested in one another, at most `NESTING_LIMIT`
+/// How many bytes of room a finished body may keep: giving back fewer costs more time than they are worth.
+const SPARE_LIMIT: usize = 16;
+
+/// An expression (Core 1.0, 2.4.6). A contract sees the instructions nested in one another, at most `NESTING_LIMIT`
 /// deep. They are kept as one row of entries, each by its canonical bytes, so no call on a body calls itself.
 #[derive(Debug, Drop)]
 pub struct Body {
@@ -43,7 +47,7 @@ impl Model for Body {
 
 impl Body {
     ghost use Rattle.std.specs.Prelude.{◌≡◌, ◌≤◌};
-    ghost use Rattle.wc_body.specs.Standard.Nested.{flatten, nesting, nesting_limit};
+    ghost use Rattle.wc_body.specs.Standard.Nested.{empty, flatten, nesting, nesting_limit};
     ghost use Rattle.wc_body.specs.Standard.Entries.{nested};
     ghost use Rattle.wc_body.specs.Standard.InstructionBytes.{code_bytes, FitsExpr};
     ghost use Rattle.wc_body.specs.Standard.Needed.{needs_of};
@@ -55,6 +59,48 @@ impl Body {
         ensures { result ≡ nested (unpacked bytes.items) }
     {
         Body { bytes, needs }
+    }
+
+    /// No instructions. It takes no memory.
+    pub fn new(alloc: Global) -> Body
+        ensures { result ≡ empty }
+    {
+        Body {
+            bytes: Vec::new(alloc),
+            needs: Needs::nothing(),
+        }
+    }
+
+    /// The same instructions, where they stand.
+    pub fn as_ref(&self) -> BodyRef<'_>
+        ensures { result ≡ self.now }
+    {
+        BodyRef::from_bytes(self.bytes.as_slice(), self.needs.own())
+    }
+
+    /// The bytes that the instructions are kept by.
+    pub(crate) fn row(&self) -> &[u8]
+        ensures kept { IsBody result.now (needs_of self.now) }
+        ensures nested { nested (unpacked result.now) ≡ self.now }
+    {
+        let Body { bytes, needs: _ } = self;
+        bytes.as_slice()
+    }
+
+    /// The same instructions, without the room for more, unless that is for a few bytes only.
+    pub(crate) fn without_room(self) -> Body
+        ensures { result ≡ self }
+    {
+        Body {
+            bytes: trimmed(self.bytes),
+            needs: self.needs,
+        }
+    }
+
+    /// The memory that the instructions stand in.
+    pub(crate) fn into_bytes(self) -> Vec<u8> {
+        let Body { bytes, needs: _ } = self;
+        bytes
     }
 
     /// The entries, in order. Each `Begin` has its `End`; the end of the body itself has no entry. An `Else` stands
@@ -91,4 +137,15 @@ impl TryClone for Body {
             needs: self.needs,
         })
     }
+}
+
+/// The same bytes, without the room for more, unless that is for a few only.
+fn trimmed(bytes: Vec<u8>) -> Vec<u8>
+    ensures { result.items ≡ bytes.items }
+{
+    let mut bytes = bytes;
+    if bytes.capacity() - bytes.len() > SPARE_LIMIT {
+        bytes.shrink_to_fit();
+    }
+    bytes
 }

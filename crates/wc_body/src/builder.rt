@@ -88,7 +88,7 @@ impl Model for BodyBuilder {
 }
 
 impl BodyBuilder {
-    ghost use Rattle.std.specs.Prelude.{◌≡◌, ◌≤◌, ◌↔◌, false, true, length};
+    ghost use Rattle.std.specs.Prelude.{[], ◌≡◌, ◌≤◌, ◌↔◌, false, true, length};
     ghost use Rattle.std.specs.Prelude.{IfOk, OnOk, OnErr, IfErr, IsErrOf};
     ghost use Rattle.wc_body.specs.Standard.Nested.{empty, plain, otherwise, close, nesting, nesting_limit};
     ghost use Rattle.wc_body.specs.Standard.Draft.{so_far, kept_with, whole, step, may_come, in_first_part};
@@ -96,16 +96,25 @@ impl BodyBuilder {
     ghost use Rattle.wc_body.specs.Standard.Entries.{mark, begin_of};
     ghost use Rattle.wc_body.specs.declared.builder.BuildFault.TheVariants as faults;
 
-    /// Nothing so far. It takes no memory.
-    pub fn new(alloc: Global) -> BodyBuilder
+    /// Nothing so far, in this memory.
+    fn in_memory(bytes: Vec<u8>) -> BodyBuilder
+        requires { bytes.items ≡ [] }
         ensures { result ≡ whole empty }
     {
+        let alloc = *bytes.allocator();
         BodyBuilder {
-            bytes: Vec::new(alloc),
+            bytes,
             parts: Vec::new(alloc),
             after_else: false,
             needs: Needs::nothing(),
         }
+    }
+
+    /// Nothing so far. It takes no memory.
+    pub fn new(alloc: Global) -> BodyBuilder
+        ensures { result ≡ whole empty }
+    {
+        BodyBuilder::in_memory(Vec::new(alloc))
     }
 
     /// Nothing so far, and room for so many bytes of entries. The error is want of memory.
@@ -115,6 +124,15 @@ impl BodyBuilder {
         let mut builder = BodyBuilder::new(alloc);
         builder.bytes.reserve(bytes)?;
         Ok(builder)
+    }
+
+    /// Nothing so far, in the memory of a body that is wanted no longer.
+    pub fn reusing(body: Body) -> BodyBuilder
+        ensures { result ≡ whole empty }
+    {
+        let mut bytes = body.into_bytes();
+        bytes.clear();
+        BodyBuilder::in_memory(bytes)
     }
 
     /// How many blocks, loops and ifs are open.
@@ -226,17 +244,26 @@ impl BodyBuilder {
     }
 
     /// The body of the entries that were kept, in order. It takes no memory, and gives back what was held for more
-    /// entries. The error is `Mark`, where something is open.
+    /// entries, but for a few bytes. The error is `Mark`, where something is open.
     pub fn finish(self) -> Result<Body, BuildFault>
+        ensures ok { IfOk result (λ body. self ≡ whole body) }
+        ensures err { IfErr result (λ fault. (fault ≡ faults.Mark) × (is_open self.around ≡ true)) }
+    {
+        match self.finish_with_room() {
+            Ok(body) => Ok(body.without_room()),
+            Err(fault) => Err(fault),
+        }
+    }
+
+    /// The same, but nothing that was held is given back, so that the next body can be built in it.
+    pub fn finish_with_room(self) -> Result<Body, BuildFault>
         ensures ok { IfOk result (λ body. self ≡ whole body) }
         ensures err { IfErr result (λ fault. (fault ≡ faults.Mark) × (is_open self.around ≡ true)) }
     {
         if self.depth() > 0 {
             return Err(BuildFault::Mark);
         }
-        let mut bytes = self.bytes;
-        bytes.shrink_to_fit();
-        Ok(Body::from_bytes(bytes, self.needs))
+        Ok(Body::from_bytes(self.bytes, self.needs))
     }
 }
 

@@ -48,6 +48,8 @@ impl<'a> Entries<'a> {
         Entries { bytes }
     }
 
+    // Inlined where entries are walked over, so that an entry needn't be written to memory.
+    #[inline(always)]
     fn take_first(&mut self) -> Option<Entry<'a>>
         ensures none { IsNone result → (self.old ≡ []) × (self.new ≡ []) }
         ensures some { IfSome result (λ entry. self.old ≡ mark entry ∷ self.new) }
@@ -65,6 +67,7 @@ impl<'a> Iterator for Entries<'a> {
 
     ghost remaining = { item_count (λ entries. entries) };
 
+    #[inline(always)]
     fn next(&mut self) -> Option<Entry<'a>> {
         self.take_first()
     }

@@ -1,8 +1,11 @@
-//! Instructions and the bodies of functions: entries, the builder that takes them, and the bytes that keep them.
+//! Instructions and the bodies of functions: entries, the builder that takes them, the bytes that keep them, and rows of
+//! bodies.
 #![tactic(auto)]
 
+pub mod bodies;
 pub mod body;
 pub mod body_law;
+pub mod body_ref;
 pub mod builder;
 mod bytes;
 pub mod entries;
@@ -12,12 +15,14 @@ pub mod labels;
 pub mod needs;
 pub mod try_clone;
 
+pub use crate::bodies::Bodies;
 pub use crate::body::{Body, NESTING_LIMIT};
 pub use crate::body_law::entries_tell_bodies;
+pub use crate::body_ref::{BodyRef, BodyRefs};
 pub use crate::builder::{BodyBuilder, BuildFault};
 pub use crate::entries::Entries;
 pub use crate::entry::{Entry, Kind};
 pub use crate::instr::{BlockType, Instr, MemArg};
 pub use crate::labels::Labels;
-pub use crate::needs::Needs;
+pub use crate::needs::{Needs, OwnNeeds};
 pub use crate::try_clone::TryClone;

@@ -2,6 +2,7 @@
 
 ghost use Rattle.std.specs.Prelude.{◌≡◌};
 ghost use Rattle.wc_body.specs.Standard.Needed.{nothing, enough, with_simple, with_index, with_instr, with_block};
+ghost use Rattle.wc_body.specs.Standard.Needed.{joined, own_of};
 
 use crate::instr::{BlockType, Instr};
 use wc_ops::{IndexOp, SimpleOp};
@@ -19,6 +20,8 @@ pub struct Needs {
     pub globals: u32,
     /// The same of those that are set.
     pub set_globals: u32,
+    /// The lowest index of those that are set, or `2^32 - 1` where none is.
+    pub lowest_set_global: u32,
     /// How many locals, parameters counted.
     pub locals: u32,
     /// Whether a table is needed.
@@ -31,7 +34,48 @@ pub struct Needs {
     pub over_aligned: bool,
 }
 
+/// Of what the instructions of a body need, that which a row keeps of each: what the function's locals must give, and
+/// which globals are set.
+#[derive(Clone, Copy, Debug, PartialEq, Eq)]
+pub struct OwnNeeds {
+    /// How many locals, parameters counted.
+    pub locals: u32,
+    /// How many globals, of those that are set.
+    pub set_globals: u32,
+    /// The lowest index of those that are set, or `2^32 - 1` where none is.
+    pub lowest_set_global: u32,
+}
+
 impl Needs {
+    /// What both need.
+    pub(crate) fn joined(self, other: Needs) -> Needs
+        ensures { result ≡ joined self other }
+    {
+        Needs {
+            types: self.types.max(other.types),
+            funcs: self.funcs.max(other.funcs),
+            globals: self.globals.max(other.globals),
+            set_globals: self.set_globals.max(other.set_globals),
+            lowest_set_global: self.lowest_set_global.min(other.lowest_set_global),
+            locals: self.locals.max(other.locals),
+            table: self.table || other.table,
+            memory: self.memory || other.memory,
+            outer_label: self.outer_label || other.outer_label,
+            over_aligned: self.over_aligned || other.over_aligned,
+        }
+    }
+
+    /// What a row keeps of each of its bodies.
+    pub(crate) fn own(self) -> OwnNeeds
+        ensures { result ≡ own_of self }
+    {
+        OwnNeeds {
+            locals: self.locals,
+            set_globals: self.set_globals,
+            lowest_set_global: self.lowest_set_global,
+        }
+    }
+
     pub(crate) fn nothing() -> Needs
         ensures { result ≡ nothing }
     {
@@ -40,6 +84,7 @@ impl Needs {
             funcs: 0,
             globals: 0,
             set_globals: 0,
+            lowest_set_global: u32::MAX,
             locals: 0,
             table: false,
             memory: false,
@@ -66,7 +111,10 @@ impl Needs {
             IndexOp::LocalSet => self.locals = enough(self.locals, index),
             IndexOp::LocalTee => self.locals = enough(self.locals, index),
             IndexOp::GlobalGet => self.globals = enough(self.globals, index),
-            IndexOp::GlobalSet => self.set_globals = enough(self.set_globals, index),
+            IndexOp::GlobalSet => {
+                self.set_globals = enough(self.set_globals, index);
+                self.lowest_set_global = self.lowest_set_global.min(index);
+            }
             IndexOp::Call => self.funcs = enough(self.funcs, index),
             IndexOp::Br => self.outer_label = self.outer_label || enclosing < index as usize,
             IndexOp::BrIf => self.outer_label = self.outer_label || enclosing < index as usize,

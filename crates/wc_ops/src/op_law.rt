@@ -4,6 +4,7 @@ ghost use Rattle.std.specs.Prelude.{◌≡◌, ℕ, List};
 ghost use Rattle.wc_ops.specs.Standard.ByteMeaning.{IsOpByte};
 ghost use Rattle.wc_ops.specs.Standard.NameMeaning.{IsOpName};
 ghost use Rattle.wc_ops.specs.Standard.Opcodes.{row};
+ghost use Rattle.wc_ops.specs.Reading.OpcodeMeaning.{meaning};
 ghost use Rattle.wc_ops.specs.declared.op.Op.{Op};
 ghost use Rattle.wc_ops.specs.declared.op.OpByte.{OpByte};
 ghost use Rattle.wc_ops.specs.declared.op.OpByte.TheVariants as bytes;
@@ -16,6 +17,11 @@ use crate::op::Op;
 pub fn one_meaning()
     ensures byte { (byte : ℕ) (x y : OpByte) → IsOpByte byte x → IsOpByte byte y → x ≡ y }
     ensures name { (word : List ℕ) (x y : OpName) → IsOpName word x → IsOpName word y → x ≡ y }
+{}
+
+/// What is computed of a byte is what the table of opcodes says of it: so whoever reads that table needs no other.
+pub fn meaning_is_the_table()
+    ensures { (byte : ℕ) → IsOpByte byte (meaning byte) }
 {}
 
 /// An instruction's opcode and its name lead back to it.

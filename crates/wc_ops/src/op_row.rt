@@ -167,7 +167,7 @@ impl MemOp {
         }
     }
 
-    /// The exponent of the alignment that is assumed where the text gives none (Core 1.0, 6.5.4): the access is two to
+    /// The exponent of the alignment that is assumed where the text gives none (Core 1.0, 6.5.5): the access is two to
     /// this power bytes wide. It takes no memory.
     #[inline(always)]
     pub fn natural_alignment(self) -> u32

@@ -11,6 +11,7 @@ const NOTHING: Needs = Needs {
     funcs: 0,
     globals: 0,
     set_globals: 0,
+    lowest_set_global: 0xffff_ffff,
     locals: 0,
     table: false,
     memory: false,
@@ -21,7 +22,7 @@ const NOTHING: Needs = Needs {
 const BLOCK: Step = Step::Begin(Kind::Block, BlockType::Empty);
 
 /// The first entries of a body, and what it needs.
-const NEEDED: [(&[Step], Needs); 22] = [
+const NEEDED: [(&[Step], Needs); 23] = [
     (&[], NOTHING),
     (
         &[
@@ -94,6 +95,18 @@ const NEEDED: [(&[Step], Needs); 22] = [
         Needs {
             globals: 4,
             set_globals: 2,
+            lowest_set_global: 1,
+            ..NOTHING
+        },
+    ),
+    (
+        &[
+            Step::Index(IndexOp::GlobalSet, 5),
+            Step::Index(IndexOp::GlobalSet, 2),
+        ],
+        Needs {
+            set_globals: 6,
+            lowest_set_global: 2,
             ..NOTHING
         },
     ),

@@ -53,7 +53,7 @@ const INSTRUCTIONS: [(u8, &str); 19] = [
     ),
 ];
 
-/// Loads and stores by the exponent of their natural alignment (Core 1.0, 6.5.4).
+/// Loads and stores by the exponent of their natural alignment (Core 1.0, 6.5.5).
 const ALIGNMENTS: [(u32, &str); 4] = [
     (
         0,

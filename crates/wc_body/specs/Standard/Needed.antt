@@ -8,6 +8,7 @@ use Rattle.wc_body.specs.declared.instr.Instr.{Instr}
 use Rattle.wc_body.specs.declared.instr.Instr.TheVariants.{Simple, Index, Mem, BrTable, CallIndirect, I32Const}
 use Rattle.wc_body.specs.declared.instr.Instr.TheVariants.{I64Const}
 use Rattle.wc_body.specs.declared.needs.Needs.{Needs}
+use Rattle.wc_body.specs.declared.needs.OwnNeeds.{OwnNeeds}
 use Rattle.wc_ops.specs.declared.op.SimpleOp.{SimpleOp}
 use Rattle.wc_ops.specs.declared.op.SimpleOp.TheVariants.{MemorySize, MemoryGrow}
 use Rattle.wc_ops.specs.declared.op.IndexOp.{IndexOp}
@@ -24,6 +25,7 @@ nothing = record {
   funcs = 0;
   globals = 0;
   set_globals = 0;
+  lowest_set_global = 2 ^ 32 - 1;
   locals = 0;
   table = false;
   memory = false;
@@ -52,7 +54,8 @@ with_index s enclosing LocalGet n = record s { locals = enough s.locals n }
 with_index s enclosing LocalSet n = record s { locals = enough s.locals n }
 with_index s enclosing LocalTee n = record s { locals = enough s.locals n }
 with_index s enclosing GlobalGet n = record s { globals = enough s.globals n }
-with_index s enclosing GlobalSet n = record s { set_globals = enough s.set_globals n }
+with_index s enclosing GlobalSet n =
+    record s { set_globals = enough s.set_globals n; lowest_set_global = min s.lowest_set_global n }
 
 -- none is nested in it (3.3.4, 3.3.5)
 abbrev pub with_instr : Needs → ℕ → Instr → Needs
@@ -88,3 +91,27 @@ with_all s (x ∷ xs) = with_all (with_mark s x.0 x.1) xs
 -- what these instructions need
 abbrev pub needs_of : Code Instr BlockType → Needs
 needs_of code = with_all nothing (placed deeper 0 code)
+
+-- what both of these need
+abbrev pub joined : Needs → Needs → Needs
+joined s t = record {
+  types = max s.types t.types;
+  funcs = max s.funcs t.funcs;
+  globals = max s.globals t.globals;
+  set_globals = max s.set_globals t.set_globals;
+  lowest_set_global = min s.lowest_set_global t.lowest_set_global;
+  locals = max s.locals t.locals;
+  table = s.table || t.table;
+  memory = s.memory || t.memory;
+  outer_label = s.outer_label || t.outer_label;
+  over_aligned = s.over_aligned || t.over_aligned;
+}
+
+-- this, and what each of the bodies needs
+abbrev pub with_bodies : Needs → List (Code Instr BlockType) → Needs
+with_bodies s [] = s
+with_bodies s (code ∷ codes) = with_bodies (joined s (needs_of code)) codes
+
+-- of what a body needs, that which a function's locals must give and what is known of the globals that are set
+abbrev pub own_of : Needs → OwnNeeds
+own_of s = record { locals = s.locals; set_globals = s.set_globals; lowest_set_global = s.lowest_set_global }

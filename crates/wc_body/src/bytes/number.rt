@@ -4,7 +4,7 @@ ghost use Rattle.std.specs.Prelude.{◌≡◌, IfSome, option_map};
 ghost use Rattle.wc_leb128.specs.Standard.Shortest.{HoldsSigned};
 ghost use Rattle.wc_body.specs.Reading.Fronts.{seen, unsigned_front, signed_front};
 
-use wc_leb128::{signed_at, unsigned_at};
+use wc_leb128::{signed_at, signed_in_one, unsigned_at, unsigned_in_one};
 
 /// An unsigned integer of 32 bits, of any length.
 #[inline(never)]
@@ -21,25 +21,51 @@ pub(crate) fn u32_at(bytes: &[u8]) -> Option<(u32, &[u8])>
     ensures { option_map seen result ≡ unsigned_front 32 bytes.now }
 {
     let (first, rest) = bytes.split_first()?;
-    if *first < 128 {
-        return Some((u32::from(*first), rest));
+    match unsigned_in_one(*first) {
+        Some(n) => Some((u32::from(n), rest)),
+        None => long_u32_at(bytes),
     }
-    long_u32_at(bytes)
 }
 
-/// A signed integer of 32 bits.
-pub(crate) fn i32_at(bytes: &[u8]) -> Option<(i32, &[u8])>
+/// A signed integer of 32 bits, of any length.
+#[inline(never)]
+fn long_i32_at(bytes: &[u8]) -> Option<(i32, &[u8])>
     ensures { option_map seen result ≡ signed_front 32 bytes.now }
 {
     let (n, rest) = signed_at::<32>(bytes)?;
     Some((n as i32, rest))
 }
 
-/// A signed integer of 64 bits.
-pub(crate) fn i64_at(bytes: &[u8]) -> Option<(i64, &[u8])>
+/// A signed integer of 64 bits, of any length.
+#[inline(never)]
+fn long_i64_at(bytes: &[u8]) -> Option<(i64, &[u8])>
     ensures { option_map seen result ≡ signed_front 64 bytes.now }
 {
     signed_at::<64>(bytes)
+}
+
+/// A signed integer of 32 bits. Most have one byte, so that case comes first and is inlined.
+#[inline(always)]
+pub(crate) fn i32_at(bytes: &[u8]) -> Option<(i32, &[u8])>
+    ensures { option_map seen result ≡ signed_front 32 bytes.now }
+{
+    let (first, rest) = bytes.split_first()?;
+    match signed_in_one(*first) {
+        Some(n) => Some((i32::from(n), rest)),
+        None => long_i32_at(bytes),
+    }
+}
+
+/// A signed integer of 64 bits. Most have one byte, so that case comes first and is inlined.
+#[inline(always)]
+pub(crate) fn i64_at(bytes: &[u8]) -> Option<(i64, &[u8])>
+    ensures { option_map seen result ≡ signed_front 64 bytes.now }
+{
+    let (first, rest) = bytes.split_first()?;
+    match signed_in_one(*first) {
+        Some(n) => Some((i64::from(n), rest)),
+        None => long_i64_at(bytes),
+    }
 }
 
 /// A signed integer of 33 bits.

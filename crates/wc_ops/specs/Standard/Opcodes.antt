@@ -14,7 +14,7 @@ pub record Row : Type 0 where
   pub byte : ℕ
   pub name : List ℕ
 
--- for a load or a store also its natural alignment: the exponent of two that is its width in bytes (6.5.4)
+-- for a load or a store also its natural alignment: the exponent of two that is its width in bytes (6.5.5)
 pub record MemoryRow : Type 0 where
   pub byte : ℕ
   pub name : List ℕ
@@ -115,7 +115,7 @@ index index_op.LocalTee = at 0x22 (codes "local.tee")
 index index_op.GlobalGet = at 0x23 (codes "global.get")
 index index_op.GlobalSet = at 0x24 (codes "global.set")
 
--- an alignment and an offset (5.4.4, 6.5.4)
+-- an alignment and an offset (5.4.4, 6.5.5)
 abbrev pub memory : MemOp → MemoryRow
 memory mem_op.I32Load = aligned 0x28 (codes "i32.load") 2
 memory mem_op.I64Load = aligned 0x29 (codes "i64.load") 3

@@ -4,7 +4,7 @@ use mir.Val.{SFits}
 use mir.Syntax.{w32, w64}
 use Rattle.wc_leb128.specs.Standard.Shortest.{HoldsSigned}
 use Rattle.wc_body.proofs.Packing.Integers.{signed-same, signed-held, held-word}
-use Rattle.wc_body.proofs.bytes.number.i32_at.Goals as goal
+use Rattle.wc_body.proofs.bytes.number.long_i32_at.Goals as goal
 
 pub overflow_cast-result : goal.overflow_cast-result
 overflow_cast-result c =

@@ -6,13 +6,12 @@ use Rattle.wc_body.specs.Drafting.OpenParts.{part_in}
 use Rattle.wc_body.specs.Reading.Unpacked.{unpacked}
 use Rattle.wc_body.proofs.Drafts.BuildingLemmas.{building-whole}
 use Rattle.wc_body.proofs.Drafts.NeedsLemmas.{needs-flatten}
-use Rattle.wc_body.proofs.builder.BodyBuilder.finish.Goals as goal
+use Rattle.wc_body.proofs.builder.BodyBuilder.finish_with_room.Goals as goal
 
 pub from_bytes-requires : goal.from_bytes-requires
 from_bytes-requires c =
     let z : length (drafted (unpacked c.self.inside.bytes.items)).around ≡ 0 = rw c.self.view_is (omega arith) in
-    rw c.shrink_to_fit.ensures.items
-    (record {
+    record {
       packed = c.self.invariant.packed;
       whole = (building-whole part_in _ _ c.self.invariant.building z).0;
       needed =
@@ -20,10 +19,10 @@ from_bytes-requires c =
           ∙ ap (λ ms. needs_along nothing 0 ms)
           (sym (building-whole part_in _ _ c.self.invariant.building z).0.whole)
           ∙ needs-flatten (nested (unpacked c.self.inside.bytes.items));
-    })
+    }
 
 pub returns-clause-ok : goal.returns-clause-ok
 returns-clause-ok c =
     let z : length (drafted (unpacked c.self.inside.bytes.items)).around ≡ 0 = rw c.self.view_is (omega arith) in
-    rw (← c.self.view_is, c.from_bytes.ensures, c.shrink_to_fit.ensures.items)
+    rw (← c.self.view_is, c.from_bytes.ensures)
     ((building-whole part_in _ _ c.self.invariant.building z).1)

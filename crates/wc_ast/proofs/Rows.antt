@@ -1,0 +1,3 @@
+-- Rows of codes and of functions.
+pub mod CodeRowLemmas
+pub mod FuncLemmas

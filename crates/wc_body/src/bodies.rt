@@ -1,0 +1,115 @@
+//! Many bodies in one row of bytes.
+
+ghost use Rattle.std.specs.Prelude.{◌≡◌, IfOk};
+
+use crate::body::Body;
+use crate::body_ref::BodyRefs;
+use crate::needs::{Needs, OwnNeeds};
+use crate::try_clone::TryClone;
+use std::alloc::{AllocError, Global};
+use std::marker::Model;
+
+/// What a row knows of one of its bodies.
+#[derive(Clone, Copy, Debug)]
+pub struct Place {
+    /// How many bytes it has.
+    pub(crate) size: usize,
+    pub(crate) own: OwnNeeds,
+}
+
+/// Bodies, in order. A contract sees each. Their canonical bytes stand in one row, so that a great many small bodies
+/// take little memory and time.
+#[derive(Debug, Drop)]
+pub struct Bodies {
+    bytes: Vec<u8>,
+    // Of each body.
+    places: Vec<Place>,
+    // What all of them need.
+    needs: Needs,
+}
+
+impl Model for Bodies {
+    ghost use Rattle.std.specs.Prelude.{List};
+    ghost use Rattle.std.specs.Coded.{coded_list};
+    ghost use Rattle.wc_body.specs.Standard.Nested.{Code};
+    ghost use Rattle.wc_body.specs.Stored.Codes.{code_code};
+    ghost use Rattle.wc_body.specs.Stored.Instructions.{instr_code};
+    ghost use Rattle.wc_body.specs.declared.instr.BlockType.{BlockType};
+    ghost use Rattle.wc_body.specs.declared.instr.Instr.{Instr};
+    ghost use Rattle.wc_body.specs.contracts.instr.BlockType as block_type;
+
+    ghost Value = { List (Code Instr BlockType) };
+
+    ghost coded = { coded_list (code_code instr_code block_type.the_row.coded) };
+
+    ghost use Rattle.wc_body.specs.Drafting.BodyRow.{bodies_at, IsRow};
+
+    ghost view = { λ row. bodies_at row.places.items row.bytes.items };
+
+    ghost invariant = { λ row. IsRow row.places.items row.bytes.items row.needs };
+}
+
+impl Bodies {
+    ghost use Rattle.std.specs.Prelude.{[], ◌∷◌, ◌++◌, OnOk, OnErr, length};
+    ghost use Rattle.wc_body.specs.Standard.Needed.{nothing, with_bodies};
+
+    /// No bodies. It takes no memory.
+    pub fn new(alloc: Global) -> Bodies
+        ensures { result ≡ [] }
+    {
+        Bodies {
+            bytes: Vec::new(alloc),
+            places: Vec::new(alloc),
+            needs: Needs::nothing(),
+        }
+    }
+
+    /// How many there are.
+    pub fn len(&self) -> usize
+        ensures { result ≡ length self.now }
+    {
+        self.places.len()
+    }
+
+    /// What all of them need. It is at hand: it takes no time.
+    pub fn needs(&self) -> Needs
+        ensures { result ≡ with_bodies nothing self.now }
+    {
+        self.needs
+    }
+
+    /// Adds a copy of the body at the end. The error is want of memory, and then the row is as it was.
+    pub fn push(&mut self, body: &Body) -> Result<(), AllocError>
+        ensures ok { OnOk result (self.new ≡ self.old ++ body.now ∷ []) }
+        ensures err { OnErr result (self.new ≡ self.old) }
+    {
+        let bytes = body.row();
+        let needs = body.needs();
+        self.places.reserve(1)?;
+        self.bytes.extend_from_slice(bytes)?;
+        self.places.push_reserved(Place {
+            size: bytes.len(),
+            own: needs.own(),
+        });
+        self.needs = self.needs.joined(needs);
+        Ok(())
+    }
+
+    /// The bodies, one by one.
+    pub fn iter(&self) -> BodyRefs<'_>
+        ensures { result ≡ self.now }
+    {
+        BodyRefs::of_places(self.places.as_slice(), self.bytes.as_slice())
+    }
+}
+
+impl TryClone for Bodies {
+    fn try_clone(&self) -> Result<Bodies, AllocError> {
+        let alloc = *self.bytes.allocator();
+        Ok(Bodies {
+            bytes: Vec::from_slice(alloc, self.bytes.as_slice())?,
+            places: Vec::from_slice(alloc, self.places.as_slice())?,
+            needs: self.needs,
+        })
+    }
+}
