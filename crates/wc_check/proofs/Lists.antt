@@ -1,3 +1,4 @@
 pub mod VerdictLemmas
 pub mod SpaceLemmas
 pub mod NameLemmas
+pub mod HashLemmas

@@ -1,2 +1,4 @@
 pub mod BodyLemmas
 pub mod EnoughLemmas
+pub mod RunLemmas
+pub mod CommonLemmas

@@ -1,8 +1,10 @@
 //! The bodies of functions.
 
-ghost use Rattle.std.specs.Prelude.{◌≡◌, ◌+◌, ◌<◌, ◌≤◌, ◌^◌, ◌-◌, ◌↔◌, true, length};
+ghost use Rattle.std.specs.Prelude.{◌≡◌, ◌+◌, ◌<◌, ◌≤◌, ◌^◌, ◌-◌, ◌↔◌, true, length, List};
 ghost use Rattle.wc_body.specs.Standard.Entries.{mark};
-ghost use Rattle.wc_check.specs.Judging.Enough.{HasRoom, IsEnough, settable_count};
+ghost use Rattle.wc_body.specs.Standard.Needed.{needs_of};
+ghost use Rattle.wc_ast.specs.declared.limits.GlobalType.{GlobalType};
+ghost use Rattle.wc_check.specs.Judging.Enough.{HasRoom, HasCommon, HasOwnRooms, HasOwn, AreSettable, run_starts};
 ghost use Rattle.wc_check.specs.Standard.InstructionRules.{broken_in_body};
 ghost use Rattle.wc_check.specs.Judging.Marks.{judged_mark};
 ghost use Rattle.wc_check.specs.Judging.Verdicts.{verdict};
@@ -10,7 +12,7 @@ ghost use Rattle.wc_check.specs.Judging.Verdicts.{verdict};
 use crate::context::Context;
 use crate::fault::{CheckFault, CheckWhy, Item, judge};
 use crate::instructions::{block_rule, instr_rule};
-use wc_ast::{Body, Entry, Needs};
+use wc_ast::{BodyRef, Entry, Needs, OwnNeeds};
 
 /// What an entry comes to.
 #[derive(Clone, Copy, Debug)]
@@ -57,7 +59,7 @@ fn check_entries(
     context: &Context,
     locals: usize,
     func: usize,
-    body: &Body,
+    body: &BodyRef<'_>,
 ) -> Result<(), CheckFault>
     ensures { result ≡ verdict (broken_in_body context.now locals func body.now) }
 {
@@ -84,36 +86,68 @@ fn has_room(count: usize, needed: u32) -> bool
     needed < u32::MAX && needed as usize <= count
 }
 
-/// Whether all is there that instructions need, in a function of so many locals, where so many globals stand before
-/// the first constant one.
-fn is_enough(context: &Context, settable: usize, locals: usize, needs: Needs) -> bool
-    requires { settable ≡ settable_count context.now.globals }
-    ensures { result ≡ true ↔ IsEnough context.now locals needs }
+/// Whether a run of mutable globals has all from the first place up to the end, where it is told of each global where
+/// the run begins that it ends.
+fn has_run(starts: &[usize], first: u32, end: u32) -> bool
+    ensures { result ≡ true → (globals : List GlobalType) → starts.now ≡ run_starts 0 0 globals
+        → AreSettable globals first end }
+{
+    if end == 0 {
+        return true;
+    }
+    match starts.get(end as usize - 1) {
+        Some(start) => *start <= first as usize,
+        None => false,
+    }
+}
+
+/// Whether there is room for each index but those of locals and of globals that are set, and no instruction breaks a
+/// rule whatever is around.
+pub(crate) fn has_common(context: &Context, needs: Needs) -> bool
+    ensures { result ≡ true ↔ HasCommon context.now needs }
 {
     has_room(context.types, needs.types)
         && has_room(context.funcs, needs.funcs)
         && has_room(context.globals.len(), needs.globals)
-        && has_room(settable, needs.set_globals)
-        && has_room(locals, needs.locals)
         && (!needs.table || context.tables > 0)
         && (!needs.memory || context.mems > 0)
         && !needs.outer_label
         && !needs.over_aligned
 }
 
-/// The body of the function of this index, which has so many locals, parameters counted, where so many globals stand
-/// before the first constant one. Entries are looked at only where one of them may break a rule.
+/// Whether there is room for the other indices, in a function of so many locals.
+fn has_own_rooms(context: &Context, locals: usize, own: OwnNeeds) -> bool
+    ensures { result ≡ true ↔ HasOwnRooms context.now locals own }
+{
+    has_room(context.globals.len(), own.set_globals) && has_room(locals, own.locals)
+}
+
+/// Whether there are these in a function of so many locals, and no global that is set is constant, as far as it can be
+/// told without looking at each entry: where several globals are set, all between them must be mutable. Of each global
+/// it is told where the run of mutable ones begins that it ends.
+fn has_own(context: &Context, starts: &[usize], locals: usize, own: OwnNeeds) -> bool
+    requires { starts.now ≡ run_starts 0 0 context.now.globals }
+    ensures { result ≡ true → HasOwn context.now locals own }
+{
+    has_own_rooms(context, locals, own) && has_run(starts, own.lowest_set_global, own.set_globals)
+}
+
+/// The body of the function of this index, which has so many locals, parameters counted. Of each global it is told
+/// where the run of mutable ones begins that it ends, and it may be told that there is what the bodies of all functions
+/// need. Entries are looked at only where one of them may break a rule.
 pub(crate) fn check_body(
     context: &Context,
-    settable: usize,
+    starts: &[usize],
+    has_common: bool,
     locals: usize,
     func: usize,
-    body: &Body,
+    body: &BodyRef<'_>,
 ) -> Result<(), CheckFault>
-    requires { settable ≡ settable_count context.now.globals }
+    requires starts { starts.now ≡ run_starts 0 0 context.now.globals }
+    requires common { has_common ≡ true → HasCommon context.now (needs_of body.now) }
     ensures { result ≡ verdict (broken_in_body context.now locals func body.now) }
 {
-    if is_enough(context, settable, locals, body.needs()) {
+    if has_common && has_own(context, starts, locals, body.own_needs()) {
         return Ok(());
     }
     check_entries(context, locals, func, body)

@@ -5,7 +5,7 @@ ghost use Rattle.wc_check.specs.Standard.Spaces.{module_context};
 ghost use Rattle.wc_check.specs.Judging.Imports.{IsImported};
 
 use std::alloc::{self, AllocError};
-use wc_ast::{Desc, Func, Global, GlobalType, Import, Limits, List, Module};
+use wc_ast::{Desc, Global, GlobalType, Import, Limits, List, Module};
 
 /// The sizes of a module's index spaces, and what its globals are (Core 1.0, 3.1.1).
 #[derive(Debug, Drop)]
@@ -46,19 +46,19 @@ pub(crate) fn context_of(alloc: alloc::Global, module: &Module) -> Result<Contex
     add_globals(&mut globals, module.globals.as_slice())?;
     Ok(Context {
         types: module.types.len(),
-        funcs: func_count(imports, funcs, module.funcs.as_slice()),
+        funcs: func_count(imports, funcs, module.funcs.types()),
         tables: limits_count(imports, tables, module.tables.as_slice()),
         mems: limits_count(imports, mems, module.mems.as_slice()),
         globals: List::from_vec(globals),
     })
 }
 
-/// How many functions there are, where so many are imported.
-fn func_count(imports: &[Import], imported: usize, funcs: &[Func]) -> usize
+/// How many functions there are, where so many are imported and those that the module defines have these types.
+fn func_count(imports: &[Import], imported: usize, types: &[u32]) -> usize
     requires { imported ≤ length imports.now }
-    ensures { result ≡ imported + length funcs.now }
+    ensures { result ≡ imported + length types.now }
 {
-    imported + funcs.len()
+    imported + types.len()
 }
 
 /// How many tables or memories there are, where so many are imported.

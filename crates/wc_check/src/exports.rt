@@ -1,19 +1,22 @@
 //! Exports.
 
-ghost use Rattle.std.specs.Prelude.{◌≡◌, ◌||◌, ℕ, List, [], OnOk, IfOk, IfErr};
+ghost use Rattle.std.specs.Prelude.{◌≡◌, ◌||◌, ℕ, List, [], nat_le, OnOk, IfOk, IfErr};
 ghost use Rattle.std.specs.Str.{bytes_eq};
-ghost use Rattle.wc_check.specs.Standard.Rules.{IsFirstOf, each};
-ghost use Rattle.wc_check.specs.Judging.Names.{has_text};
+ghost use Rattle.wc_check.specs.Standard.Rules.{IsFirstOf, each, first, rule};
+ghost use Rattle.wc_check.specs.Judging.Names.{has_text, AreDistinct};
+ghost use Rattle.wc_check.specs.Judging.Verdicts.{verdict};
 ghost use Rattle.wc_check.specs.Standard.Spaces.{module_context};
 ghost use Rattle.wc_check.specs.Standard.ExportRules.{space_size};
 ghost use Rattle.wc_check.specs.Standard.Broken.{broken_export};
 ghost use Rattle.wc_check.specs.declared.fault.CheckFault.TheVariants as faults;
+ghost use Rattle.wc_check.specs.declared.fault.CheckWhy.TheVariants as whys;
 
 use crate::context::Context;
 use crate::fault::{CheckFault, CheckWhy, Item, broken_if, judge};
+use crate::names::have_distinct_hashes;
 use std::alloc::Global;
 use std::collections::BTreeSet;
-use wc_ast::{ExportKind, Module};
+use wc_ast::{Export, ExportKind, Module};
 
 /// How many there are of what is exported.
 fn size_of_space(context: &Context, kind: ExportKind) -> usize
@@ -39,7 +42,44 @@ fn add_name<'a>(names: &mut BTreeSet<&'a str>, name: &'a str) -> Result<bool, Ch
     }
 }
 
-/// The exports. The error may be want of memory, for the set of their names.
+/// The rule on the index of an export.
+fn space_rule(context: &Context, export: &Export) -> Option<CheckWhy>
+    ensures { result ≡ first (rule whys.Index (nat_le (space_size context.now export.now.kind) export.now.index)) }
+{
+    let size = size_of_space(context, export.kind);
+    broken_if(CheckWhy::Index, size <= export.index as usize)
+}
+
+/// The exports, whose names differ.
+fn check_distinct_exports(module: &Module, context: &Context) -> Result<(), CheckFault>
+    requires rules { context.now ≡ module_context «module».now }
+    requires distinct { AreDistinct «module».now.exports }
+    ensures { result ≡ verdict (each (broken_export «module».now) 0 «module».now.exports) }
+{
+    for (place, export) in module.exports.as_slice().iter().enumerate() {
+        judge(Item::Export(place), space_rule(context, export))?;
+    }
+    Ok(())
+}
+
+/// The exports, whatever their names. The error may be want of memory, for the set of their names.
+fn check_any_exports(alloc: Global, module: &Module, context: &Context) -> Result<(), CheckFault>
+    requires { context.now ≡ module_context «module».now }
+    ensures ok { OnOk result (each (broken_export «module».now) 0 «module».now.exports ≡ []) }
+    ensures err { IfErr result (IsFirstOf (each (broken_export «module».now) 0 «module».now.exports)) }
+{
+    let mut names = BTreeSet::new(alloc);
+    for (place, export) in module.exports.as_slice().iter().enumerate() {
+        let is_taken = add_name(&mut names, export.name.as_str())?;
+        let space = space_rule(context, export);
+        let why = space.or(broken_if(CheckWhy::ExportName, is_taken));
+        judge(Item::Export(place), why)?;
+    }
+    Ok(())
+}
+
+/// The exports. The error may be want of memory, for what is kept of their names. A set of the names is made only where
+/// two of them have the same hash.
 pub(crate) fn check_exports(
     alloc: Global,
     module: &Module,
@@ -49,13 +89,9 @@ pub(crate) fn check_exports(
     ensures ok { OnOk result (each (broken_export «module».now) 0 «module».now.exports ≡ []) }
     ensures err { IfErr result (IsFirstOf (each (broken_export «module».now) 0 «module».now.exports)) }
 {
-    let mut names = BTreeSet::new(alloc);
-    for (place, export) in module.exports.as_slice().iter().enumerate() {
-        let is_taken = add_name(&mut names, export.name.as_str())?;
-        let size = size_of_space(context, export.kind);
-        let space = broken_if(CheckWhy::Index, size <= export.index as usize);
-        let why = space.or(broken_if(CheckWhy::ExportName, is_taken));
-        judge(Item::Export(place), why)?;
+    match have_distinct_hashes(alloc, module.exports.as_slice()) {
+        Ok(true) => check_distinct_exports(module, context),
+        Ok(false) => check_any_exports(alloc, module, context),
+        Err(_) => Err(CheckFault::Memory),
     }
-    Ok(())
 }

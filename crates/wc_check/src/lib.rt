@@ -10,6 +10,7 @@ mod exports;
 mod fault;
 mod imports;
 mod instructions;
+mod names;
 mod segments;
 mod sizes;
 mod start;

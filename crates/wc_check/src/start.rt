@@ -1,6 +1,6 @@
 //! The start function.
 
-ghost use Rattle.std.specs.Prelude.{◌≡◌, false, map, slice_get};
+ghost use Rattle.std.specs.Prelude.{◌≡◌, false, slice_get};
 ghost use Rattle.std.specs.Option.{option_map_or, option_and_then};
 ghost use Rattle.wc_check.specs.Standard.Rules.{first};
 ghost use Rattle.wc_check.specs.Standard.Spaces.{module_context, func_space, imported_funcs};
@@ -8,7 +8,7 @@ ghost use Rattle.wc_check.specs.Standard.Broken.{start_rules, has_values};
 
 use crate::context::Context;
 use crate::fault::{CheckWhy, broken_if};
-use wc_ast::{Desc, Func, FuncType, Import, Module};
+use wc_ast::{Desc, FuncType, Import, Module};
 
 /// The first rule that the start function breaks.
 pub(crate) fn start_rule(module: &Module, context: &Context) -> Option<CheckWhy>
@@ -56,15 +56,15 @@ fn type_of_func(module: &Module, context: &Context, index: usize) -> Option<u32>
     if index < start {
         return type_of_import(module.imports.as_slice(), index);
     }
-    type_at(module.funcs.as_slice(), index - start)
+    type_at(module.funcs.types(), index - start)
 }
 
-/// The index of the type of the function at this place.
-fn type_at(funcs: &[Func], place: usize) -> Option<u32>
-    ensures { result ≡ slice_get (map (λ f. f.ty) funcs.now) place }
+/// The index of the type at this place.
+fn type_at(types: &[u32], place: usize) -> Option<u32>
+    ensures { result ≡ slice_get types.now place }
 {
-    match funcs.get(place) {
-        Some(func) => Some(func.ty),
+    match types.get(place) {
+        Some(ty) => Some(*ty),
         None => None,
     }
 }

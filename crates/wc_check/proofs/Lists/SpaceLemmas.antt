@@ -1,5 +1,5 @@
 -- What one more import adds.
-use Rattle.std.proofs.Common.{◌≡◌, ℕ, ◌<◌, List, [], ◌∷◌, ◌++◌, length, refl, ap, ◌∙◌}
+use Rattle.std.proofs.Common.{◌≡◌, ℕ, ◌<◌, ◌+◌, List, [], ◌∷◌, ◌++◌, length, refl, ap, ◌∙◌}
 use Rattle.std.specs.List.{flat_map, slice_get}
 use Rattle.std.proofs.Common.{arith, ◌≤◌, ◌-◌, zero, suc, map, length-append}
 use Rattle.std.proofs.lemmas.List.{length-map}
@@ -49,6 +49,14 @@ few_mems xs = length-imported mem_of one_mem xs
 -- the index of the first function that the module defines
 pub func_start : (m : Module) → length (func_space m) - length m.funcs ≡ length (imported_funcs m.imports)
 func_start m = omega (
+  arith,
+  length-append (imported_funcs m.imports) (map (λ f. f.ty) m.funcs),
+  length-map m.funcs (λ (f : func.Func). f.ty),
+)
+
+-- how many functions there are
+pub func_count : (m : Module) → length (func_space m) ≡ length (imported_funcs m.imports) + length m.funcs
+func_count m = omega (
   arith,
   length-append (imported_funcs m.imports) (map (λ f. f.ty) m.funcs),
   length-map m.funcs (λ (f : func.Func). f.ty),

@@ -1,6 +1,7 @@
 -- A check that goes through a list, and stops at the first broken rule.
 use Rattle.std.proofs.Common.{◌≡◌, ℕ, ◌+◌, ◌<◌, suc, List, [], ◌∷◌, ◌++◌, length, get_or, drop, Option, Result}
-use Rattle.std.proofs.Common.{Err, refl, sym, ap, ◌∙◌}
+use Rattle.std.proofs.Common.{Ok, Err, refl, sym, ap, ◌∙◌}
+use Rattle.std.proofs.Math.Numerals.{add-one}
 use Rattle.std.proofs.Math.Seq.{drop-cons}
 use Rattle.wc_check.specs.declared.fault.Item.{Item}
 use Rattle.wc_check.specs.declared.fault.CheckWhy.{CheckWhy}
@@ -17,10 +18,21 @@ pub verdict-fails : (xs ys : List (Item × CheckWhy)) (fault : CheckFault) → v
 verdict-fails [] ys fault e = absurd cc
 verdict-fails (x ∷ xs) ys fault e = e
 
+-- what breaks no rule is not answered
+pub verdict-passes : (xs ys : List (Item × CheckWhy)) {u : Unit {0}} → Ok u ≡ verdict xs → verdict (xs ++ ys) ≡ verdict ys
+verdict-passes [] ys e = refl
+verdict-passes (x ∷ xs) ys e = absurd cc
+
 -- the rule that was found is the first one
 pub judged-fails : (item : Item) (whys : List CheckWhy) (why : Option CheckWhy) (fault : CheckFault)
     → Err fault ≡ judged item why → why ≡ first whys → verdict (at item whys) ≡ Err fault
 judged-fails item whys why fault e found = verdict-at item whys ∙ sym (e ∙ ap (λ o. judged item o) found)
+
+-- no rule is broken where none is found first
+pub judged-passes : (item : Item) (whys : List CheckWhy) (why : Option CheckWhy) (answer : Result (Unit {0}) CheckFault)
+    → answer ≡ judged item why → why ≡ first whys → answer ≡ Ok tt → at item whys ≡ []
+judged-passes item [] why answer e found ok = refl
+judged-passes item (w ∷ ws) why answer e found ok = absurd cc
 
 module _ {X : Type 0} (broken_by : ℕ → X → List (Item × CheckWhy)) (n i : ℕ) (xs : List X) where
   next-each : (x d : X) → i < length xs → x ≡ get_or xs i d
@@ -34,3 +46,10 @@ module _ {X : Type 0} (broken_by : ℕ → X → List (Item × CheckWhy)) (n i :
   each-fails x d answer fault lt is rest e =
       sym (verdict-fails (broken_by n x) (each broken_by (n + 1) (drop (suc i) xs)) fault e)
       ∙ sym (ap (λ ys. verdict ys) (next-each x d lt is)) ∙ rest
+
+  -- the next member breaks no rule
+  pub each-passes : (x d : X) → i < length xs → x ≡ get_or xs i d → broken_by n x ≡ []
+      → each broken_by n (drop i xs) ≡ each broken_by (n + 1) (drop (i + 1) xs)
+  each-passes x d lt is none =
+      next-each x d lt is ∙ ap (λ ys. ys ++ each broken_by (n + 1) (drop (suc i) xs)) none
+      ∙ ap (λ k. each broken_by (n + 1) (drop k xs)) (sym (add-one i))

@@ -1,9 +1,8 @@
 -- Instructions that have all that they need break no rule.
-use Rattle.std.proofs.Common.{◌≡◌, ℕ, zero, suc, ◌+◌, ◌<◌, ◌≤◌, Bool, true, false, not, ◌||◌, ◌==◌, nat_lt, nat_le}
-use Rattle.std.proofs.Common.{List, [], ◌∷◌, length, refl, ap, arith, cond, inl, inr}
+use Rattle.std.proofs.Common.{◌≡◌, ℕ, ◌+◌, ◌<◌, Bool, true, false, ◌||◌, ◌==◌, nat_lt, nat_le}
+use Rattle.std.proofs.Common.{List, [], ◌∷◌, length, refl, ap, arith}
 use Rattle.std.specs.List.{list_any}
-use Rattle.std.proofs.lemmas.Bool.{lt-leb, ne_eqb, cases_Bool}
-use Rattle.wc_ast.specs.declared.limits.GlobalType.{GlobalType}
+use Rattle.std.proofs.lemmas.Bool.{lt-leb, ne_eqb}
 use Rattle.wc_body.specs.declared.instr.BlockType as block_type
 use Rattle.wc_body.specs.declared.instr.BlockType.TheVariants as block_types
 use Rattle.wc_body.specs.declared.instr.Instr as instr
@@ -26,7 +25,7 @@ use Rattle.wc_check.specs.declared.fault.CheckWhy.TheVariants as whys
 use Rattle.wc_check.specs.Standard.Rules.{rule, at, each}
 use Rattle.wc_check.specs.Standard.InstructionRules.{simple_rules, is_constant_at, index_rules, instr_rules, block_rules, mark_rules}
 use Rattle.wc_check.specs.Standard.InstructionRules.{broken_instr, broken_in_body}
-use Rattle.wc_check.specs.Judging.Enough.{HasRoom, settable_count, IsEnough}
+use Rattle.wc_check.specs.Judging.Enough.{HasRoom, IsEnough}
 
 -- there is room for the index, and for what was needed before
 before : (count so_far n : ℕ) → HasRoom count (enough so_far n) → HasRoom count so_far
@@ -44,35 +43,9 @@ no-count why count so_far n room = no-rule why (nat_le count n) (lt-leb count n 
 no-zero : (why : CheckWhy) (count : ℕ) → 0 < count → rule why (count == 0) ≡ []
 no-zero why count lt = no-rule why (count == 0) (ne_eqb count 0 (λ e. omega (arith, e)))
 
-neither : (a b : Bool) → (a || b) ≡ false → (a ≡ false) × (b ≡ false)
+pub neither : (a b : Bool) → (a || b) ≡ false → (a ≡ false) × (b ≡ false)
 neither true b e = absurd cc
 neither false b e = (refl, e)
-
--- ---- globals
-
-settable-yes : (g : GlobalType) (gs : List GlobalType) → g.mutable ≡ true → settable_count (g ∷ gs) ≡ suc (settable_count gs)
-settable-yes g gs e = ap (λ b. cond b (suc (settable_count gs)) 0) e
-
-settable-no : (g : GlobalType) (gs : List GlobalType) → g.mutable ≡ false → settable_count (g ∷ gs) ≡ 0
-settable-no g gs e = ap (λ b. cond b (suc (settable_count gs)) 0) e
-
-settable-few : (gs : List GlobalType) → settable_count gs ≤ length gs
-settable-few [] = omega arith
-settable-few (g ∷ gs) = elim (cases_Bool g.mutable) [
-  | inl e ↦ let k = settable-few gs in omega (arith, k, settable-yes g gs e)
-  | inr e ↦ omega (arith, settable-no g gs e)
-]
-
-settable-at : (gs : List GlobalType) (n : ℕ) → n < settable_count gs → is_constant_at gs n ≡ false
-settable-at [] n lt = refl
-settable-at (g ∷ gs) zero lt = elim (cases_Bool g.mutable) [
-  | inl e ↦ ap not e
-  | inr e ↦ absurd (omega (arith, settable-no g gs e, lt))
-]
-settable-at (g ∷ gs) (suc n) lt = elim (cases_Bool g.mutable) [
-  | inl e ↦ settable-at gs n (omega (arith, settable-yes g gs e, lt))
-  | inr e ↦ absurd (omega (arith, settable-no g gs e, lt))
-]
 
 -- ---- one more instruction
 module _ (c : Context) (locals : ℕ) where
@@ -83,150 +56,180 @@ module _ (c : Context) (locals : ℕ) where
   simple-keeps : (s : Needs) (op : SimpleOp) → IsEnough c locals (with_simple s op) → Keeps s (simple_rules c op)
   simple-keeps s MemorySize e = (
     record {
-      types = e.types;
-      funcs = e.funcs;
-      globals = e.globals;
-      set_globals = e.set_globals;
-      locals = e.locals;
-      table = e.table;
-      memory = λ h. e.memory refl;
-      outer_label = e.outer_label;
-      over_aligned = e.over_aligned;
+      rooms = record {
+        types = e.rooms.types;
+        funcs = e.rooms.funcs;
+        globals = e.rooms.globals;
+        set_globals = e.rooms.set_globals;
+        locals = e.rooms.locals;
+        table = e.rooms.table;
+        memory = λ h. e.rooms.memory refl;
+        outer_label = e.rooms.outer_label;
+        over_aligned = e.rooms.over_aligned;
+      };
+      settable = e.settable;
     },
-    no-zero whys.Index c.mems (e.memory refl),
+    no-zero whys.Index c.mems (e.rooms.memory refl),
   )
   simple-keeps s MemoryGrow e = (
     record {
-      types = e.types;
-      funcs = e.funcs;
-      globals = e.globals;
-      set_globals = e.set_globals;
-      locals = e.locals;
-      table = e.table;
-      memory = λ h. e.memory refl;
-      outer_label = e.outer_label;
-      over_aligned = e.over_aligned;
+      rooms = record {
+        types = e.rooms.types;
+        funcs = e.rooms.funcs;
+        globals = e.rooms.globals;
+        set_globals = e.rooms.set_globals;
+        locals = e.rooms.locals;
+        table = e.rooms.table;
+        memory = λ h. e.rooms.memory refl;
+        outer_label = e.rooms.outer_label;
+        over_aligned = e.rooms.over_aligned;
+      };
+      settable = e.settable;
     },
-    no-zero whys.Index c.mems (e.memory refl),
+    no-zero whys.Index c.mems (e.rooms.memory refl),
   )
   simple-keeps s _ e = (e, refl)
 
   index-keeps : (s : Needs) (k : ℕ) (op : IndexOp) (n : ℕ) → IsEnough c locals (with_index s k op n)
       → Keeps s (index_rules c locals k op n)
-  index-keeps s k Br n e = let no = neither s.outer_label (nat_lt k n) e.outer_label in (
+  index-keeps s k Br n e = let no = neither s.outer_label (nat_lt k n) e.rooms.outer_label in (
     record {
-      types = e.types;
-      funcs = e.funcs;
-      globals = e.globals;
-      set_globals = e.set_globals;
-      locals = e.locals;
-      table = e.table;
-      memory = e.memory;
-      outer_label = no.0;
-      over_aligned = e.over_aligned;
+      rooms = record {
+        types = e.rooms.types;
+        funcs = e.rooms.funcs;
+        globals = e.rooms.globals;
+        set_globals = e.rooms.set_globals;
+        locals = e.rooms.locals;
+        table = e.rooms.table;
+        memory = e.rooms.memory;
+        outer_label = no.0;
+        over_aligned = e.rooms.over_aligned;
+      };
+      settable = e.settable;
     },
     no-rule whys.Label (nat_lt k n) no.1,
   )
-  index-keeps s k BrIf n e = let no = neither s.outer_label (nat_lt k n) e.outer_label in (
+  index-keeps s k BrIf n e = let no = neither s.outer_label (nat_lt k n) e.rooms.outer_label in (
     record {
-      types = e.types;
-      funcs = e.funcs;
-      globals = e.globals;
-      set_globals = e.set_globals;
-      locals = e.locals;
-      table = e.table;
-      memory = e.memory;
-      outer_label = no.0;
-      over_aligned = e.over_aligned;
+      rooms = record {
+        types = e.rooms.types;
+        funcs = e.rooms.funcs;
+        globals = e.rooms.globals;
+        set_globals = e.rooms.set_globals;
+        locals = e.rooms.locals;
+        table = e.rooms.table;
+        memory = e.rooms.memory;
+        outer_label = no.0;
+        over_aligned = e.rooms.over_aligned;
+      };
+      settable = e.settable;
     },
     no-rule whys.Label (nat_lt k n) no.1,
   )
   index-keeps s k Call n e = (
     record {
-      types = e.types;
-      funcs = before c.funcs s.funcs n e.funcs;
-      globals = e.globals;
-      set_globals = e.set_globals;
-      locals = e.locals;
-      table = e.table;
-      memory = e.memory;
-      outer_label = e.outer_label;
-      over_aligned = e.over_aligned;
+      rooms = record {
+        types = e.rooms.types;
+        funcs = before c.funcs s.funcs n e.rooms.funcs;
+        globals = e.rooms.globals;
+        set_globals = e.rooms.set_globals;
+        locals = e.rooms.locals;
+        table = e.rooms.table;
+        memory = e.rooms.memory;
+        outer_label = e.rooms.outer_label;
+        over_aligned = e.rooms.over_aligned;
+      };
+      settable = e.settable;
     },
-    no-count whys.Index c.funcs s.funcs n e.funcs,
+    no-count whys.Index c.funcs s.funcs n e.rooms.funcs,
   )
   index-keeps s k LocalGet n e = (
     record {
-      types = e.types;
-      funcs = e.funcs;
-      globals = e.globals;
-      set_globals = e.set_globals;
-      locals = before locals s.locals n e.locals;
-      table = e.table;
-      memory = e.memory;
-      outer_label = e.outer_label;
-      over_aligned = e.over_aligned;
+      rooms = record {
+        types = e.rooms.types;
+        funcs = e.rooms.funcs;
+        globals = e.rooms.globals;
+        set_globals = e.rooms.set_globals;
+        locals = before locals s.locals n e.rooms.locals;
+        table = e.rooms.table;
+        memory = e.rooms.memory;
+        outer_label = e.rooms.outer_label;
+        over_aligned = e.rooms.over_aligned;
+      };
+      settable = e.settable;
     },
-    no-count whys.Index locals s.locals n e.locals,
+    no-count whys.Index locals s.locals n e.rooms.locals,
   )
   index-keeps s k LocalSet n e = (
     record {
-      types = e.types;
-      funcs = e.funcs;
-      globals = e.globals;
-      set_globals = e.set_globals;
-      locals = before locals s.locals n e.locals;
-      table = e.table;
-      memory = e.memory;
-      outer_label = e.outer_label;
-      over_aligned = e.over_aligned;
+      rooms = record {
+        types = e.rooms.types;
+        funcs = e.rooms.funcs;
+        globals = e.rooms.globals;
+        set_globals = e.rooms.set_globals;
+        locals = before locals s.locals n e.rooms.locals;
+        table = e.rooms.table;
+        memory = e.rooms.memory;
+        outer_label = e.rooms.outer_label;
+        over_aligned = e.rooms.over_aligned;
+      };
+      settable = e.settable;
     },
-    no-count whys.Index locals s.locals n e.locals,
+    no-count whys.Index locals s.locals n e.rooms.locals,
   )
   index-keeps s k LocalTee n e = (
     record {
-      types = e.types;
-      funcs = e.funcs;
-      globals = e.globals;
-      set_globals = e.set_globals;
-      locals = before locals s.locals n e.locals;
-      table = e.table;
-      memory = e.memory;
-      outer_label = e.outer_label;
-      over_aligned = e.over_aligned;
+      rooms = record {
+        types = e.rooms.types;
+        funcs = e.rooms.funcs;
+        globals = e.rooms.globals;
+        set_globals = e.rooms.set_globals;
+        locals = before locals s.locals n e.rooms.locals;
+        table = e.rooms.table;
+        memory = e.rooms.memory;
+        outer_label = e.rooms.outer_label;
+        over_aligned = e.rooms.over_aligned;
+      };
+      settable = e.settable;
     },
-    no-count whys.Index locals s.locals n e.locals,
+    no-count whys.Index locals s.locals n e.rooms.locals,
   )
   index-keeps s k GlobalGet n e = (
     record {
-      types = e.types;
-      funcs = e.funcs;
-      globals = before (length c.globals) s.globals n e.globals;
-      set_globals = e.set_globals;
-      locals = e.locals;
-      table = e.table;
-      memory = e.memory;
-      outer_label = e.outer_label;
-      over_aligned = e.over_aligned;
+      rooms = record {
+        types = e.rooms.types;
+        funcs = e.rooms.funcs;
+        globals = before (length c.globals) s.globals n e.rooms.globals;
+        set_globals = e.rooms.set_globals;
+        locals = e.rooms.locals;
+        table = e.rooms.table;
+        memory = e.rooms.memory;
+        outer_label = e.rooms.outer_label;
+        over_aligned = e.rooms.over_aligned;
+      };
+      settable = e.settable;
     },
-    no-count whys.Index (length c.globals) s.globals n e.globals,
+    no-count whys.Index (length c.globals) s.globals n e.rooms.globals,
   )
   index-keeps s k GlobalSet n e =
-      let lt = below (settable_count c.globals) s.set_globals n e.set_globals in
-      let few = settable-few c.globals in (
+      let lt = below (length c.globals) s.set_globals n e.rooms.set_globals in
+      let variable = e.settable n (omega arith) (omega (arith, e.rooms.set_globals.0)) in (
         record {
-          types = e.types;
-          funcs = e.funcs;
-          globals = e.globals;
-          set_globals = before (settable_count c.globals) s.set_globals n e.set_globals;
-          locals = e.locals;
-          table = e.table;
-          memory = e.memory;
-          outer_label = e.outer_label;
-          over_aligned = e.over_aligned;
+          rooms = record {
+            types = e.rooms.types;
+            funcs = e.rooms.funcs;
+            globals = e.rooms.globals;
+            set_globals = before (length c.globals) s.set_globals n e.rooms.set_globals;
+            locals = e.rooms.locals;
+            table = e.rooms.table;
+            memory = e.rooms.memory;
+            outer_label = e.rooms.outer_label;
+            over_aligned = e.rooms.over_aligned;
+          };
+          settable = λ m low high. e.settable m (omega (arith, low)) (omega (arith, high));
         },
-        rw (no-rule whys.Index (nat_le (length c.globals) n) (lt-leb (length c.globals) n (omega (arith, lt, few))))
-            (no-rule whys.Immutable (is_constant_at c.globals n) (settable-at c.globals n lt)),
+        rw (no-count whys.Index (length c.globals) s.set_globals n e.rooms.set_globals)
+            (no-rule whys.Immutable (is_constant_at c.globals n) variable),
       )
 
   instr-keeps : (s : Needs) (k : ℕ) (i : instr.Instr) → IsEnough c locals (with_instr s k i)
@@ -234,50 +237,59 @@ module _ (c : Context) (locals : ℕ) where
   instr-keeps s k (Simple op) e = simple-keeps s op e
   instr-keeps s k (Index op n) e = index-keeps s k op n e
   instr-keeps s k (Mem op arg) e =
-      let no = neither s.over_aligned (nat_lt (memory op).alignment arg.align) e.over_aligned in (
+      let no = neither s.over_aligned (nat_lt (memory op).alignment arg.align) e.rooms.over_aligned in (
         record {
-          types = e.types;
-          funcs = e.funcs;
-          globals = e.globals;
-          set_globals = e.set_globals;
-          locals = e.locals;
-          table = e.table;
-          memory = λ h. e.memory refl;
-          outer_label = e.outer_label;
-          over_aligned = no.0;
+          rooms = record {
+            types = e.rooms.types;
+            funcs = e.rooms.funcs;
+            globals = e.rooms.globals;
+            set_globals = e.rooms.set_globals;
+            locals = e.rooms.locals;
+            table = e.rooms.table;
+            memory = λ h. e.rooms.memory refl;
+            outer_label = e.rooms.outer_label;
+            over_aligned = no.0;
+          };
+          settable = e.settable;
         },
-        rw (no-zero whys.Index c.mems (e.memory refl))
+        rw (no-zero whys.Index c.mems (e.rooms.memory refl))
             (no-rule whys.Align (nat_lt (memory op).alignment arg.align) no.1),
       )
   instr-keeps s k (BrTable default labels) e =
       let is_outer = list_any (λ n. nat_lt k n) labels || nat_lt k default in
-      let no = neither s.outer_label is_outer e.outer_label in (
+      let no = neither s.outer_label is_outer e.rooms.outer_label in (
         record {
-          types = e.types;
-          funcs = e.funcs;
-          globals = e.globals;
-          set_globals = e.set_globals;
-          locals = e.locals;
-          table = e.table;
-          memory = e.memory;
-          outer_label = no.0;
-          over_aligned = e.over_aligned;
+          rooms = record {
+            types = e.rooms.types;
+            funcs = e.rooms.funcs;
+            globals = e.rooms.globals;
+            set_globals = e.rooms.set_globals;
+            locals = e.rooms.locals;
+            table = e.rooms.table;
+            memory = e.rooms.memory;
+            outer_label = no.0;
+            over_aligned = e.rooms.over_aligned;
+          };
+          settable = e.settable;
         },
         no-rule whys.Label is_outer no.1,
       )
   instr-keeps s k (CallIndirect t) e = (
     record {
-      types = before c.types s.types t e.types;
-      funcs = e.funcs;
-      globals = e.globals;
-      set_globals = e.set_globals;
-      locals = e.locals;
-      table = λ h. e.table refl;
-      memory = e.memory;
-      outer_label = e.outer_label;
-      over_aligned = e.over_aligned;
+      rooms = record {
+        types = before c.types s.types t e.rooms.types;
+        funcs = e.rooms.funcs;
+        globals = e.rooms.globals;
+        set_globals = e.rooms.set_globals;
+        locals = e.rooms.locals;
+        table = λ h. e.rooms.table refl;
+        memory = e.rooms.memory;
+        outer_label = e.rooms.outer_label;
+        over_aligned = e.rooms.over_aligned;
+      };
+      settable = e.settable;
     },
-    rw (no-count whys.TypeIndex c.types s.types t e.types) (no-zero whys.Index c.tables (e.table refl)),
+    rw (no-count whys.TypeIndex c.types s.types t e.rooms.types) (no-zero whys.Index c.tables (e.rooms.table refl)),
   )
   instr-keeps s k (I32Const n) e = (e, refl)
   instr-keeps s k (I64Const n) e = (e, refl)
@@ -287,17 +299,20 @@ module _ (c : Context) (locals : ℕ) where
   block-keeps s (block_types.Value v) e = (e, refl)
   block-keeps s (block_types.Index t) e = (
     record {
-      types = before c.types s.types t e.types;
-      funcs = e.funcs;
-      globals = e.globals;
-      set_globals = e.set_globals;
-      locals = e.locals;
-      table = e.table;
-      memory = e.memory;
-      outer_label = e.outer_label;
-      over_aligned = e.over_aligned;
+      rooms = record {
+        types = before c.types s.types t e.rooms.types;
+        funcs = e.rooms.funcs;
+        globals = e.rooms.globals;
+        set_globals = e.rooms.set_globals;
+        locals = e.rooms.locals;
+        table = e.rooms.table;
+        memory = e.rooms.memory;
+        outer_label = e.rooms.outer_label;
+        over_aligned = e.rooms.over_aligned;
+      };
+      settable = e.settable;
     },
-    no-count whys.TypeIndex c.types s.types t e.types,
+    no-count whys.TypeIndex c.types s.types t e.rooms.types,
   )
 
   mark-keeps : (s : Needs) (k : ℕ) (m : Mark instr.Instr block_type.BlockType) → IsEnough c locals (with_mark s k m)

@@ -1,26 +1,59 @@
 -- What is around a body gives all that its instructions need, so that they break no rule (Core 1.0, 3.3).
-use Rattle.std.specs.Prelude.{ℕ, suc, ◌≡◌, ◌-◌, ◌<◌, ◌≤◌, ◌^◌, true, false, cond, List, [], ◌∷◌, length}
+use Rattle.std.specs.Prelude.{ℕ, ◌≡◌, ◌+◌, ◌-◌, ◌<◌, ◌≤◌, ◌^◌, true, false, cond, List, [], ◌∷◌, length}
 use Rattle.wc_ast.specs.declared.limits.GlobalType.{GlobalType}
 use Rattle.wc_body.specs.declared.needs.Needs.{Needs}
+use Rattle.wc_body.specs.declared.needs.OwnNeeds.{OwnNeeds}
 use Rattle.wc_check.specs.declared.context.Context.{Context}
+use Rattle.wc_check.specs.Standard.InstructionRules.{is_constant_at}
 
 -- so many are needed, and there are as many; it isn't told how many where there is no room for more
 abbrev pub HasRoom : ℕ → ℕ → Type 0
 HasRoom count needed = (needed < 2 ^ 32 - 1) × (needed ≤ count)
 
--- how many globals stand before the first constant one
-abbrev pub settable_count : List GlobalType → ℕ
-settable_count [] = 0
-settable_count (g ∷ gs) = cond g.mutable (suc (settable_count gs)) 0
+-- for each of these globals, where the run of mutable ones begins that it ends, or what follows it where it is
+-- constant; before them stand so many, and the run that these end begins there
+abbrev pub run_starts : ℕ → ℕ → List GlobalType → List ℕ
+run_starts place start [] = []
+run_starts place start (g ∷ gs) =
+    cond g.mutable start (place + 1) ∷ run_starts (place + 1) (cond g.mutable start (place + 1)) gs
 
--- in a function of so many locals
-pub record IsEnough (c : Context) (local_count : ℕ) (needs : Needs) : Type 0 where
+-- none of the globals from the one place up to the other is constant
+abbrev pub AreSettable : List GlobalType → ℕ → ℕ → Type 0
+AreSettable globals first end = (n : ℕ) → first ≤ n → n < end → is_constant_at globals n ≡ false
+
+-- there is room for each index, in a function of so many locals, and no instruction breaks a rule whatever is around
+pub record HasRooms (c : Context) (local_count : ℕ) (needs : Needs) : Type 0 where
   pub types : HasRoom c.types needs.types
   pub funcs : HasRoom c.funcs needs.funcs
   pub globals : HasRoom (length c.globals) needs.globals
-  pub set_globals : HasRoom (settable_count c.globals) needs.set_globals
+  pub set_globals : HasRoom (length c.globals) needs.set_globals
   pub locals : HasRoom local_count needs.locals
   pub table : needs.table ≡ true → 0 < c.tables
   pub memory : needs.memory ≡ true → 0 < c.mems
   pub outer_label : needs.outer_label ≡ false
   pub over_aligned : needs.over_aligned ≡ false
+
+-- and no global that is set is constant
+pub record IsEnough (c : Context) (local_count : ℕ) (needs : Needs) : Type 0 where
+  pub rooms : HasRooms c local_count needs
+  pub settable : AreSettable c.globals needs.lowest_set_global needs.set_globals
+
+-- of what a body needs, that which doesn't hang on the function's locals or on the globals that are set
+pub record HasCommon (c : Context) (needs : Needs) : Type 0 where
+  pub types : HasRoom c.types needs.types
+  pub funcs : HasRoom c.funcs needs.funcs
+  pub globals : HasRoom (length c.globals) needs.globals
+  pub table : needs.table ≡ true → 0 < c.tables
+  pub memory : needs.memory ≡ true → 0 < c.mems
+  pub outer_label : needs.outer_label ≡ false
+  pub over_aligned : needs.over_aligned ≡ false
+
+-- room for the other indices, in a function of so many locals
+pub record HasOwnRooms (c : Context) (local_count : ℕ) (own : OwnNeeds) : Type 0 where
+  pub set_globals : HasRoom (length c.globals) own.set_globals
+  pub locals : HasRoom local_count own.locals
+
+-- and no global that is set is constant
+pub record HasOwn (c : Context) (local_count : ℕ) (own : OwnNeeds) : Type 0 where
+  pub rooms : HasOwnRooms c local_count own
+  pub settable : AreSettable c.globals own.lowest_set_global own.set_globals

@@ -113,7 +113,7 @@ pub(crate) fn add(
         Part::Func(ty, count) => {
             let mut locals = Locals::new(alloc);
             locals.push_group(count, ValType::I64)?;
-            module.funcs.push(Func { ty, locals, body })?;
+            module.funcs.push(&Func { ty, locals, body })?;
         }
         Part::Table(min, max) => module.tables.push(Limits { min, max })?,
         Part::Memory(min, max) => module.mems.push(Limits { min, max })?,

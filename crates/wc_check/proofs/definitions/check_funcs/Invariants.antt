@@ -1,14 +1,21 @@
-use Rattle.std.proofs.Common.{◌≡◌, ◌+◌, drop, length}
+use Rattle.std.proofs.Common.{◌≡◌, ◌+◌, ◌<◌, ◌^◌, true, length}
+use Rattle.std.specs.List.{AllByRecursion}
+use Rattle.wc_body.specs.Standard.Needed.{needs_of}
+use Rattle.wc_check.specs.Judging.Enough.{HasCommon}
 use Rattle.wc_check.specs.Standard.Rules.{each}
 use Rattle.wc_check.specs.Judging.Verdicts.{verdict}
 use Rattle.wc_check.specs.Standard.Spaces.{imported_funcs}
 use Rattle.wc_check.specs.Standard.Broken.{broken_func}
 use Rattle.wc_check.proofs.definitions.check_funcs.Given as goal
 
-abbrev pub invariant-loop-place : goal.invariant-loop-place
-invariant-loop-place l = record {
-  start : l.start ≡ length (imported_funcs l.«module».imports);
+abbrev pub invariant-loop-func : goal.invariant-loop-func
+invariant-loop-func l = record {
+  few : l.index + length l.funcs < 2 ^ 64;
+  common : l.common ≡ true → AllByRecursion (λ f. HasCommon l.context (needs_of f.body)) l.funcs;
   rest :
-      verdict (each (broken_func l.«module») (l.start + l.place) (drop l.place l.«module».funcs))
-      ≡ verdict (each (broken_func l.«module») l.start l.«module».funcs);
+      verdict (each (broken_func l.«module») l.index l.funcs)
+      ≡ verdict (each (broken_func l.«module») (length (imported_funcs l.«module».imports)) l.«module».funcs);
 }
+
+abbrev pub decreases-loop-func : goal.decreases-loop-func
+decreases-loop-func l = length l.funcs

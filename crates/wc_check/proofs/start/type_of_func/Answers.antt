@@ -11,7 +11,7 @@ returns c =
     = rw (c.requires, c.len.ensures) (func_start m) in
     let le : length imported ≤ c.args.index = rw start at c.if-index-start.false in
     c.type_at.ensures
-    ∙ rw (c.as_slice-2.ensures, start) (sym (slice_get-back imported (map (λ f. f.ty) m.funcs) c.args.index le))
+    ∙ rw (c.types.ensures, start) (sym (slice_get-back imported (map (λ f. f.ty) m.funcs) c.args.index le))
 
 pub returns-then-index-start : goal.returns-then-index-start
 returns-then-index-start c =

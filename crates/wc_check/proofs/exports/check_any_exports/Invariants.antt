@@ -4,7 +4,7 @@ use Rattle.wc_check.specs.Judging.Verdicts.{verdict}
 use Rattle.wc_check.specs.Judging.Names.{has_text}
 use Rattle.wc_check.specs.Standard.ExportRules.{has_name}
 use Rattle.wc_check.specs.Standard.Broken.{broken_export}
-use Rattle.wc_check.proofs.exports.check_exports.Given as goal
+use Rattle.wc_check.proofs.exports.check_any_exports.Given as goal
 
 abbrev pub invariant-loop-place : goal.invariant-loop-place
 invariant-loop-place l = record {
