@@ -16,11 +16,11 @@ mod signed;
 mod types;
 mod vector;
 
-ghost use Rattle.std.specs.Prelude.{◌≡◌, ◌≤◌, ◌++◌, length, IfSome, IfErr, OnOk, false, ℕ};
+ghost use Rattle.std.specs.Prelude.{◌≡◌, ◌≤◌, ◌++◌, length, IfSome, IfErr, OnOk, Some, false, ℕ};
 ghost use Rattle.std.specs.Io.KnownBytes.{IsAtEnd};
-ghost use Rattle.wc_device.specs.Device.{device_inner, has_failed, read_count};
+ghost use Rattle.wc_device.specs.Device.{device_inner, failed_at, has_failed, has_ended, was_asked_again, read_count};
 ghost use Rattle.wc_binary.specs.Standard.Decoding.{buffer_size, Decodes, DecodesOnly, DecodesOnlyFault, DecodesNear};
-ghost use Rattle.wc_binary.specs.Standard.Decoding.{is_read_fault};
+ghost use Rattle.wc_binary.specs.Standard.Decoding.{DecodesCut, is_read_fault};
 
 use crate::fault::BinFault;
 use crate::source::{BUFFER_SIZE, Bytes, Feed};
@@ -63,6 +63,15 @@ pub fn decode_from<R: Read>(
     ensures end { OnOk result (IsAtEnd (R.remaining (device_inner device.new))) }
     ensures read { is_read_fault result ≡ has_failed device.new }
     ensures read_at { IfErr result (λ e. (at : ℕ) → e ≡ BinFault.Read at → at ≡ read_count device.new) }
+
+    // The failure that is told is the device's first, and nothing is read after it or after the end.
+    ensures first_failure { IfErr result (λ e. (at : ℕ) → e ≡ BinFault.Read at → failed_at device.new ≡ Some at) }
+    ensures again { has_ended device.old ≡ false → was_asked_again device.new ≡ was_asked_again device.old }
+
+    // A fault in bytes that were read is told, and no failure of a later read: where the bytes that the reader tells
+    // are those that it gave before it failed, they have no fault that shows before their end.
+    ensures cut { IsAtEnd (R.remaining (device_inner device.new)) → IfSome (R.remaining (device_inner device.old))
+        (λ rest. DecodesCut (front.now ++ rest) result) }
 {
     let mut buffer = [0u8; BUFFER_SIZE];
     buffer[..front.len()].copy_from_slice(front);

@@ -1,19 +1,10 @@
 //! What the sections of a module tell, and the module that is made of it.
 
-ghost use Rattle.std.specs.Prelude.{◌≡◌, [], length, map, IfOk};
-ghost use Rattle.wc_binary.specs.Standard.Module.{type_of, code_of, parts_of};
+ghost use Rattle.std.specs.Prelude.{◌≡◌, length};
+ghost use Rattle.wc_binary.specs.Standard.Module.{parts_of};
 
-use std::alloc::{self, AllocError};
-use wc_ast::{
-    Body, Data, Elem, Export, Func, FuncType, Global, Import, Limits, List, Locals, Module,
-};
-
-/// What the code section tells of a function (Core 1.0, 5.5.13).
-#[derive(Drop)]
-pub struct FuncCode {
-    pub locals: Locals,
-    pub body: Body,
-}
+use std::alloc;
+use wc_ast::{Codes, Data, Elem, Export, FuncType, Funcs, Global, Import, Limits, List, Module};
 
 /// What each section tells. Functions are told by two: by the indices of their types, and by their codes.
 #[derive(Drop)]
@@ -27,7 +18,7 @@ pub struct Parts {
     pub exports: List<Export>,
     pub start: Option<u32>,
     pub elems: List<Elem>,
-    pub codes: List<FuncCode>,
+    pub codes: Codes,
     pub datas: List<Data>,
 }
 
@@ -48,15 +39,15 @@ impl Parts {
             exports: List::new(alloc),
             start: None,
             elems: List::new(alloc),
-            codes: List::new(alloc),
+            codes: Codes::new(alloc),
             datas: List::new(alloc),
         }
     }
 
-    /// The module that has these parts. The error is want of memory.
-    pub fn into_module(self, alloc: alloc::Global) -> Result<Module, AllocError>
+    /// The module that has these parts. It takes no memory.
+    pub fn into_module(self) -> Module
         requires { length self.func_types ≡ length self.codes }
-        ensures { IfOk result (λ m. parts_of m ≡ self) }
+        ensures { parts_of result ≡ self }
     {
         let Parts {
             types,
@@ -71,11 +62,10 @@ impl Parts {
             codes,
             datas,
         } = self;
-        let funcs = funcs_of(alloc, func_types.as_slice(), codes.into_vec())?;
-        Ok(Module {
+        Module {
             types,
             imports,
-            funcs,
+            funcs: Funcs::of(func_types, codes),
             tables,
             mems,
             globals,
@@ -83,30 +73,6 @@ impl Parts {
             start,
             elems,
             datas,
-        })
+        }
     }
-}
-
-/// Functions of these types and codes, place by place.
-fn funcs_of(
-    alloc: alloc::Global,
-    types: &[u32],
-    codes: Vec<FuncCode>,
-) -> Result<List<Func>, AllocError>
-    requires { length types.now ≡ length codes.items }
-    ensures types { IfOk result (λ funcs. map type_of funcs ≡ types.now) }
-    ensures codes { IfOk result (λ funcs. map code_of funcs ≡ codes.items) }
-{
-    let mut funcs = Vec::with_capacity(alloc, types.len())?;
-    let mut index = 0;
-    for code in codes {
-        let FuncCode { locals, body } = code;
-        funcs.push(Func {
-            ty: types[index],
-            locals,
-            body,
-        })?;
-        index += 1;
-    }
-    Ok(List::from_vec(funcs))
 }

@@ -1,8 +1,7 @@
 //! Sections (Core 1.0, 5.5.2).
 
-use crate::parts::FuncCode;
 use crate::tables::Tables;
-use wc_ast::{Data, Elem, Export, FuncType, Global, Import, Limits, List};
+use wc_ast::{Codes, Data, Elem, Export, FuncType, Global, Import, Limits, List};
 
 /// Which section an id names.
 #[derive(Clone, Copy, Debug, PartialEq, Eq)]
@@ -83,7 +82,7 @@ pub enum Section {
     /// The index of the start function. Where the section stands, there is one.
     Start(Option<u32>),
     Elems(List<Elem>),
-    Codes(List<FuncCode>),
+    Codes(Codes),
     Datas(List<Data>),
 }
 

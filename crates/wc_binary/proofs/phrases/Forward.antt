@@ -13,7 +13,7 @@ use Rattle.wc_binary.specs.Standard.Values.{times, any_byte, name, u32}
 use Rattle.wc_binary.specs.declared.fault.BinFault.{BinFault}
 use Rattle.wc_binary.specs.declared.fault.BinFault.TheVariants.{Bad, Read, Memory}
 use Rattle.wc_binary.specs.Reading.Source.{Input, Fails, Gave}
-use Rattle.wc_binary.proofs.reading.Going.{GoesOn-trans, ReadFailed-behind}
+use Rattle.wc_binary.proofs.reading.Going.{Stopped-behind, ReadFailed-behind}
 use Rattle.wc_binary.proofs.phrases.Laws.{read-told}
 
 raw-spelled : (n : ℕ) (a bytes : List ℕ) → Spells (times n any_byte) a bytes → a ≡ bytes
@@ -45,17 +45,18 @@ pub name-count : (old new : Input) (e : BinFault) → Fails old new e (read u32 
     → Fails old new e (read name old.place old.left)
 unfolding name
 name-count old new Memory h = h
-name-count old new (Read at) h = h
+name-count old new (Read at) h = (h.0, λ w o. rw (h.1 w o) refl)
 name-count old new (Bad at why) h = (h.0, λ w. rw (h.1 w) refl)
 
 pub name-bytes : (old mid new : Input) (n : ℕ) → Gave old mid (Ok n) (read u32 old.place old.left) → (e : BinFault)
     → Fails mid new e (read (times n any_byte) mid.place mid.left)
     → Fails old new e (read name old.place old.left)
 unfolding name
-name-bytes old mid new n k Memory h = GoesOn-trans old mid new k.0 h
-name-bytes old mid new n k (Read at) h = ReadFailed-behind old mid new at k.0 h
+name-bytes old mid new n k Memory h = Stopped-behind old mid new k.0 h
+name-bytes old mid new n k (Read at) h =
+    (ReadFailed-behind old mid new at k.0 h.0, λ w o. let s = k.1 w in rw (s.1, h.1 s.0 o) refl)
 name-bytes old mid new n k (Bad at why) h =
-    (GoesOn-trans old mid new k.0 h.0, λ w. let s = k.1 w in rw (s.1, h.1 s.0) refl)
+    (Stopped-behind old mid new k.0 h.0, λ w. let s = k.1 w in rw (s.1, h.1 s.0) refl)
 
 module _ (o n p q : ℕ) (x y z bytes : List ℕ) (count : read u32 o x ≡ got n p y)
     (raw : read (times n any_byte) p y ≡ got bytes q z) where

@@ -1,6 +1,6 @@
 -- Reading an entry of an expression, and the loop that does so.
-use Rattle.std.proofs.Common.{◌≡◌, ℕ, zero, suc, ◌+◌, ◌<◌, ◌≤◌, Bool, true, false, not, nat_eq, List, ◌∷◌, length, Some}
-use Rattle.std.proofs.Common.{None, Result, Ok, Err, refl, sym, ap, ◌∙◌, arith}
+use Rattle.std.proofs.Common.{◌≡◌, ℕ, zero, suc, ◌+◌, ◌<◌, ◌≤◌, Bool, true, false, not, nat_eq, List, [], ◌∷◌, length}
+use Rattle.std.proofs.Common.{Some, None, Result, Ok, Err, refl, sym, ap, ◌∙◌, arith}
 use Rattle.std.specs.Prelude.{IsTrue, IfOk, IfErr}
 use Rattle.std.proofs.lemmas.Bool.{eqb-true}
 use Rattle.wc_ops.specs.declared.op.OpByte.{OpByte}
@@ -25,7 +25,7 @@ use Rattle.wc_binary.specs.Standard.Expression.{Begun, plain_op}
 use Rattle.wc_binary.specs.declared.fault.BinWhy.{BinWhy}
 use Rattle.wc_ops.specs.declared.op.Op.{Op}
 use Rattle.wc_binary.specs.Reading.NextMark.{mark_behind, GaveEntry, GivesEntry, MayStand, AddsNext}
-use Rattle.wc_binary.proofs.reading.Going.{GoesOn-refl, GoesOn-trans, ReadFailed-behind}
+use Rattle.wc_binary.proofs.reading.Going.{GoesOn-refl, GoesOn-stops, GoesOn-trans, Stopped-behind, ReadFailed-behind}
 use Rattle.wc_binary.proofs.phrases.Laws.{read-told}
 use Rattle.wc_binary.proofs.phrases.Expressions.{mark-shorter}
 use Rattle.wc_ops.proofs.Meanings.OfBytes.{meant}
@@ -87,25 +87,34 @@ some-marks : (n o : ℕ) (d : Draft Instr BlockType) (x : List ℕ) (total : Rea
 some-marks zero o d x total lt e = absurd (omega arith)
 some-marks (suc m) o d x total lt e = (m, omega arith, e)
 
-module _ (old mid next : Input) (d : Draft Instr BlockType) (total : Reading) (so_far : Draws old mid d total) where
-  pub next-none : NextGives mid next (Ok None) → Fails old next (Bad mid.place End) total
-  next-none n = (
-    GoesOn-trans old mid next so_far.going n.0,
-    λ w.
-        let s = so_far.same w in
-        let none = (n.2 s.0).1 in
-        let place = n.1 in
-        let one : all_marks (suc s.1) d mid.place mid.left ≡ fault mid.place End next.place = rw (none, place) refl in
-        sym s.3 ∙ one,
-  )
+-- no byte, where a mark is wanted
+pub next-none : (old mid : Input) (d : Draft Instr BlockType) (total : Reading) → Draws old mid d total
+    → IsTrue old.known → IsTrue mid.known × (mid.left ≡ [] → total ≡ Err (halt mid.place End mid.place))
+next-none old mid d total so_far w =
+    let s = so_far.same w in (
+      s.0,
+      λ e.
+          let one : all_marks (suc s.1) d mid.place mid.left ≡ fault mid.place End mid.place = rw e refl in
+          sym s.3 ∙ one,
+    )
 
+module _ (old mid next : Input) (d : Draft Instr BlockType) (total : Reading) (so_far : Draws old mid d total) where
   module _ (b : ℕ) (n : NextGives mid next (Ok (Some b))) (new : Input) where
     pub entry-fails : (f : BinFault) → Fails next new f (mark_behind d (opcode b) mid.place next.left)
         → Fails old new f total
-    entry-fails Memory h = GoesOn-trans old next new (GoesOn-trans old mid next so_far.going n.0) h
-    entry-fails (Read p) h = ReadFailed-behind old next new p (GoesOn-trans old mid next so_far.going n.0) h
+    entry-fails Memory h = Stopped-behind old next new (GoesOn-trans old mid next so_far.going n.0) h
+    entry-fails (Read p) h = (
+      ReadFailed-behind old next new p (GoesOn-trans old mid next so_far.going n.0) h.0,
+      λ w o.
+          let s = so_far.same w in
+          let k = n.2 s.0 in
+          let f = k.1 in
+          let g = h.1 k.0 o in
+          let one : all_marks (suc s.1) d mid.place mid.left ≡ Err (halt p End p) = rw (f, g) refl in
+          sym s.3 ∙ one,
+    )
     entry-fails (Bad p why) h = (
-      GoesOn-trans old next new (GoesOn-trans old mid next so_far.going n.0) h.0,
+      Stopped-behind old next new (GoesOn-trans old mid next so_far.going n.0) h.0,
       λ w.
           let s = so_far.same w in
           let k = n.2 s.0 in
@@ -172,7 +181,7 @@ pub taken : (d after : Draft Instr BlockType) (k : Result (Begun Op) BinWhy) (at
     → IfOk r (λ more. more ≡ true → after ≡ step d (mark e)) → IfOk r (λ more. more ≡ false → after ≡ d)
     → IfErr r (λ f. f ≡ Memory) → AddsNext d k at old new after r
 taken d after k at old new e (Ok more) g s more_is ok last memory = (e, g, s, (more_is, ok, last))
-taken d after k at old new e (Err f) g s more_is ok last memory = rw memory g.0
+taken d after k at old new e (Err f) g s more_is ok last memory = rw memory (GoesOn-stops old new g.0)
 
 -- the same of an instruction in which none is nested
 pub plain-taken : (d after : Draft Instr BlockType) (op : Op) (at : ℕ) (old new : Input) (i : Instr)

@@ -46,7 +46,7 @@ pub locals-count-fails : (old new : Input) (e : BinFault) → Fails old new e (r
     → Fails old new e (read locals old.place old.left)
 unfolding locals
 locals-count-fails old new Memory h = h
-locals-count-fails old new (Read at) h = h
+locals-count-fails old new (Read at) h = (h.0, λ w o. rw (h.1 w o) refl)
 locals-count-fails old new (Bad at why) h = (h.0, λ w. rw (h.1 w) refl)
 
 module _ (ts : List ValType) (count i : ℕ) (old mid : Input) (total : Locals)

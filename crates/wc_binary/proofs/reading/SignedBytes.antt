@@ -9,7 +9,7 @@ use Rattle.wc_binary.specs.declared.fault.BinWhy.TheVariants.{End, Integer}
 use Rattle.wc_binary.specs.Standard.Phrase.{halt}
 use Rattle.wc_binary.specs.Reading.Reading.{got, signed_at}
 use Rattle.wc_binary.specs.Reading.Source.{Input, GoesOn, NextGives, Fails, Gave}
-use Rattle.wc_binary.proofs.reading.Going.{GoesOn-refl, GoesOn-trans}
+use Rattle.wc_binary.proofs.reading.Going.{GoesOn-refl, GoesOn-stops, GoesOn-trans}
 use Rattle.wc_binary.proofs.phrases.Signed.{signed-spelled, signed-stopped-at}
 
 -- the bytes a were pushed, and the next one was read at `at`; `first` was read at `start`, right before the old input
@@ -39,7 +39,7 @@ module _ (N : ℕ) (a : List ℕ) (start first : ℕ) (old now : Input) (at byte
   pub held-bad : IsUnfinished (S N) a → (Begins (S N) (a ++ byte ∷ []) → ⊥)
       → Fails old now (Bad at Integer) (signed_at N start (first ∷ old.left))
   held-bad u bars = (
-    h.going,
+    GoesOn-stops old now h.going,
     λ k.
         let b = h.bytes k in
         let place : start + length a ≡ at = sym b.2 in
@@ -50,33 +50,31 @@ module _ (N : ℕ) (a : List ℕ) (start first : ℕ) (old now : Input) (at byte
         ∙ ap (λ (q : ℕ). Err (halt at Integer q)) behind,
   )
 
-  module _ (new : Input) where
-    pub held-next : (b : ℕ) → NextGives now new (Ok (Some b)) → Held (a ++ byte ∷ []) start first old new now.place b
-    held-next b n = record {
-      going = GoesOn-trans old now new h.going n.0;
-      behind = n.1;
-      bytes = λ k.
-          let s = h.bytes k in
-          let e = n.2 s.0 in
-          let split : first ∷ old.left ≡ (a ++ byte ∷ []) ++ (b ∷ new.left) =
-          s.1 ∙ ap (λ (z : List ℕ). a ++ byte ∷ z) e.1 ∙ sym (append_assoc a (byte ∷ []) (b ∷ new.left)) in
-          (e.0, split, omega (arith, s.2, h.behind, length-append a (byte ∷ [])));
-    }
+  pub held-next : (new : Input) (b : ℕ) → NextGives now new (Ok (Some b))
+      → Held (a ++ byte ∷ []) start first old new now.place b
+  held-next new b n = record {
+    going = GoesOn-trans old now new h.going n.0;
+    behind = n.1;
+    bytes = λ k.
+        let s = h.bytes k in
+        let e = n.2 s.0 in
+        let split : first ∷ old.left ≡ (a ++ byte ∷ []) ++ (b ∷ new.left) =
+        s.1 ∙ ap (λ (z : List ℕ). a ++ byte ∷ z) e.1 ∙ sym (append_assoc a (byte ∷ []) (b ∷ new.left)) in
+        (e.0, split, omega (arith, s.2, h.behind, length-append a (byte ∷ [])));
+  }
 
-    pub held-end : IsUnfinished (S N) (a ++ byte ∷ []) → NextGives now new (Ok None)
-        → Fails old new (Bad now.place End) (signed_at N start (first ∷ old.left))
-    held-end u n = (
-      GoesOn-trans old now new h.going n.0,
-      λ k.
-          let s = h.bytes k in
-          let e = n.2 s.0 in
-          let place : start + length (a ++ byte ∷ []) ≡ now.place =
-          omega (arith, length-append a (byte ∷ []), s.2, h.behind) in
-          let split : first ∷ old.left ≡ (a ++ byte ∷ []) ++ now.left =
-          s.1 ∙ sym (append_assoc a (byte ∷ []) now.left) in
-          let there : now.place ≡ new.place = sym n.1 in
-          let f = halt (start + length (a ++ byte ∷ [])) End (start + length (a ++ byte ∷ [])) in
-          let t = signed-stopped-at N start (a ++ byte ∷ []) now.left f u (inl (e.1, refl)) in
-          ap (λ (z : List ℕ). signed_at N start z) split ∙ t ∙ ap (λ (q : ℕ). Err (halt q End q)) place
-          ∙ ap (λ (q : ℕ). Err (halt now.place End q)) there,
-    )
+  pub held-end : IsUnfinished (S N) (a ++ byte ∷ []) → IsTrue old.known
+      → IsTrue now.known
+      × (now.left ≡ [] → signed_at N start (first ∷ old.left) ≡ Err (halt now.place End now.place))
+  held-end u k =
+      let s = h.bytes k in
+      let place : start + length (a ++ byte ∷ []) ≡ now.place =
+      omega (arith, length-append a (byte ∷ []), s.2, h.behind) in
+      let split : first ∷ old.left ≡ (a ++ byte ∷ []) ++ now.left =
+      s.1 ∙ sym (append_assoc a (byte ∷ []) now.left) in
+      let f = halt (start + length (a ++ byte ∷ [])) End (start + length (a ++ byte ∷ [])) in (
+        s.0,
+        λ e.
+            let t = signed-stopped-at N start (a ++ byte ∷ []) now.left f u (inl (e, refl)) in
+            ap (λ (z : List ℕ). signed_at N start z) split ∙ t ∙ ap (λ (q : ℕ). Err (halt q End q)) place,
+      )

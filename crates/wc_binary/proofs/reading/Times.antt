@@ -8,12 +8,12 @@ use Rattle.std.proofs.lemmas.List.{length-append}
 use Rattle.wc_binary.specs.declared.fault.BinFault.{BinFault}
 use Rattle.wc_binary.specs.declared.fault.BinFault.TheVariants.{Bad, Read, Memory}
 use Rattle.wc_binary.specs.declared.fault.BinWhy.TheVariants.{End}
-use Rattle.wc_binary.specs.Standard.Phrase.{Halt, halt, Phrase}
+use Rattle.wc_binary.specs.Standard.Phrase.{Halt, halt, Phrase, ◌>>=◌}
 use Rattle.wc_binary.specs.Reading.Reading.{Got, got, fault, ◌and_then◌, read}
 use Rattle.wc_binary.specs.Reading.Source.{Input, GoesOn, NextGives, Takes, Passes, Fails, Gave}
 use Rattle.wc_binary.specs.Standard.Values.{times, any_byte}
 use Rattle.wc_binary.specs.Standard.Sections.{skip}
-use Rattle.wc_binary.proofs.reading.Going.{GoesOn-trans, ReadFailed-behind}
+use Rattle.wc_binary.proofs.reading.Going.{GoesOn-trans, Stopped-behind, ReadFailed-behind}
 
 -- what is still read from new on gives what is read from old on
 pub record Leads {A : Type 0} (old new : Input) (rest total : Result (Got A) Halt) : Type 0 where
@@ -62,10 +62,19 @@ module _ {A : Type 0} (p : Phrase A) (first : List A) (count i : ℕ) (old mid :
 
   pub times-fails : i < count → (new : Input) (e : BinFault) → Fails mid new e (read p mid.place mid.left)
       → Fails old new e total
-  times-fails lt new Memory h = GoesOn-trans old mid new so_far.going h
-  times-fails lt new (Read at) h = ReadFailed-behind old mid new at so_far.going h
+  times-fails lt new Memory h = Stopped-behind old mid new so_far.going h
+  times-fails lt new (Read at) h = (
+    ReadFailed-behind old mid new at so_far.going h.0,
+    λ w o.
+        let s = so_far.same w in
+        let k : count - i ≡ suc (count - (i + 1)) = omega arith in
+        let e = h.1 s.0 o in
+        let one : with_first first (read (times (count - i) p) mid.place mid.left) ≡ Err (halt at End at) =
+        rw (k, e) refl in
+        sym s.1 ∙ one,
+  )
   times-fails lt new (Bad at why) h = (
-    GoesOn-trans old mid new so_far.going h.0,
+    Stopped-behind old mid new so_far.going h.0,
     λ w.
         let s = so_far.same w in
         let k : count - i ≡ suc (count - (i + 1)) = omega arith in
@@ -80,10 +89,6 @@ module _ (old new : Input) where
   pub byte-gave : (b : ℕ) → NextGives old new (Ok (Some b)) → Gave old new (Ok b) (read any_byte old.place old.left)
   unfolding any_byte
   byte-gave b next = (next.0, λ w. let e = next.2 w in (e.0, rw (e.1, next.1) refl))
-
-  pub byte-end : NextGives old new (Ok None) → Fails old new (Bad old.place End) (read any_byte old.place old.left)
-  unfolding any_byte
-  byte-end next = (next.0, λ w. let e = next.2 w in rw (e.1, next.1) refl)
 
 -- bytes that are there, in front of what follows them
 behind-bytes : (bytes : List ℕ) (count o : ℕ) (x : List ℕ) → length bytes ≤ count
@@ -112,12 +117,20 @@ times-bytes first count old mid new total so_far bytes le takes = record {
 }
 
 -- no byte, where more are wanted
-pub times-end : (first : List ℕ) (count : ℕ) (old mid new : Input) (total : Result (Got (List ℕ)) Halt)
+pub times-end : (first : List ℕ) (count : ℕ) (old mid : Input) (total : Result (Got (List ℕ)) Halt)
     → Leads old mid (with_first first (read (times (count - length first) any_byte) mid.place mid.left)) total
-    → length first < count → NextGives mid new (Ok None) → Fails old new (Bad mid.place End) total
-times-end first count old mid new total so_far lt none =
-    times-fails any_byte first count (length first) old mid total so_far lt new (Bad mid.place End)
-    (byte-end mid new none)
+    → length first < count
+    → IsTrue old.known → IsTrue mid.known × (mid.left ≡ [] → total ≡ Err (halt mid.place End mid.place))
+unfolding any_byte
+times-end first count old mid total so_far lt w =
+    let s = so_far.same w in
+    let k : count - length first ≡ suc (count - (length first + 1)) = omega arith in (
+      s.0,
+      λ e.
+          let one : with_first first (read (times (count - length first) any_byte) mid.place mid.left)
+          ≡ Err (halt mid.place End mid.place) = rw (k, e) refl in
+          sym s.1 ∙ one,
+    )
 
 -- a byte, and those taken at once behind it
 pub times-round : (first : List ℕ) (count : ℕ) (old mid next : Input) (total : Result (Got (List ℕ)) Halt)
@@ -165,16 +178,17 @@ module _ (old mid new : Input) (total : Result (Got (Unit {0})) Halt) where
               (e.0, sym one ∙ ap (λ n. read (skip n) mid.place mid.left) (sym k) ∙ s.1);
         }
 
-    pub skip-end : NextGives mid new (Ok None) → Fails old new (Bad mid.place End) total
-    unfolding any_byte
-    skip-end next = (
-      GoesOn-trans old mid new so_far.going next.0,
-      λ w.
-          let s = so_far.same w in
-          let e = next.2 s.0 in
-          let k : count ≡ suc (count - 1) = omega (arith, lt) in
-          let one : read (skip (suc (count - 1))) mid.place mid.left ≡ fault mid.place End new.place = rw
-          (e.1, next.1) refl in
+-- no byte, where more are to be skipped
+pub skip-end : (old mid : Input) (total : Result (Got (Unit {0})) Halt) (count : ℕ) → 0 < count
+    → Leads old mid (read (skip count) mid.place mid.left) total
+    → IsTrue old.known → IsTrue mid.known × (mid.left ≡ [] → total ≡ Err (halt mid.place End mid.place))
+unfolding any_byte
+skip-end old mid total count lt so_far w =
+    let s = so_far.same w in
+    let k : count ≡ suc (count - 1) = omega (arith, lt) in (
+      s.0,
+      λ e.
+          let one : read (skip (suc (count - 1))) mid.place mid.left ≡ fault mid.place End mid.place = rw e refl in
           sym s.1 ∙ ap (λ n. read (skip n) mid.place mid.left) k ∙ one,
     )
 
@@ -191,3 +205,17 @@ skip-round count old mid next total lt so_far b gave now dropped passes =
           let one = skip-first dropped (count - 1) next.place next.left passes.1 e.1 in
           (e.0, rw (passes.2, e.2) (sym one ∙ s.1));
     }
+
+-- a phrase, and then what reads behind it
+pub then-gives : {A B : Type 0} (p : Phrase A) (f : A → Phrase B) (old mid new : Input) (u : A)
+    → Gave old mid (Ok u) (read p old.place old.left) → (r : Result B BinFault)
+    → Gave mid new r (read (f u) mid.place mid.left) → Gave old new r (read (p >>= f) old.place old.left)
+then-gives p f old mid new u h (Ok v) k = (
+  GoesOn-trans old mid new h.0 k.0,
+  λ w. let s = h.1 w in let e = k.1 s.0 in (e.0, rw (s.1, e.1) refl),
+)
+then-gives p f old mid new u h (Err (Bad at why)) k =
+    (Stopped-behind old mid new h.0 k.0, λ w. let s = h.1 w in let e = k.1 s.0 in rw (s.1, e) refl)
+then-gives p f old mid new u h (Err (Read at)) k =
+    (ReadFailed-behind old mid new at h.0 k.0, λ w o. let s = h.1 w in let e = k.1 s.0 o in rw (s.1, e) refl)
+then-gives p f old mid new u h (Err Memory) k = Stopped-behind old mid new h.0 k

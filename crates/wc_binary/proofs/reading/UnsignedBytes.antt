@@ -1,14 +1,15 @@
 -- An unsigned integer in the making.
-use Rattle.std.proofs.Common.{◌≡◌, ℕ, ◌+◌, List, [], ◌∷◌, ◌++◌, length, None, Ok, Err, inl, inr, refl, sym, ap, ◌∙◌}
+use Rattle.std.proofs.Common.{◌≡◌, ℕ, ◌+◌, List, [], ◌∷◌, ◌++◌, length, Ok, Err, inl, inr, refl, sym, ap, ◌∙◌}
 use Rattle.std.proofs.Common.{append_assoc, arith}
 use Rattle.wc_leb128.specs.Standard.Integers.{U, Begins, IsUnfinished}
 use Rattle.std.proofs.lemmas.List.{length-append}
+use Rattle.std.specs.Prelude.{IsTrue}
 use Rattle.wc_binary.specs.declared.fault.BinFault.TheVariants.{Bad}
 use Rattle.wc_binary.specs.declared.fault.BinWhy.TheVariants.{End, Integer}
 use Rattle.wc_binary.specs.Standard.Phrase.{halt}
 use Rattle.wc_binary.specs.Reading.Reading.{got, unsigned_at}
-use Rattle.wc_binary.specs.Reading.Source.{Input, NextGives, Fails, Gave}
-use Rattle.wc_binary.proofs.reading.Going.{GoesOn-trans}
+use Rattle.wc_binary.specs.Reading.Source.{Input, Fails, Gave}
+use Rattle.wc_binary.proofs.reading.Going.{GoesOn-stops}
 use Rattle.wc_binary.proofs.reading.SignedBytes.{Held}
 use Rattle.wc_binary.proofs.phrases.Unsigned.{unsigned-spelled, unsigned-stopped-at}
 
@@ -30,7 +31,7 @@ module _ (N : ℕ) (a : List ℕ) (start first : ℕ) (old now : Input) (at byte
   pub unsigned-bad : IsUnfinished (U N) a → (Begins (U N) (a ++ byte ∷ []) → ⊥)
       → Fails old now (Bad at Integer) (unsigned_at N start (first ∷ old.left))
   unsigned-bad u bars = (
-    h.going,
+    GoesOn-stops old now h.going,
     λ k.
         let b = h.bytes k in
         let place : start + length a ≡ at = sym b.2 in
@@ -41,20 +42,18 @@ module _ (N : ℕ) (a : List ℕ) (start first : ℕ) (old now : Input) (at byte
         ∙ ap (λ (q : ℕ). Err (halt at Integer q)) behind,
   )
 
-  pub unsigned-end : (new : Input) → IsUnfinished (U N) (a ++ byte ∷ []) → NextGives now new (Ok None)
-      → Fails old new (Bad now.place End) (unsigned_at N start (first ∷ old.left))
-  unsigned-end new u n = (
-    GoesOn-trans old now new h.going n.0,
-    λ k.
-        let s = h.bytes k in
-        let e = n.2 s.0 in
-        let place : start + length (a ++ byte ∷ []) ≡ now.place =
-        omega (arith, length-append a (byte ∷ []), s.2, h.behind) in
-        let split : first ∷ old.left ≡ (a ++ byte ∷ []) ++ now.left =
-        s.1 ∙ sym (append_assoc a (byte ∷ []) now.left) in
-        let there : now.place ≡ new.place = sym n.1 in
-        let f = halt (start + length (a ++ byte ∷ [])) End (start + length (a ++ byte ∷ [])) in
-        let t = unsigned-stopped-at N start (a ++ byte ∷ []) now.left f u (inl (e.1, refl)) in
-        ap (λ (z : List ℕ). unsigned_at N start z) split ∙ t ∙ ap (λ (q : ℕ). Err (halt q End q)) place
-        ∙ ap (λ (q : ℕ). Err (halt now.place End q)) there,
-  )
+  pub unsigned-end : IsUnfinished (U N) (a ++ byte ∷ []) → IsTrue old.known
+      → IsTrue now.known
+      × (now.left ≡ [] → unsigned_at N start (first ∷ old.left) ≡ Err (halt now.place End now.place))
+  unsigned-end u k =
+      let s = h.bytes k in
+      let place : start + length (a ++ byte ∷ []) ≡ now.place =
+      omega (arith, length-append a (byte ∷ []), s.2, h.behind) in
+      let split : first ∷ old.left ≡ (a ++ byte ∷ []) ++ now.left =
+      s.1 ∙ sym (append_assoc a (byte ∷ []) now.left) in
+      let f = halt (start + length (a ++ byte ∷ [])) End (start + length (a ++ byte ∷ [])) in (
+        s.0,
+        λ e.
+            let t = unsigned-stopped-at N start (a ++ byte ∷ []) now.left f u (inl (e, refl)) in
+            ap (λ (z : List ℕ). unsigned_at N start z) split ∙ t ∙ ap (λ (q : ℕ). Err (halt q End q)) place,
+      )

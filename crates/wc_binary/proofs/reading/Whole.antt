@@ -1,6 +1,8 @@
 -- From the readers' answers to the relations of whole modules.
-use Rattle.std.proofs.Common.{◌≡◌, ◌≢◌, ℕ, ◌+◌, List, ◌++◌, length, Some, None, Ok, Err, inl, inr, sym, ap, ◌∙◌, arith}
+use Rattle.std.proofs.Common.{◌≡◌, ◌≢◌, ℕ, ◌+◌, List, [], ◌++◌, length, Some, None, Ok, Err, inl, inr, sym, ap, subst, ◌∙◌}
+use Rattle.std.proofs.Common.{refl, arith}
 use Rattle.std.specs.Prelude.{IsTrue}
+use Rattle.std.proofs.lemmas.List.{length-append}
 use Rattle.wc_ast.specs.declared.module.Module.{Module}
 use Rattle.wc_binary.specs.declared.parts.Parts.{Parts}
 use Rattle.wc_binary.specs.declared.section.Section.{Section}
@@ -8,17 +10,19 @@ use Rattle.wc_binary.specs.declared.section.SectionKind.{SectionKind}
 use Rattle.wc_binary.specs.declared.fault.BinFault.{BinFault}
 use Rattle.wc_binary.specs.declared.fault.BinFault.TheVariants.{Bad, Read, Memory}
 use Rattle.wc_binary.specs.declared.fault.BinWhy.{BinWhy}
-use Rattle.wc_binary.specs.declared.fault.BinWhy.TheVariants.{Counts}
+use Rattle.wc_binary.specs.declared.fault.BinWhy.TheVariants.{End, Counts}
 use Rattle.wc_binary.specs.Standard.Style.{free}
 use Rattle.wc_binary.specs.Standard.Phrase.{halt, Spells}
 use Rattle.wc_binary.specs.Reading.Reading.{read}
-use Rattle.wc_binary.specs.Reading.Source.{Input, GoesOn, NextGives, Fails, Gave}
+use Rattle.wc_binary.specs.Reading.Source.{Input, GoesOn, Stopped, NextGives, Fails, Gave}
 use Rattle.wc_binary.specs.Standard.Sections.{id_of, content, after, put}
-use Rattle.wc_binary.specs.Standard.Module.{preamble, parts_of}
-use Rattle.wc_binary.specs.Reading.Modules.{SectionsGive, ModuleGives}
-use Rattle.wc_binary.proofs.reading.Going.{GoesOn-trans, ReadFailed-behind}
+use Rattle.wc_binary.specs.Standard.Module.{preamble, parts_of, FirstFault}
+use Rattle.wc_binary.specs.Standard.Decoding.{IsCutShort}
+use Rattle.wc_binary.specs.Reading.Modules.{CutsSections, SectionsGive, ModuleGives}
+use Rattle.wc_binary.proofs.reading.Going.{GoesOn-trans, GoesOn-stops, Stopped-behind, ReadFailed-behind}
 use Rattle.wc_binary.proofs.phrases.Laws.{read-told}
 use Rattle.wc_binary.proofs.sections.Order.{rises-bin}
+use Rattle.wc_binary.proofs.sections.Total.{whole-or-counts}
 use Rattle.wc_binary.proofs.sections.Walk.{Found, found-all, id-stops, content-stops, one-more}
 
 -- what a loop over the sections has found
@@ -30,13 +34,20 @@ pub record Finds (old now : Input) (last : ℕ) (m : Parts) : Type 0 where
 pub finds-fails : (old now next : Input) (last : ℕ) (m : Parts) → Finds old now last m → (e : BinFault)
     → NextGives now next (Err e) → SectionsGive old next (Err e)
 finds-fails old now next last m found (Bad at why) h = absurd h
-finds-fails old now next last m found (Read at) h = ReadFailed-behind old now next at found.going h
+finds-fails old now next last m found (Read at) h = (
+  ReadFailed-behind old now next at found.going h.0,
+  λ w o.
+      let f = found.bytes w in
+      let ended = h.1 f.0 o in
+      let a = found-all old.place old.left now.place last m (rw ended at f.1) in
+      inl (a.0, a.1, h.2 ∙ a.3),
+)
 finds-fails old now next last m found Memory h = absurd h
 
 module _ (old now next : Input) (last : ℕ) (m : Parts) (found : Finds old now last m) where
   pub finds-all : NextGives now next (Ok None) → SectionsGive old next (Ok m)
   finds-all n = (
-    GoesOn-trans old now next found.going n.0,
+    Stopped-behind old now next found.going n.0,
     λ w.
         let f = found.bytes w in
         let e = n.2 f.0 in
@@ -49,7 +60,7 @@ module _ (old now next : Input) (last : ℕ) (m : Parts) (found : Finds old now 
   module _ (b : ℕ) (n : NextGives now next (Ok (Some b))) where
     pub finds-no-id : (r : BinWhy) → id_of last b ≡ Err r → SectionsGive old next (Err (Bad now.place r))
     finds-no-id r i = (
-      GoesOn-trans old now next found.going n.0,
+      GoesOn-stops old next (GoesOn-trans old now next found.going n.0),
       λ w.
           let f = found.bytes w in
           let place = n.1 in
@@ -58,10 +69,18 @@ module _ (old now next : Input) (last : ℕ) (m : Parts) (found : Finds old now 
 
     pub content-fails : (id : SectionKind) → id_of last b ≡ Ok id → (end : Input) (e : BinFault)
         → Fails next end e (read (content id) next.place next.left) → SectionsGive old end (Err e)
-    content-fails id i end Memory h = GoesOn-trans old next end (GoesOn-trans old now next found.going n.0) h
-    content-fails id i end (Read at) h = ReadFailed-behind old next end at (GoesOn-trans old now next found.going n.0) h
+    content-fails id i end Memory h = Stopped-behind old next end (GoesOn-trans old now next found.going n.0) h
+    content-fails id i end (Read at) h = (
+      ReadFailed-behind old next end at (GoesOn-trans old now next found.going n.0) h.0,
+      λ w o.
+          let f = found.bytes w in
+          let k = n.2 f.0 in
+          let place = n.1 in
+          inr (content-stops old.place old.left now.place now.left last m b next.left k.1 f.1 id i (halt at End at)
+          (rw place at (h.1 k.0 o))),
+    )
     content-fails id i end (Bad at why) h = (
-      GoesOn-trans old next end (GoesOn-trans old now next found.going n.0) h.0,
+      Stopped-behind old next end (GoesOn-trans old now next found.going n.0) h.0,
       λ w.
           let f = found.bytes w in
           let k = n.2 f.0 in
@@ -85,9 +104,26 @@ module _ (old now next : Input) (last : ℕ) (m : Parts) (found : Finds old now 
 pub preamble-fails : (old end : Input) → old.place ≡ 0 → (e : BinFault)
     → Fails old end e (read preamble old.place old.left) → ModuleGives old end (Err e)
 preamble-fails old end z Memory h = h
-preamble-fails old end z (Read at) h = h
+preamble-fails old end z (Read at) h = (
+  h.0,
+  λ w o.
+      let k = rw z at (h.1 w o) in
+      let t = rw k at (read-told {A = Unit {0}} preamble 0 old.left) in
+      inr (inl (at, inl t)),
+)
 preamble-fails old end z (Bad at why) h =
     (h.0, λ w. let k = rw z at (h.1 w) in inl (rw k at (read-told {A = Unit {0}} preamble 0 old.left)))
+
+-- the preamble, and behind it sections to the end, or up to a missing byte
+cut-short : (x a b : List ℕ) (at : ℕ) → x ≡ a ++ b → Spells preamble a tt → CutsSections (length a) b at
+    → IsCutShort x at
+cut-short x a b at split head (inr stops) = inr (inl (at, inr (a, b, split, head, inl stops)))
+cut-short x a b at split head (inl whole) =
+    let long : length x ≡ length a + length b = ap length split ∙ length-append a b in
+    elim (whole-or-counts x a b split head whole.0 whole.1) [
+      | inl m ↦ inl (m.0, m.1, whole.2 ∙ sym long)
+      | inr counts ↦ inr (inr (subst (λ (q : ℕ). FirstFault x q Counts) (sym whole.2) counts))
+    ]
 
 module _ (old mid end : Input) (z : old.place ≡ 0) (u : Unit {0})
     (h : Gave old mid (Ok u) (read preamble old.place old.left)) where
@@ -101,10 +137,17 @@ module _ (old mid end : Input) (z : old.place ≡ 0) (u : Unit {0})
       (s.0, (t.0, t.1, t.2, omega (arith, t.3)))
 
   pub sections-fail : (e : BinFault) → SectionsGive mid end (Err e) → ModuleGives old end (Err e)
-  sections-fail Memory k = GoesOn-trans old mid end h.0 k
-  sections-fail (Read at) k = ReadFailed-behind old mid end at h.0 k
+  sections-fail Memory k = Stopped-behind old mid end h.0 k
+  sections-fail (Read at) k = (
+    ReadFailed-behind old mid end at h.0 k.0,
+    λ w o.
+        let t = preamble-read w in
+        let place = t.1.3 in
+        let cut = rw place at (k.1 t.0 o) in
+        cut-short old.left t.1.0 mid.left at t.1.1 t.1.2 cut,
+  )
   sections-fail (Bad at why) k = (
-    GoesOn-trans old mid end h.0 k.0,
+    Stopped-behind old mid end h.0 k.0,
     λ w.
         let t = preamble-read w in
         let place = t.1.3 in
@@ -114,7 +157,7 @@ module _ (old mid end : Input) (z : old.place ≡ 0) (u : Unit {0})
   module _ (p : Parts) (k : SectionsGive mid end (Ok p)) where
     pub counts-fail : length p.func_types ≢ length p.codes → ModuleGives old end (Err (Bad end.place Counts))
     counts-fail ne = (
-      GoesOn-trans old mid end h.0 k.0,
+      Stopped-behind old mid end h.0 k.0,
       λ w.
           let t = preamble-read w in
           let c = k.1 t.0 in
@@ -125,10 +168,14 @@ module _ (old mid end : Input) (z : old.place ≡ 0) (u : Unit {0})
 
     pub module-whole : (m : Module) → parts_of m ≡ p → ModuleGives old end (Ok m)
     module-whole m is = (
-      GoesOn-trans old mid end h.0 k.0,
+      Stopped-behind old mid end h.0 k.0,
       λ w.
           let t = preamble-read w in
           let c = k.1 t.0 in
-          rises-bin free old.left m (t.1.0, mid.left, c.0, t.1.1, t.1.2, c.1, c.2 ∙ sym is),
+          let split : length old.left ≡ length t.1.0 + length mid.left =
+          ap length t.1.1 ∙ length-append t.1.0 mid.left in (
+            rises-bin free old.left m (t.1.0, mid.left, c.0, t.1.1, t.1.2, c.1, c.2 ∙ sym is),
+            omega (arith, t.1.3, c.3, split),
+          ),
       k.2,
     )

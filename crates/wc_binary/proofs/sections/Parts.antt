@@ -3,7 +3,7 @@ use Rattle.std.proofs.Common.{◌≡◌, ℕ, List, [], ◌∷◌, length, map, 
 use Rattle.std.proofs.lemmas.List.{length-map}
 use Rattle.wc_ast.specs.declared.func.Func.{Func}
 use Rattle.wc_ast.specs.declared.module.Module.{Module}
-use Rattle.wc_binary.specs.declared.parts.FuncCode.{FuncCode}
+use Rattle.wc_ast.specs.declared.codes.FuncCode.{FuncCode}
 use Rattle.wc_binary.specs.declared.parts.Parts.{Parts}
 use Rattle.wc_binary.specs.Standard.Module.{type_of, code_of, parts_of}
 

@@ -4,14 +4,14 @@ use Rattle.std.proofs.Common.{Result, Ok, Err, ◌⊎◌, inl, inr, refl, sym, a
 use Rattle.std.proofs.lemmas.List.{length-append}
 use Rattle.std.proofs.lemmas.Bool.{eqb-true, eqb-false}
 use Rattle.wc_binary.specs.declared.fault.BinWhy.{BinWhy}
-use Rattle.wc_binary.specs.Standard.Phrase.{Halt, halt, Stops}
+use Rattle.wc_binary.specs.Standard.Phrase.{Halt, halt, Spells, Stops}
 use Rattle.wc_binary.specs.Reading.Reading.{Got, read}
 use Rattle.wc_ast.specs.declared.module.Module.{Module}
 use Rattle.wc_binary.specs.declared.section.Section.{Section}
 use Rattle.wc_binary.specs.declared.section.SectionKind.{SectionKind}
 use Rattle.wc_binary.specs.Standard.Style.{free}
 use Rattle.wc_binary.specs.Standard.Sections.{id_of, content, after, nothing}
-use Rattle.wc_binary.specs.Standard.Module.{preamble, AreSections, StopsSections, put_all, RisesBy, Bin, StopB}
+use Rattle.wc_binary.specs.Standard.Module.{preamble, AreSections, StopsSections, put_all, RisesBy, Bin, StopB, FirstFault}
 use Rattle.wc_binary.proofs.sections.Order.{rises-bin}
 use Rattle.wc_binary.specs.declared.fault.BinWhy.TheVariants.{Counts}
 use Rattle.wc_binary.proofs.sections.Parts.{module-of}
@@ -69,6 +69,16 @@ nat-cases m n = go (nat_eq m n) refl
     go : (b : Bool) → nat_eq m n ≡ b → (m ≡ n) ⊎ (m ≢ n)
     go true e = inl (eqb-true m n e)
     go false e = inr (eqb-false m n e)
+
+-- the preamble and sections to the end are a module, or they tell other numbers of functions and of codes
+pub whole-or-counts : (x a b : List ℕ) → x ≡ a ++ b → Spells preamble a tt → (ss : List Section)
+    → AreSections free 0 ss b → ((m : Module) × Bin x m) ⊎ FirstFault x (length a + length b) Counts
+whole-or-counts x a b split head ss whole =
+    elim (nat-cases (length (put_all nothing ss).func_types) (length (put_all nothing ss).codes)) [
+      | inl e ↦ let m = module-of (put_all nothing ss) e in
+          inl (m.0, rises-bin free x m.0 (a, b, ss, split, head, whole, m.1))
+      | inr ne ↦ inr (length a + length b, inr (a, b, split, head, inr (ss, whole, ne, refl)))
+    ]
 
 rises-judged : (x : List ℕ) → ((m : Module) × RisesBy free x m) ⊎ ((f : Halt) × StopB x f)
 rises-judged x = go (read preamble 0 x) (read-told {A = Unit {0}} preamble 0 x)

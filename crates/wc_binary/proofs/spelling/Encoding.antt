@@ -1,14 +1,14 @@
 -- How the encoder's answers follow.
-use Rattle.std.proofs.Common.{◌≡◌, ℕ, zero, suc, ◌<◌, List, [], ◌∷◌, ◌++◌, length, map, get_or, Result, Ok, Err, refl}
-use Rattle.std.proofs.Common.{sym, ap, subst, ◌∙◌, append_assoc, arith}
-use Rattle.std.proofs.lemmas.List.{append-nil, length-map}
+use Rattle.std.proofs.Common.{◌≡◌, ℕ, zero, suc, ◌<◌, List, [], ◌∷◌, ◌++◌, length, get_or, Result, Ok, Err, refl}
+use Rattle.std.proofs.Common.{sym, ap, subst, ◌∙◌, ◌+◌, ◌-◌, ◌^◌, append_assoc, arith}
+use Rattle.std.specs.Prelude.{min}
+use Rattle.std.proofs.lemmas.List.{append-nil, length-append}
 use Rattle.std.specs.List.{AllByRecursion, flat_map}
 use Rattle.wc_ast.specs.declared.module.Module.{Module}
 use Rattle.wc_binary.specs.declared.fault.EncFault.{EncFault}
 use Rattle.wc_binary.specs.declared.fault.EncFault.TheVariants.{Oversize, Memory}
 use Rattle.wc_binary.specs.Standard.Module.{parts_of, Canon, IsShortestOf}
 use Rattle.wc_body.specs.Standard.ValueBytes.{vector_bytes, FitsVector}
-use Rattle.wc_binary.specs.Writing.Values.{sized_bytes, section_bytes, FitsSection}
 use Rattle.wc_binary.specs.Writing.Sections.{held_bytes, FitsHeld, bytes_from, FitsFrom, sections_bytes}
 use Rattle.wc_binary.proofs.spelling.ModuleBytes.{module_bytes}
 use Rattle.wc_binary.specs.Writing.Sections.{FitsSections}
@@ -56,20 +56,6 @@ module-written m fits b is =
     let c : Canon b m = rw is (canon-written m fits) in
     (c, shortest-and-only b m c)
 
-mapped-at : {A B : Type 0} (f : A → B) (Fits : B → Type 0) (vs : List A) (i : ℕ) (d : A) → i < length vs
-    → AllByRecursion Fits (map f vs) → Fits (f (get_or vs i d))
-mapped-at f Fits [] i d lt h = absurd (omega arith)
-mapped-at f Fits (v ∷ vs) zero d lt h = h.0
-mapped-at f Fits (v ∷ vs) (suc i) d lt h = mapped-at f Fits vs i d (omega arith) h.1
-
--- where the type of a function doesn't fit, no vector that has it does
-pub mapped-fails : {A B : Type 0} (f : A → B) (Fits : B → Type 0) (items : List A) (i : ℕ) (v : A)
-    → v ≡ get_or items i v → i < length items → (mid new bytes old last whole : List ℕ) (e : EncFault)
-    → Writes (Fits (f v)) mid new bytes (Err e) → Writes (FitsVector Fits (map f items)) old last whole (Err e)
-mapped-fails f Fits items i v is lt mid new bytes old last whole e h =
-    part-fails (Fits (f v)) (FitsVector Fits (map f items))
-    (λ g. subst (λ x. Fits (f x)) (sym is) (mapped-at f Fits items i v lt g.1)) mid new bytes old last whole e h
-
 -- where an item has no size, no vector that has it does
 pub item-unmeasured : {A : Type 0} (Fits : A → Type 0) (items : List A) (i : ℕ) (v : A) → v ≡ get_or items i v
     → i < length items → (count whole : ℕ) (e : EncFault)
@@ -77,45 +63,6 @@ pub item-unmeasured : {A : Type 0} (Fits : A → Type 0) (items : List A) (i : �
 item-unmeasured Fits items i v is lt count whole Oversize h =
     λ f. h (subst Fits (sym is) (fits-at Fits items i v lt f.1))
 item-unmeasured Fits items i v is lt count whole Memory h = tt
-
--- ---- the section of what a function makes of the items
-
-module _ {A B : Type 0} (f : A → B) (w : B → List ℕ) (Fits : B → Type 0) where
-  flat-mapped : (vs : List A) → flat_map w (map f vs) ≡ flat_map (λ v. w (f v)) vs
-  flat-mapped [] = refl
-  flat-mapped (v ∷ vs) = ap (λ (x : List ℕ). w (f v) ++ x) (flat-mapped vs)
-
-  all-mapped : (vs : List A) → AllByRecursion (λ v. Fits (f v)) vs → AllByRecursion Fits (map f vs)
-  all-mapped [] h = tt
-  all-mapped (v ∷ vs) h = (h.0, all-mapped vs h.1)
-
-  all-unmapped : (vs : List A) → AllByRecursion Fits (map f vs) → AllByRecursion (λ v. Fits (f v)) vs
-  all-unmapped [] h = tt
-  all-unmapped (v ∷ vs) h = (h.0, all-unmapped vs h.1)
-
-  vector-mapped : (vs : List A) → vector_bytes w (map f vs) ≡ vector_bytes (λ v. w (f v)) vs
-  vector-mapped vs = rw (flat-mapped vs, length-map vs f) refl
-
-  section-mapped : (id : ℕ) (vs : List A) → section_bytes id w (map f vs) ≡ section_bytes id (λ v. w (f v)) vs
-  section-mapped id [] = refl
-  section-mapped id (v ∷ vs) = ap (λ (x : List ℕ). (id ∷ []) ++ sized_bytes x) (vector-mapped (v ∷ vs))
-
-  fits-mapped : (vs : List A) → FitsSection (λ v. w (f v)) (λ v. Fits (f v)) vs → FitsSection w Fits (map f vs)
-  fits-mapped [] h = tt
-  fits-mapped (v ∷ vs) h =
-      (rw (vector-mapped (v ∷ vs)) h.0, (rw (length-map (v ∷ vs) f) h.1.0, all-mapped (v ∷ vs) h.1.1))
-
-  fits-unmapped : (vs : List A) → FitsSection w Fits (map f vs) → FitsSection (λ v. w (f v)) (λ v. Fits (f v)) vs
-  fits-unmapped [] h = tt
-  fits-unmapped (v ∷ vs) h =
-      (rw (vector-mapped (v ∷ vs)) at h.0, (rw (length-map (v ∷ vs) f) at h.1.0, all-unmapped (v ∷ vs) h.1.1))
-
-  pub mapped-written : (id : ℕ) (vs : List A) (old new : List ℕ) (r : Result (Unit {0}) EncFault)
-      → Writes (FitsSection (λ v. w (f v)) (λ v. Fits (f v)) vs) old new (section_bytes id (λ v. w (f v)) vs) r
-      → Writes (FitsSection w Fits (map f vs)) old new (section_bytes id w (map f vs)) r
-  mapped-written id vs old new (Ok u) h = (fits-mapped vs h.0, rw (section-mapped id vs) h.1)
-  mapped-written id vs old new (Err Oversize) h = λ k. h (fits-unmapped vs k)
-  mapped-written id vs old new (Err Memory) h = tt
 
 -- ---- sections one after the other
 
@@ -141,3 +88,54 @@ pub section-last : (F : Type 0) (old new bytes : List ℕ) (r : Result (Unit {0}
 section-last F old new bytes (Ok u) k = ((k.0, tt), k.1 ∙ ap (λ (x : List ℕ). old ++ x) (sym (append-nil bytes)))
 section-last F old new bytes (Err Oversize) k = λ f. k f.0
 section-last F old new bytes (Err Memory) k = tt
+
+-- ---- items one after the other, by those that were had and those that are left
+
+pub all-left : {A : Type 0} (ys rest items : List A) → ys ++ rest ≡ items → rest ≡ [] → ys ≡ items
+all-left ys rest items is none = sym (append-nil ys) ∙ ap (λ r. ys ++ r) (sym none) ∙ is
+
+flat-more : {A : Type 0} (w : A → List ℕ) (ys : List A) (v : A) → flat_map w (ys ++ v ∷ []) ≡ flat_map w ys ++ w v
+flat-more w [] v = append-nil (w v)
+flat-more w (y ∷ ys) v =
+    ap (λ (x : List ℕ). w y ++ x) (flat-more w ys v) ∙ sym (append_assoc (w y) (flat_map w ys) (w v))
+
+pub all-more : {A : Type 0} (Fits : A → Type 0) (ys : List A) (v : A) → AllByRecursion Fits ys → Fits v
+    → AllByRecursion Fits (ys ++ v ∷ [])
+all-more Fits [] v h f = (f, tt)
+all-more Fits (y ∷ ys) v h f = (h.0, all-more Fits ys v h.1 f)
+
+all-of : {A : Type 0} (Fits : A → Type 0) (ys : List A) (v : A) (rest : List A) → AllByRecursion Fits (ys ++ v ∷ rest)
+    → Fits v
+all-of Fits [] v rest h = h.0
+all-of Fits (y ∷ ys) v rest h = all-of Fits ys v rest h.1
+
+-- the next one was written
+pub next-put : {A : Type 0} (w : A → List ℕ) (ys : List A) (v : A) (old mid new u : List ℕ)
+    → mid ≡ old ++ (u ++ flat_map w ys) → new ≡ mid ++ w v → new ≡ old ++ (u ++ flat_map w (ys ++ v ∷ []))
+next-put w ys v old mid new u before is =
+    rw (flat-more w ys v)
+    (is ∙ ap (λ (x : List ℕ). x ++ w v) before ∙ append_assoc old (u ++ flat_map w ys) (w v)
+    ∙ ap (λ (x : List ℕ). old ++ x) (append_assoc u (flat_map w ys) (w v)))
+
+-- its bytes were counted
+pub next-counted : {A : Type 0} (w : A → List ℕ) (ys : List A) (v : A) (u : List ℕ) (size more new : ℕ)
+    → size ≡ min (length (u ++ flat_map w ys)) (2 ^ 64 - 1) → more ≡ min (length (w v)) (2 ^ 64 - 1)
+    → new ≡ min (size + more) (2 ^ 64 - 1) → new ≡ min (length (u ++ flat_map w (ys ++ v ∷ []))) (2 ^ 64 - 1)
+next-counted w ys v u size more new before one is =
+    let e : length (u ++ flat_map w (ys ++ v ∷ [])) ≡ length (u ++ flat_map w ys) + length (w v) =
+    rw (flat-more w ys v) (simp length-append (omega arith)) in
+    rw e (omega (arith, before, one, is))
+
+-- where the next one doesn't fit, no vector that has it does
+pub next-fails : {A : Type 0} (Fits : A → Type 0) (items ys : List A) (v : A) (rest : List A) → ys ++ v ∷ rest ≡ items
+    → (mid new bytes old last whole : List ℕ) (e : EncFault)
+    → Writes (Fits v) mid new bytes (Err e) → Writes (FitsVector Fits items) old last whole (Err e)
+next-fails Fits items ys v rest is mid new bytes old last whole e h =
+    part-fails (Fits v) (FitsVector Fits items) (λ f. all-of Fits ys v rest (rw is f.1)) mid new bytes old last whole e h
+
+-- where it has no size, neither has such a vector
+pub next-unmeasured : {A : Type 0} (Fits : A → Type 0) (items ys : List A) (v : A) (rest : List A)
+    → ys ++ v ∷ rest ≡ items → (count whole : ℕ) (e : EncFault)
+    → Measures (Fits v) count (Err e) → Measures (FitsVector Fits items) whole (Err e)
+next-unmeasured Fits items ys v rest is count whole Oversize h = λ f. h (all-of Fits ys v rest (rw is f.1))
+next-unmeasured Fits items ys v rest is count whole Memory h = tt

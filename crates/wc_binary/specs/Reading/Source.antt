@@ -1,6 +1,6 @@
 -- What a source of bytes is to contracts, what it answers, and what a reader of a phrase answers over it.
-use Rattle.std.specs.Prelude.{◌≡◌, ℕ, ◌+◌, ◌≤◌, Bool, IsTrue, List, [], ◌∷◌, ◌++◌, length, drop, Option, Some, None}
-use Rattle.std.specs.Prelude.{Result, Ok, Err}
+use Rattle.std.specs.Prelude.{◌≡◌, ℕ, ◌+◌, ◌≤◌, Bool, false, IsTrue, List, [], ◌∷◌, ◌++◌, length, drop, Option, Some}
+use Rattle.std.specs.Prelude.{None, is_some, Result, Ok, Err}
 use Rattle.wc_binary.specs.declared.fault.BinFault.{BinFault}
 use Rattle.wc_binary.specs.declared.fault.BinFault.TheVariants.{Bad, Read, Memory}
 use Rattle.wc_binary.specs.declared.fault.BinWhy.TheVariants.{End}
@@ -14,42 +14,59 @@ pub record Input : Type 0 where
   -- the bytes to come, where they are known
   pub known : Bool
   pub left : List ℕ
-  -- whether a read failed, and how many bytes were read from the device
-  pub failed : Bool
+  -- whether no byte is to come from the device
+  pub over : Bool
+  -- how many bytes were read from the device, and how many when a read failed
   pub count : ℕ
+  pub failed : Option ℕ
+  -- whether a read failed or was told the end, and whether the device was asked once more after that
+  pub spent : Bool
+  pub asked : Bool
   -- the loan of the device
   pub lender : ℕ
 
--- reading went forward, on the same device, and no read failed
+-- reading went forward, on the same device, and no read failed or was told the end
 pub record GoesOn (old new : Input) : Type 0 where
   pub forward : old.place ≤ new.place
   pub failed : new.failed ≡ old.failed
+  pub spent : new.spent ≡ old.spent
+  pub asked : old.spent ≡ false → new.asked ≡ old.asked
   pub lender : new.lender ≡ old.lender
 
--- a read of the same device failed
+-- the same, but that a read may have been told the end: none was asked for after that
+pub record Stopped (old new : Input) : Type 0 where
+  pub forward : old.place ≤ new.place
+  pub failed : new.failed ≡ old.failed
+  pub asked : old.spent ≡ false → new.asked ≡ old.asked
+  pub lender : new.lender ≡ old.lender
+
+-- a read of the same device failed after so many bytes, and none was asked for after that
 pub record ReadFailed (old new : Input) (at : ℕ) : Type 0 where
-  pub failed : IsTrue new.failed
+  pub has_failed : IsTrue (is_some new.failed)
+  pub failed : old.failed ≡ None → new.failed ≡ Some at
   pub count : at ≡ new.count
+  pub asked : old.spent ≡ false → new.asked ≡ old.asked
   pub lender : new.lender ≡ old.lender
 
--- no byte is to come
+-- no byte is to come, and all that were read were taken
 abbrev pub IsEnded : Input → Type 0
-IsEnded i = IsTrue i.known → i.left ≡ []
+IsEnded i = (i.count ≡ i.place) × (IsTrue i.known → i.left ≡ [])
 
--- the next byte was taken, or there is none
+-- the next byte was taken, or there is none; a read fails only where one is wanted and none is at hand
 abbrev pub NextGives : Input → Input → Result (Option ℕ) BinFault → Type 0
 NextGives old new (Ok None) =
-    GoesOn old new × (new.place ≡ old.place) × (IsTrue old.known → IsTrue new.known × (old.left ≡ [])) × IsEnded new
+    Stopped old new × (new.place ≡ old.place) × (IsTrue old.known → IsTrue new.known × (old.left ≡ [])) × IsEnded new
 NextGives old new (Ok (Some b)) =
     GoesOn old new × (new.place ≡ old.place + 1) × (IsTrue old.known → IsTrue new.known × (old.left ≡ b ∷ new.left))
-NextGives old new (Err (Read at)) = ReadFailed old new at
+NextGives old new (Err (Read at)) =
+    ReadFailed old new at × (IsTrue old.known → IsTrue new.over → old.left ≡ []) × (at ≡ old.place)
 NextGives old new (Err e) = ⊥
 
 -- the next byte was taken, or that none is left was told at its place
 abbrev pub ByteGives : Input → Input → Result ℕ BinFault → Type 0
 ByteGives old new (Ok b) = NextGives old new (Ok (Some b))
 ByteGives old new (Err (Bad at why)) = NextGives old new (Ok None) × (at ≡ old.place) × (why ≡ End)
-ByteGives old new (Err (Read at)) = ReadFailed old new at
+ByteGives old new (Err (Read at)) = NextGives old new (Err (Read at))
 ByteGives old new (Err Memory) = ⊥
 
 -- these bytes were taken
@@ -70,11 +87,13 @@ Passes most old new count =
     GoesOn old new × (count ≤ most) × (new.place ≡ old.place + count)
     × (IsTrue old.known → IsTrue new.known × (count ≤ length old.left) × (new.left ≡ drop count old.left))
 
--- what was told in place of what the reading `r` gives
+-- what was told in place of what the reading `r` gives: its fault; or that a read failed, where the bytes before it
+-- have no fault but that the next one is missing, which `r` says where no more are to come
 abbrev pub Fails : {A : Type 0} → Input → Input → BinFault → Result (Got A) Halt → Type 0
-Fails old new (Bad at why) r = GoesOn old new × (IsTrue old.known → r ≡ Err (halt at why new.place))
-Fails old new (Read at) r = ReadFailed old new at
-Fails old new Memory r = GoesOn old new
+Fails old new (Bad at why) r = Stopped old new × (IsTrue old.known → r ≡ Err (halt at why new.place))
+Fails old new (Read at) r =
+    ReadFailed old new at × (IsTrue old.known → IsTrue new.over → r ≡ Err (halt at End at))
+Fails old new Memory r = Stopped old new
 
 -- the answer is what the reading `r` gives
 abbrev pub Gave : {A : Type 0} → Input → Input → Result A BinFault → Result (Got A) Halt → Type 0

@@ -2,7 +2,7 @@
 use Rattle.wc_ast.specs.declared.func.Global.{Global}
 use Rattle.wc_ast.specs.declared.segment.Elem.{Elem}
 use Rattle.wc_ast.specs.declared.segment.Data.{Data}
-use Rattle.wc_binary.specs.declared.parts.FuncCode.{FuncCode}
+use Rattle.wc_ast.specs.declared.codes.FuncCode.{FuncCode}
 use Rattle.wc_binary.specs.declared.fault.BinWhy.TheVariants.{BodySize}
 use Rattle.wc_binary.specs.Standard.Phrase.{Phrase, gives, ◌>>=◌}
 use Rattle.wc_binary.specs.Standard.Values.{any_byte, u32, vector, sized}

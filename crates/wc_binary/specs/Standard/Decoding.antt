@@ -1,6 +1,7 @@
 -- What decoding answers.
-use Rattle.std.specs.Prelude.{◌≡◌, ◌⊎◌, ℕ, ◌+◌, ◌≤◌, Bool, true, false, List, Result, Ok, Err, MatchResult, ⊤}
+use Rattle.std.specs.Prelude.{◌≡◌, ◌⊎◌, ℕ, ◌+◌, ◌≤◌, Bool, true, false, List, length, Result, Ok, Err, MatchResult, ⊤}
 use Rattle.wc_binary.specs.declared.fault.BinWhy.{BinWhy}
+use Rattle.wc_binary.specs.declared.fault.BinWhy.TheVariants.{End, Counts}
 use Rattle.wc_ast.specs.declared.module.Module.{Module}
 use Rattle.wc_binary.specs.declared.fault.BinFault.{BinFault}
 use Rattle.wc_binary.specs.declared.fault.BinFault.TheVariants.{Bad, Read, Memory}
@@ -33,9 +34,9 @@ DecodesOnlyFault x r =
 abbrev pub buffer_size : ℕ
 buffer_size = 4096
 
--- a fault was told after at most so many bytes more than those behind which it showed
+-- a fault was told after at most so many bytes more than those behind which it showed, and a module after all bytes
 abbrev pub DecodesNear : ℕ → List ℕ → Result Module BinFault → Type 0
-DecodesNear count x (Ok m) = ⊤
+DecodesNear count x (Ok m) = count ≡ length x
 DecodesNear count x (Err (Bad at why)) = (taken : ℕ) × StopB x (halt at why taken) × (count ≤ taken + buffer_size)
 DecodesNear count x (Err (Read at)) = ⊤
 DecodesNear count x (Err Memory) = ⊤
@@ -44,3 +45,16 @@ DecodesNear count x (Err Memory) = ⊤
 abbrev pub is_read_fault : {A : Type 0} → Result A BinFault → Bool
 is_read_fault (Err (Read at)) = true
 is_read_fault _ = false
+
+-- nothing is wrong with the bytes but that they may go on: they spell a module up to this place, which is their end, or
+-- their first fault is there, a missing byte or the numbers of functions and bodies
+abbrev pub IsCutShort : List ℕ → ℕ → Type 0
+IsCutShort x at =
+    ((m : Module) × Bin x m × (at ≡ length x)) ⊎ (FirstFault x at End ⊎ FirstFault x at Counts)
+
+-- a failed read was told, and no fault of the bytes that were read before it
+abbrev pub DecodesCut : List ℕ → Result Module BinFault → Type 0
+DecodesCut x (Ok m) = ⊤
+DecodesCut x (Err (Bad at why)) = ⊤
+DecodesCut x (Err (Read at)) = IsCutShort x at
+DecodesCut x (Err Memory) = ⊤

@@ -2,7 +2,7 @@
 use Rattle.std.specs.Prelude.{◌≡◌, ◌≢◌, ℕ, zero, suc, ◌+◌, ◌<◌, List, [], ◌∷◌, ◌++◌, length, map, Ok, Err, ◌⊎◌}
 use Rattle.wc_ast.specs.declared.module.Module.{Module}
 use Rattle.wc_ast.specs.declared.func.Func.{Func}
-use Rattle.wc_binary.specs.declared.parts.FuncCode.{FuncCode}
+use Rattle.wc_ast.specs.declared.codes.FuncCode.{FuncCode}
 use Rattle.wc_binary.specs.declared.parts.Parts.{Parts}
 use Rattle.wc_binary.specs.declared.section.Section.{Section}
 use Rattle.wc_binary.specs.declared.section.SectionKind.{SectionKind}

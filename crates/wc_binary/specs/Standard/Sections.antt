@@ -8,7 +8,7 @@ use Rattle.wc_ast.specs.declared.func.Global.{Global}
 use Rattle.wc_ast.specs.declared.export.Export.{Export}
 use Rattle.wc_ast.specs.declared.segment.Elem.{Elem}
 use Rattle.wc_ast.specs.declared.segment.Data.{Data}
-use Rattle.wc_binary.specs.declared.parts.FuncCode.{FuncCode}
+use Rattle.wc_ast.specs.declared.codes.FuncCode.{FuncCode}
 use Rattle.wc_binary.specs.declared.parts.Parts.{Parts}
 use Rattle.wc_binary.specs.declared.section.Section.{Section}
 use Rattle.wc_binary.specs.declared.section.Section.TheVariants as sections

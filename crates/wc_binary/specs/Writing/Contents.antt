@@ -4,7 +4,7 @@ use Rattle.wc_leb128.specs.Writing.Bytes.{unsigned_bytes}
 use Rattle.wc_ast.specs.declared.func.Global.{Global}
 use Rattle.wc_ast.specs.declared.segment.Elem.{Elem}
 use Rattle.wc_ast.specs.declared.segment.Data.{Data}
-use Rattle.wc_binary.specs.declared.parts.FuncCode.{FuncCode}
+use Rattle.wc_ast.specs.declared.codes.FuncCode.{FuncCode}
 use Rattle.wc_body.specs.Standard.ValueBytes.{vector_bytes, Fits32, FitsVector}
 use Rattle.wc_binary.specs.Writing.Values.{global_type_bytes, sized_bytes, FitsSized}
 use Rattle.wc_body.specs.Standard.InstructionBytes.{expr_bytes, FitsExpr}

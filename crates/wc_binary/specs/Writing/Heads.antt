@@ -4,7 +4,7 @@ use Rattle.std.specs.Prelude.{ℕ, ◌<◌, ◌^◌, List, length, ◌++◌}
 use Rattle.wc_leb128.specs.Writing.Bytes.{unsigned_bytes}
 use Rattle.wc_ast.specs.declared.segment.Data.{Data}
 use Rattle.wc_body.specs.Standard.InstructionBytes.{expr_bytes}
-use Rattle.wc_binary.specs.declared.parts.FuncCode.{FuncCode}
+use Rattle.wc_ast.specs.declared.codes.FuncCode.{FuncCode}
 use Rattle.wc_binary.specs.Writing.Locals.{locals_bytes, FitsLocals}
 use Rattle.wc_binary.specs.Writing.Contents.{func_bytes}
 

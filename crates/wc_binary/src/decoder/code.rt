@@ -1,42 +1,66 @@
 //! Codes of functions (Core 1.0, 5.5.13).
 
-ghost use Rattle.std.specs.Prelude.{◌≡◌, ◌-◌, min};
-ghost use Rattle.wc_binary.specs.Standard.Contents.{code as code_phrase};
+ghost use Rattle.wc_binary.specs.Standard.Contents.{code as code_phrase, func as func_phrase};
+ghost use Rattle.wc_binary.specs.Standard.Values.{times as times_phrase, vector as vector_phrase};
+ghost use Rattle.wc_binary.specs.Reading.Source.{Gives};
 
-use crate::decoder::expression::body;
+use crate::decoder::expression::body_from;
 use crate::decoder::from_source::FromSource;
 use crate::decoder::integer::u32;
+use crate::decoder::locals::locals_from;
 use crate::fault::{BinFault, BinWhy, bad};
-use crate::parts::FuncCode;
 use crate::source::Source;
 use std::alloc::Global;
-use wc_ast::Locals;
+use wc_ast::{Body, BodyBuilder, Codes, FuncCode, Locals};
 
-/// How many bytes to make room for before the body of a code of this size is read, of which so many bytes were read:
-/// all the others but the last, which ends it. No size is trusted further than 64 KiB, since it is judged once the code
-/// was read.
-fn room_for(size: u32, read: u64) -> usize
-    ensures { result ≡ min (size - read - 1) 65_536 }
+/// What stands behind the size of a code, in the memory of one that is wanted no longer.
+#[tactic(auto, unfolding(crate::specs::Standard::Contents::func))]
+fn func<S: Source>(alloc: Global, spare: FuncCode, source: &mut S) -> Result<FuncCode, BinFault>
+    ensures { Gives func_phrase (S.input source.old) (S.input source.new) result }
 {
-    let left = u64::from(size).saturating_sub(read);
-    left.saturating_sub(1).min(65_536) as usize
+    let FuncCode { locals, body } = spare;
+    let locals = locals_from(alloc, locals, source)?;
+    let body = body_from(alloc, BodyBuilder::reusing(body), source)?;
+    Ok(FuncCode { locals, body })
 }
 
-impl FromSource for FuncCode {
-    ghost phrase = { code_phrase };
+/// A code behind its size, in such memory. The size is judged once the code was read.
+#[tactic(auto, unfolding(crate::specs::Standard::Contents::code, crate::specs::Standard::Values::sized))]
+fn code<S: Source>(alloc: Global, spare: FuncCode, source: &mut S) -> Result<FuncCode, BinFault>
+    ensures { Gives code_phrase (S.input source.old) (S.input source.new) result }
+{
+    let at = source.place();
+    let size = u32(source)?;
+    let start = source.place();
+    let found = func(alloc, spare, source)?;
+    if source.place() - start != size as u64 {
+        return Err(bad(at, BinWhy::BodySize));
+    }
+    Ok(found)
+}
 
-    /// A code behind its size. The size is judged once the code was read.
-    #[tactic(auto, unfolding(crate::specs::Standard::Contents::code, crate::specs::Standard::Contents::func, crate::specs::Standard::Values::sized))]
-    fn read<S: Source>(alloc: Global, source: &mut S) -> Result<FuncCode, BinFault> {
-        let at = source.place();
-        let size = u32(source)?;
-        let start = source.place();
-        let locals = Locals::read(alloc, source)?;
-        let room = room_for(size, source.place() - start);
-        let body = body(alloc, room, source)?;
-        if source.place() - start != size as u64 {
-            return Err(bad(at, BinWhy::BodySize));
-        }
-        Ok(FuncCode { locals, body })
+/// So many codes. Each is read into the same memory, and then put behind the others.
+fn codes<S: Source>(alloc: Global, count: u32, source: &mut S) -> Result<Codes, BinFault>
+    ensures { Gives (times_phrase count code_phrase) (S.input source.old) (S.input source.new) result }
+{
+    let mut codes = Codes::new(alloc);
+    let mut spare = FuncCode {
+        locals: Locals::new(alloc),
+        body: Body::new(alloc),
+    };
+    for _ in 0..count {
+        spare = code(alloc, spare, source)?;
+        codes.push(&spare.locals, &spare.body)?;
+    }
+    Ok(codes)
+}
+
+impl FromSource for Codes {
+    ghost phrase = { vector_phrase code_phrase };
+
+    #[tactic(auto, unfolding(crate::specs::Standard::Values::vector))]
+    fn read<S: Source>(alloc: Global, source: &mut S) -> Result<Codes, BinFault> {
+        let count = u32(source)?;
+        codes(alloc, count, source)
     }
 }

@@ -2,8 +2,8 @@
 //! until it is kept.
 
 ghost use Rattle.std.specs.Prelude.{◌≡◌, ◌+◌, ◌<◌, true, false, IfOk, IfErr, length};
-ghost use Rattle.wc_body.specs.Standard.Nested.{nesting_limit};
-ghost use Rattle.wc_body.specs.Standard.Draft.{step, may_come, begins};
+ghost use Rattle.wc_body.specs.Standard.Nested.{empty, nesting_limit};
+ghost use Rattle.wc_body.specs.Standard.Draft.{whole, step, may_come, begins};
 ghost use Rattle.wc_body.specs.Standard.Entries.{mark};
 ghost use Rattle.wc_ops.specs.declared.op.Op.TheVariants as ops;
 ghost use Rattle.wc_ops.specs.declared.op.OpByte.TheVariants as bytes;
@@ -169,11 +169,16 @@ fn entry<S: Source>(
     }
 }
 
-/// The instructions up to the end at which none is open. Room is made for so many bytes of them at once.
-pub fn body<S: Source>(alloc: Global, room: usize, source: &mut S) -> Result<Body, BinFault>
+/// The instructions up to the end at which none is open, in the memory of this builder, which has nothing so far.
+pub fn body_from<S: Source>(
+    alloc: Global,
+    builder: BodyBuilder,
+    source: &mut S,
+) -> Result<Body, BinFault>
+    requires { builder ≡ whole empty }
     ensures { Gives expr (S.input source.old) (S.input source.new) result }
 {
-    let mut builder = BodyBuilder::with_room(alloc, room)?;
+    let mut builder = builder;
     let mut labels = List::new(alloc);
     'entries: loop {
         let at = source.place();
@@ -182,7 +187,7 @@ pub fn body<S: Source>(alloc: Global, room: usize, source: &mut S) -> Result<Bod
             break;
         }
     }
-    match builder.finish() {
+    match builder.finish_with_room() {
         Ok(body) => Ok(body),
         Err(_) => unreachable!(),
     }
@@ -193,6 +198,6 @@ impl FromSource for Body {
 
     /// The instructions up to the end at which none is open.
     fn read<S: Source>(alloc: Global, source: &mut S) -> Result<Body, BinFault> {
-        body(alloc, 0, source)
+        body_from(alloc, BodyBuilder::new(alloc), source)
     }
 }

@@ -8,7 +8,7 @@ ghost use Rattle.wc_binary.specs.Reading.Source.{Gives, Gave};
 use crate::decoder::byte::any_byte;
 use crate::fault::{BinFault, BinWhy, bad};
 use crate::source::Source;
-use wc_leb128::{Step, Unsigned};
+use wc_leb128::{Step, Unsigned, unsigned_in_one};
 
 /// An unsigned integer of 32 bits, whose first byte was read at this place.
 #[inline(never)]
@@ -39,8 +39,8 @@ pub fn u32<S: Source>(source: &mut S) -> Result<u32, BinFault>
 {
     let at = source.place();
     let first = any_byte(source)?;
-    if first < 128 {
-        return Ok(u32::from(first));
+    match unsigned_in_one(first) {
+        Some(n) => Ok(u32::from(n)),
+        None => unsigned_from(at, first, source),
     }
-    unsigned_from(at, first, source)
 }

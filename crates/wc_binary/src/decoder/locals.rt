@@ -27,20 +27,24 @@ fn group<S: Source>(alloc: Global, total: u32, source: &mut S) -> Result<Group, 
     Ok(Group { count, value_type })
 }
 
-impl FromSource for Locals {
-    ghost phrase = { locals_phrase };
-
-    fn read<S: Source>(alloc: Global, source: &mut S) -> Result<Locals, BinFault> {
-        let count = u32(source)?;
-        let mut locals = Locals::new(alloc);
-        for _ in 0..count {
-            let next = group(alloc, locals.len(), source)?;
-            match locals.push_group(next.count, next.value_type) {
-                Ok(()) => {}
-                Err(LocalsFault::Memory) => return Err(BinFault::Memory),
-                Err(LocalsFault::TooMany) => unreachable!(),
-            }
+/// Declared locals, in the memory of others that are wanted no longer.
+pub fn locals_from<S: Source>(
+    alloc: Global,
+    spare: Locals,
+    source: &mut S,
+) -> Result<Locals, BinFault>
+    ensures { Gives locals_phrase (S.input source.old) (S.input source.new) result }
+{
+    let count = u32(source)?;
+    let mut locals = spare;
+    locals.clear();
+    for _ in 0..count {
+        let next = group(alloc, locals.len(), source)?;
+        match locals.push_group(next.count, next.value_type) {
+            Ok(()) => {}
+            Err(LocalsFault::Memory) => return Err(BinFault::Memory),
+            Err(LocalsFault::TooMany) => unreachable!(),
         }
-        Ok(locals)
     }
+    Ok(locals)
 }

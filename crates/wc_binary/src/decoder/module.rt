@@ -67,5 +67,5 @@ pub fn whole_module<S: Source>(alloc: Global, source: &mut S) -> Result<Module, 
             why: BinWhy::Counts,
         });
     }
-    Ok(parts.into_module(alloc)?)
+    Ok(parts.into_module())
 }

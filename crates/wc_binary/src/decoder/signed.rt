@@ -9,7 +9,7 @@ ghost use Rattle.wc_binary.specs.Reading.Source.{Gives, Gave};
 use crate::decoder::byte::any_byte;
 use crate::fault::{BinFault, BinWhy, bad};
 use crate::source::Source;
-use wc_leb128::{Signed, Step};
+use wc_leb128::{Signed, Step, signed_in_one};
 
 /// A signed integer of N bits, whose first byte was read at this place.
 #[inline(never)]
@@ -47,11 +47,8 @@ pub fn s32<S: Source>(source: &mut S) -> Result<i32, BinFault>
 {
     let at = source.place();
     let first = any_byte(source)?;
-    if first < 64 {
-        return Ok(i32::from(first));
-    }
-    if first < 128 {
-        return Ok(i32::from(first) - 128);
+    if let Some(n) = signed_in_one(first) {
+        return Ok(i32::from(n));
     }
     let n = signed_from::<32, S>(at, first, source)?;
     Ok(n as i32)
@@ -65,11 +62,8 @@ pub fn s64<S: Source>(source: &mut S) -> Result<i64, BinFault>
 {
     let at = source.place();
     let first = any_byte(source)?;
-    if first < 64 {
-        return Ok(i64::from(first));
-    }
-    if first < 128 {
-        return Ok(i64::from(first) - 128);
+    if let Some(n) = signed_in_one(first) {
+        return Ok(i64::from(n));
     }
     signed_from::<64, S>(at, first, source)
 }

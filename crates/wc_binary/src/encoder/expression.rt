@@ -4,9 +4,22 @@ ghost use Rattle.wc_body.specs.Standard.InstructionBytes.{expr_bytes, FitsExpr};
 
 use crate::encoder::item::Item;
 use crate::fault::EncFault;
-use wc_ast::Body;
+use wc_ast::{Body, BodyRef};
 
 impl Item for Body {
+    ghost bytes = { expr_bytes };
+
+    ghost Fits = { FitsExpr };
+
+    /// Writes the instructions, and the byte that ends them.
+    fn write(&self, out: &mut Vec<u8>) -> Result<(), EncFault> {
+        out.extend_from_slice(self.bytes())?;
+        out.push(0x0b)?;
+        Ok(())
+    }
+}
+
+impl<'a> Item for BodyRef<'a> {
     ghost bytes = { expr_bytes };
 
     ghost Fits = { FitsExpr };

@@ -6,7 +6,7 @@ ghost use Rattle.wc_binary.specs.Writing.Locals.{group_bytes, locals_bytes, Fits
 use crate::encoder::item::{Item, write_vector};
 use crate::encoder::value::write_u32;
 use crate::fault::EncFault;
-use wc_ast::{Group, Locals};
+use wc_ast::{Group, LocalsRef};
 
 impl Item for Group {
     ghost bytes = { group_bytes };
@@ -19,7 +19,7 @@ impl Item for Group {
     }
 }
 
-impl Item for Locals {
+impl<'a> Item for LocalsRef<'a> {
     ghost bytes = { locals_bytes };
 
     ghost Fits = { FitsLocals };

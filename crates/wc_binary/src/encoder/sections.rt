@@ -6,7 +6,7 @@ ghost use Rattle.wc_binary.specs.Writing.Sections.{sections_bytes, FitsSections}
 ghost use Rattle.wc_binary.specs.Standard.Sections.{section_id};
 ghost use Rattle.wc_binary.specs.Writing.Writes.{Writes};
 
-use crate::encoder::funcs::{write_code_section, write_type_section};
+use crate::encoder::funcs::write_code_section;
 use crate::encoder::item::{write_content, write_section};
 use crate::encoder::measured::write_measured;
 use crate::encoder::types::write_table_section;
@@ -36,13 +36,13 @@ pub fn write_sections(alloc: Global, out: &mut Vec<u8>, m: &Module) -> Result<()
 {
     write_section(alloc, out, SectionKind::Type, m.types.as_slice())?;
     write_section(alloc, out, SectionKind::Import, m.imports.as_slice())?;
-    write_type_section(alloc, out, m.funcs.as_slice())?;
+    write_section(alloc, out, SectionKind::Function, m.funcs.types())?;
     write_table_section(alloc, out, m.tables.as_slice())?;
     write_section(alloc, out, SectionKind::Memory, m.mems.as_slice())?;
     write_section(alloc, out, SectionKind::Global, m.globals.as_slice())?;
     write_section(alloc, out, SectionKind::Export, m.exports.as_slice())?;
     write_start_section(alloc, out, m.start)?;
     write_section(alloc, out, SectionKind::Element, m.elems.as_slice())?;
-    write_code_section(alloc, out, m.funcs.as_slice())?;
+    write_code_section(alloc, out, m.funcs.codes())?;
     write_measured(alloc, out, SectionKind::Data, m.datas.as_slice())
 }

@@ -15,14 +15,17 @@ pub struct Bytes<'a> {
 }
 
 impl Source for Bytes<'_> {
-    ghost use Rattle.std.specs.Prelude.{drop, true, false};
+    ghost use Rattle.std.specs.Prelude.{drop, true, false, None};
 
     ghost input = { λ s. record {
       place = s.at;
       known = true;
       left = drop s.at s.bytes.now;
-      failed = false;
-      count = 0;
+      over = true;
+      count = length s.bytes.now;
+      failed = None;
+      spent = false;
+      asked = false;
       lender = 0;
     } };
 

@@ -34,7 +34,7 @@ returns-in_err-byte g c =
     let u = rw i.1 at c.in-More.ensures in
     let p = err_from_is_err_and c.from_residual.result c.from_residual.ensures.1 in
     rw (p.1, p.2) (byte-fails _ _ _ i.3.going c.in_err-byte.field-0.0 c.in_err-byte.ensures _
-    (unsigned-end 32 i.0 _ _ _ _ _ _ i.3 _ u.0))
+    (unsigned-end 32 i.0 _ _ _ _ _ _ i.3 u.0))
 
 pub loop-value-preserved : goal.loop-value-preserved
 loop-value-preserved g c =

@@ -23,4 +23,4 @@ returns-then-len g c =
 pub returns : goal.returns
 returns g c =
     module-whole _ _ _ c.requires tt c.in_ok-preamble.ensures c.in_ok-parts.parts c.in_ok-parts.ensures
-    c.in_ok-into_module.field-0 c.in_ok-into_module.ensures
+    c.into_module.result c.into_module.ensures

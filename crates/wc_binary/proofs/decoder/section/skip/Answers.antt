@@ -8,7 +8,7 @@ returns-in_err-_byte g c =
     let i = c.loop-left.invariant in
     let p = err_from_is_err_and c.from_residual.result c.from_residual.ensures.1 in
     rw (p.1, p.2) (byte-fails _ _ _ i.going c.in_err-_byte.field-0.0 c.in_err-_byte.ensures _
-    (skip-end _ _ _ _ c.loop-left.left c.loop-left-test.true i))
+    (skip-end _ _ _ c.loop-left.left c.loop-left-test.true i))
 
 pub loop-left-preserved : goal.loop-left-preserved
 loop-left-preserved g c =

@@ -11,7 +11,7 @@ returns-in_err-byte-clause-gives g c =
     omega (arith, c.loop-source.bytes.ok.0, rw c.len.ensures at c.loop-source-test.true) in
     let p = err_from_is_err_and c.from_residual-in_err-byte.result c.from_residual-in_err-byte.ensures.1 in
     rw (p.1, p.2) (byte-fails _ _ _ i.going c.in_err-byte.field-0.0 c.in_err-byte.ensures _
-    (times-end _ c.args.count _ _ _ _ i lt))
+    (times-end _ c.args.count _ _ _ i lt))
 
 pub loop-source-preserved : goal.loop-source-preserved
 loop-source-preserved g c =

@@ -2,7 +2,7 @@ use Rattle.std.proofs.Common.{◌≡◌, ◌∙◌, rules}
 use Rattle.std.specs.Str.Lossy.{utf8_valid_len}
 use Rattle.std.proofs.lemmas.Result.{err_from_is_err_and}
 use Rattle.wc_binary.proofs.phrases.Forward.{name-count, name-bytes, name-bad, name-good}
-use Rattle.wc_binary.proofs.reading.Going.{GoesOn-trans}
+use Rattle.wc_binary.proofs.reading.Going.{GoesOn-trans, GoesOn-stops}
 use Rattle.wc_binary.proofs.decoder.name.NameFromSource.read.Goals as goal
 
 pub returns-in_err-count : goal.returns-in_err-count
@@ -18,7 +18,7 @@ returns-in_err-bytes g c =
 
 pub returns-in-Err : goal.returns-in-Err
 returns-in-Err g c = rw c.bad.ensures (
-  GoesOn-trans _ _ _ c.in_ok-count.ensures.0 c.in_ok-bytes.ensures.gives.0,
+  GoesOn-stops _ _ (GoesOn-trans _ _ _ c.in_ok-count.ensures.0 c.in_ok-bytes.ensures.gives.0),
   λ w.
       let count = c.in_ok-count.ensures.1 w in
       let raw = c.in_ok-bytes.ensures.gives.1 count.0 in

@@ -2,7 +2,7 @@ use Rattle.std.proofs.Common.{◌-◌, ◌^◌}
 use Rattle.wc_binary.specs.Reading.Reading.{read}
 use Rattle.wc_binary.specs.Standard.Instructions.{expr}
 use Rattle.wc_binary.proofs.reading.Entries.{Draws}
-use Rattle.wc_binary.proofs.decoder.expression.body.Given as goal
+use Rattle.wc_binary.proofs.decoder.expression.body_from.Given as goal
 
 abbrev pub invariant-entries : goal.invariant-entries
 invariant-entries g l =

@@ -3,7 +3,7 @@ use Rattle.wc_binary.specs.Reading.Reading.{read}
 use Rattle.wc_binary.specs.Standard.Locals.{locals}
 use Rattle.wc_binary.proofs.reading.Times.{Leads}
 use Rattle.wc_binary.proofs.reading.Locals.{with_locals, groups_at}
-use Rattle.wc_binary.proofs.decoder.locals.LocalsFromSource.read.Given as goal
+use Rattle.wc_binary.proofs.decoder.locals.locals_from.Given as goal
 
 abbrev pub invariant-loop : goal.invariant-loop
 invariant-loop g l =

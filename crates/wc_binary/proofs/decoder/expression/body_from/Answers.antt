@@ -3,16 +3,16 @@ use Rattle.std.proofs.lemmas.Result.{err_from_is_err_and}
 use Rattle.wc_binary.proofs.reading.Going.{byte-fails}
 use Rattle.wc_binary.proofs.reading.Entries.{draws-none, next-none, entry-fails, entry-adds, entry-ends, goes-on}
 use Rattle.wc_binary.proofs.reading.Entries.{comes-last}
-use Rattle.wc_binary.proofs.decoder.expression.body.Goals as goal
+use Rattle.wc_binary.proofs.decoder.expression.body_from.Goals as goal
 
 pub entries-init : goal.entries-init
-entries-init g c = rw c.in_ok-builder.ensures (draws-none _)
+entries-init g c = rw c.requires (draws-none _)
 
 pub returns-in_err-byte : goal.returns-in_err-byte
 returns-in_err-byte g c =
     let i = c.entries.invariant in
-    let p = err_from_is_err_and c.from_residual-in_err-byte.result c.from_residual-in_err-byte.ensures.1 in
-    rw (p.1, p.2) (byte-fails _ _ _ i.going c.in_err-byte.field-0.0 c.in_err-byte.ensures _ (next-none _ _ _ _ _ i))
+    let p = err_from_is_err_and c.from_residual.result c.from_residual.ensures.1 in
+    rw (p.1, p.2) (byte-fails _ _ _ i.going c.in_err-byte.field-0.0 c.in_err-byte.ensures _ (next-none _ _ _ _ i))
 
 pub returns-in_err-entry : goal.returns-in_err-entry
 returns-in_err-entry g c =

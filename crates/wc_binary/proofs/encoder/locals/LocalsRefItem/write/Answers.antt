@@ -1,5 +1,5 @@
 use Rattle.wc_binary.proofs.spelling.Locals.{locals-written}
-use Rattle.wc_binary.proofs.encoder.locals.LocalsItem.write.Goals as goal
+use Rattle.wc_binary.proofs.encoder.locals.LocalsRefItem.write.Goals as goal
 
 pub returns : goal.returns
 returns c =

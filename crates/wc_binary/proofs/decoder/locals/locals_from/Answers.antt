@@ -1,7 +1,7 @@
 use Rattle.std.proofs.Common.{◌≡◌, ◌-◌, arith}
 use Rattle.std.proofs.lemmas.Result.{err_from_is_err_and}
 use Rattle.wc_binary.proofs.reading.Locals.{locals-begin, locals-count-fails, groups-more}
-use Rattle.wc_binary.proofs.decoder.locals.LocalsFromSource.read.Goals as goal
+use Rattle.wc_binary.proofs.decoder.locals.locals_from.Goals as goal
 
 pub returns-in_err-count : goal.returns-in_err-count
 returns-in_err-count g c =
@@ -11,7 +11,7 @@ returns-in_err-count g c =
 pub loop-init : goal.loop-init
 loop-init g c =
     let all : c.in_ok-count.count - 0 ≡ c.in_ok-count.count = omega arith in
-    rw (c.new-locals.ensures, all) (locals-begin _ _ c.in_ok-count.count c.in_ok-count.ensures)
+    rw (c.clear.ensures, all) (locals-begin _ _ c.in_ok-count.count c.in_ok-count.ensures)
 
 pub loop-preserved : goal.loop-preserved
 loop-preserved g c =
