@@ -1,12 +1,14 @@
 -- What a stack of phrases can do with the next token: its edges, computed without the token.
-use Rattle.std.proofs.Common.{◌≡◌, ℕ, zero, suc, Bool, true, false, List, [], ◌∷◌, ◌++◌, Option, Some, None, refl, sym, subst, inl, inr, ◌⊎◌}
+use Rattle.std.proofs.Common.{◌≡◌, ℕ, zero, suc, Bool, true, false, List, [], ◌∷◌, ◌++◌, Option, Some, None, refl, sym}
+use Rattle.std.proofs.Common.{subst, inl, inr, ◌⊎◌}
 use Rattle.std.specs.Prelude.{◌||◌}
 use Rattle.wc_syntax.specs.declared.kind.Kind.{Kind}
 use Rattle.wc_syntax.specs.declared.role.Role.{Role}
 use Rattle.wc_syntax.specs.Phrases.{Terminal, word, Nonterminal, Phrase, Empty, Token, Keep, ◌·◌, ◌∣◌, Many, The}
 use Rattle.wc_syntax.specs.Grammar.{body}
 use Rattle.wc_syntax.specs.Deriving.{Item, terminal_of, Event, kept}
-use Rattle.wc_syntax.proofs.Run.{Mode, Run, end, cut, r-empty, r-token, r-keeps, r-then, r-left, r-right, r-none, r-more, r-rule}
+use Rattle.wc_syntax.proofs.Run.{Mode, Run, end, cut, r-empty, r-token, r-keeps, r-then, r-left, r-right, r-none}
+use Rattle.wc_syntax.proofs.Run.{r-more, r-rule}
 
 -- a token of this kind is taken, it is kept in this role, and this stack is left
 pub data Edge : Type 0 where

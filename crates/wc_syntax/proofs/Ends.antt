@@ -1,5 +1,6 @@
 -- What the stacks say where no token is left, and whole texts.
-use Rattle.std.proofs.Common.{arith, ◌≡◌, ◌≤◌, ◌<◌, ℕ, zero, suc, ◌+◌, true, false, List, [], ◌∷◌, ◌++◌, length, take, get_or, Option, Some, None, refl, sym, ap, subst, ◌∙◌, append-nil, inl, inr, ◌⊎◌}
+use Rattle.std.proofs.Common.{arith, ◌≡◌, ◌≤◌, ◌<◌, ℕ, zero, suc, ◌+◌, true, false, List, [], ◌∷◌, ◌++◌, length, take}
+use Rattle.std.proofs.Common.{get_or, Option, Some, None, refl, sym, ap, subst, ◌∙◌, append-nil, inl, inr, ◌⊎◌}
 use Rattle.std.proofs.lemmas.List.{take_more, take_all, drop_all, length-take-le}
 use Rattle.std.proofs.Math.Seq.{drop-cons}
 use Rattle.wc_syntax.specs.declared.kind.Kind.{Kind}
@@ -16,9 +17,11 @@ use Rattle.wc_syntax.specs.Grammar.{body}
 use Rattle.wc_syntax.specs.Deriving.{Item, at, terminal_of, numbered, Event, Derives, Begins}
 use Rattle.wc_syntax.specs.Reasons.{wrong, Why, ReasonAt, FirstFault}
 use Rattle.wc_syntax.specs.Table.{resume, step, leads_to, is_end, first_reason, where_stands, reason_of}
-use Rattle.wc_syntax.proofs.Run.{Whole, Cut, Run, end, r-empty, r-left, r-right, r-none, r-more, r-rule, derived, begun, sentence, front}
+use Rattle.wc_syntax.proofs.Run.{Whole, Cut, Run, end, r-empty, r-left, r-right, r-none, r-more, r-rule, derived, begun}
+use Rattle.wc_syntax.proofs.Run.{sentence, front}
 use Rattle.wc_syntax.proofs.Edges.{Edges, deep, edges, either, on, edges-of, on-out, on-back}
-use Rattle.wc_syntax.proofs.Places.{edges-all, means, fuel, limit-reached}
+use Rattle.wc_syntax.proofs.Places.{edges-all, means, fuel}
+use Rattle.wc_syntax.proofs.Agreement.{limit-reached}
 use Rattle.wc_syntax.proofs.Machine.{Reads, ends-so}
 use Rattle.wc_syntax.proofs.States.{up, Reached, keeps-one, Next, next, refused, begins-so, under, ends-nothing}
 
@@ -173,16 +176,16 @@ module _ (n : ℕ) (xs : List Item) (d : ℕ) (p : Place) (b : Frame) (bs : List
 
 -- ---- lists of tokens
 
-take-numbered : (n i : ℕ) (ts : List Kind) → take i (numbered n ts) ≡ numbered n (take i ts)
+pub take-numbered : (n i : ℕ) (ts : List Kind) → take i (numbered n ts) ≡ numbered n (take i ts)
 take-numbered n zero ts = refl
 take-numbered n (suc i) [] = refl
 take-numbered n (suc i) (t ∷ ts) = ap (λ (w : List Item). at n (word t) ∷ w) (take-numbered (suc n) i ts)
 
-numbered-more : (n : ℕ) (ts : List Kind) (s : Kind) → numbered n (ts ++ s ∷ []) ≡ numbered n ts ++ at (n + length ts) (word s) ∷ []
+pub numbered-more : (n : ℕ) (ts : List Kind) (s : Kind) → numbered n (ts ++ s ∷ []) ≡ numbered n ts ++ at (n + length ts) (word s) ∷ []
 numbered-more n [] s = let e : n ≡ n + 0 = omega arith in ap (λ (k : ℕ). at k (word s) ∷ []) e
 numbered-more n (t ∷ ts) s = let e : suc n + length ts ≡ n + suc (length ts) = omega arith in ap (λ (w : List Item). at n (word t) ∷ w) (numbered-more (suc n) ts s ∙ ap (λ (k : ℕ). numbered (suc n) ts ++ at k (word s) ∷ []) e)
 
-numbered-length : (n : ℕ) (ts : List Kind) → length (numbered n ts) ≡ length ts
+pub numbered-length : (n : ℕ) (ts : List Kind) → length (numbered n ts) ≡ length ts
 numbered-length n [] = refl
 numbered-length n (t ∷ ts) = ap suc (numbered-length (suc n) ts)
 

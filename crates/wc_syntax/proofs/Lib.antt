@@ -1,6 +1,9 @@
 pub mod Run
+pub mod Shorter
 pub mod Edges
 pub mod Places
+pub mod Validity
+pub mod Agreement
 pub mod TabledText
 pub mod TabledFields
 pub mod TabledSegments
@@ -12,3 +15,4 @@ pub mod Machine
 pub mod States
 pub mod Ends
 pub mod Parses
+pub mod Exactness

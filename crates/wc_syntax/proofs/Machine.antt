@@ -1,5 +1,6 @@
 -- The states of the parser: what was read leads there, and what is left to read.
-use Rattle.std.proofs.Common.{arith, ◌≡◌, ℕ, zero, suc, Bool, true, false, cond, List, [], ◌∷◌, ◌++◌, Option, map, refl, sym, ap, subst, ◌∙◌, append_assoc, inl, inr, ◌⊎◌}
+use Rattle.std.proofs.Common.{arith, ◌≡◌, ℕ, zero, suc, Bool, true, false, cond, List, [], ◌∷◌, ◌++◌, Option, map, refl}
+use Rattle.std.proofs.Common.{sym, ap, subst, ◌∙◌, append_assoc, inl, inr, ◌⊎◌}
 use Rattle.std.specs.Prelude.{nat_eq}
 use Rattle.wc_syntax.specs.declared.kind.Kind.TheVariants as kind
 use Rattle.wc_syntax.specs.declared.role.Role.{Role}
@@ -10,8 +11,11 @@ use Rattle.wc_syntax.specs.Deriving.{Item, terminal_of, Event}
 use Rattle.wc_syntax.specs.Kinds.{code_of, same, all_terminals}
 use Rattle.wc_syntax.specs.Table.{leads_to, is_end}
 use Rattle.wc_syntax.proofs.Run.{Mode, Run}
-use Rattle.wc_syntax.proofs.Edges.{deep, Edge, edge, Edges, edges, edges-of, keep, AlongAny, edges-out, edges-in, out-left, out-right, in-split, Out as OutAlong, In as InAlong}
-use Rattle.wc_syntax.proofs.Places.{edges-all, Alt, alt, pick, the-edges, over, means, fuel, tag, said, sound, limit-reached, valid, picks}
+use Rattle.wc_syntax.proofs.Edges.{deep, Edge, edge, Edges, edges, edges-of, keep, AlongAny, edges-out, edges-in}
+use Rattle.wc_syntax.proofs.Edges.{out-left, out-right, in-split, Out as OutAlong, In as InAlong}
+use Rattle.wc_syntax.proofs.Places.{edges-all, Alt, alt, pick, the-edges, over, means, fuel}
+use Rattle.wc_syntax.proofs.Validity.{valid}
+use Rattle.wc_syntax.proofs.Agreement.{tag, said, sound, limit-reached, picks}
 use Rattle.wc_syntax.proofs.Tabling.{tabled}
 
 -- ---- kinds

@@ -1,46 +1,32 @@
--- The state of the loop.
-use Rattle.std.proofs.Common.{arith, ◌-◌, ◌≡◌, ℕ, zero, suc, ◌+◌, ◌<◌, ◌≤◌, Bool, true, false, List, [], ◌∷◌, ◌++◌, length, take, get_or, Option, Some, None, refl, sym, ap, subst, ◌∙◌, append-nil, length-append}
-use Rattle.std.specs.Option.{option_to_list, IsSome}
+-- Where a reader stands, the tokens so far lead.
+use Rattle.std.proofs.Common.{arith, ◌-◌, ◌≡◌, ℕ, zero, suc, ◌+◌, ◌<◌, ◌≤◌, Bool, true, false, List, [], ◌∷◌, ◌++◌}
+use Rattle.std.proofs.Common.{length, take, get_or, Option, Some, None, refl, sym, ap, subst, ◌∙◌, append-nil}
+use Rattle.std.proofs.Common.{length-append}
 use Rattle.std.proofs.lemmas.List.{map-append}
 use Rattle.std.proofs.lemmas.Bool.{leb-true, leb-false}
-use lib.Dec.{leb}
 use Rattle.wc_syntax.specs.declared.kind.Kind.{Kind}
 use Rattle.wc_syntax.specs.declared.role.Role.{Role}
-use Rattle.wc_syntax.specs.declared.place.Place.{Place}
-use Rattle.wc_syntax.specs.declared.place.Place.TheVariants as place
 use Rattle.wc_syntax.specs.declared.place.Frame.{Frame}
-use Rattle.wc_syntax.specs.declared.place.Frame.TheVariants as frame
 use Rattle.wc_syntax.specs.declared.place.Move.{Move}
 use Rattle.wc_syntax.specs.declared.place.Move.TheVariants.{On, Past, Turn, Into, Out}
 use Rattle.wc_syntax.specs.declared.place.Action.{Action}
 use Rattle.wc_syntax.specs.declared.kept.Kept.{Kept}
+use Rattle.wc_syntax.specs.declared.why.SynWhy.{SynWhy}
+use Rattle.wc_syntax.specs.declared.why.SynWhy.TheVariants as why
 use Rattle.wc_syntax.specs.Phrases.{word}
 use Rattle.wc_syntax.specs.Deriving.{Item, at, numbered, Event}
-use Rattle.wc_syntax.specs.Parsing.{event, events, Parsed}
+use Rattle.wc_syntax.specs.Parsing.{event, events, IsText}
 use Rattle.wc_syntax.specs.Reasons.{FirstFault}
-use Rattle.wc_syntax.specs.declared.why.SynWhy.TheVariants as why
-use Rattle.wc_syntax.specs.Table.{resume, step, is_end, reason_of}
-use Rattle.wc_syntax.proofs.Places.{limit-reached}
+use Rattle.wc_syntax.specs.Table.{step, is_end, reason_of}
+use Rattle.wc_syntax.specs.Reading.{Standing, IsRead, nothing_read, one_read, is_deep, moved, left_for, action_at, kept_as}
+use Rattle.wc_syntax.proofs.Agreement.{limit-reached}
 use Rattle.wc_syntax.proofs.States.{Bottom, nests, up, Reached, reached-first, Next, next, keeps-one}
-use Rattle.wc_syntax.proofs.Ends.{one-more, all-of-it, fault-here, fault-end, accepted, only-this}
+use Rattle.wc_syntax.proofs.Ends.{take-numbered, numbered-more, all-of-it, fault-here, fault-end, accepted}
 
--- the bodies around the innermost one, innermost last
-abbrev pub outer-of : List Frame → List Frame
-outer-of [] = []
-outer-of (b ∷ bs) = outer-of bs ++ b ∷ []
-
-outer-length : (bs : List Frame) → length (outer-of bs) ≡ length bs
-outer-length [] = refl
-outer-length (b ∷ bs) = length-append (outer-of bs) (b ∷ []) ∙ (let e : length (outer-of bs) + 1 ≡ suc (length bs) = omega (arith, outer-length bs) in e)
-
-pub record State (n : ℕ) (ts : List Kind) (q : ℕ) (outer : List Frame) (p : Place) (b : Frame) (e : List Event) : Type 0 where
+pub record Reaches (n : ℕ) (ks : List Kind) (es : List Event) (s : Standing) : Type 0 where
+  pub same : s.limit ≡ n
   pub more : ℕ
-  pub around : List Frame
-  pub is-outer : outer ≡ outer-of around
-  pub reached : Reached n (take q (numbered 0 ts)) more p b around e
-
-pub first-state : (n : ℕ) (ts : List Kind) → State n ts 0 [] place.Done frame.Start []
-first-state n ts = record { more = n; around = []; is-outer = refl; reached = reached-first n }
+  pub reached : Reached n (numbered 0 ks) more s.place s.frame s.around es
 
 -- all but the outermost count
 nests-are : (b : Frame) (bs : List Frame) → Bottom b bs → nests bs ≡ length bs - 1
@@ -55,74 +41,88 @@ deep-is zero k n false e f g = absurd (omega (arith, g refl))
 deep-is (suc d) k n true e f g = absurd (omega (arith, f refl))
 deep-is (suc d) k n false e f g = refl
 
--- what the action makes of the variables
-abbrev pub Moved : Move → List Frame → Frame → List Frame → Place → Frame → Type 0
-Moved (On q) o b o' p' b' = (o' ≡ o) × (p' ≡ q) × (b' ≡ b)
-Moved (Past q) o b o' p' b' = (o' ≡ o) × (p' ≡ q) × (b' ≡ resume b)
-Moved (Turn q c) o b o' p' b' = (o' ≡ o) × (p' ≡ q) × (b' ≡ c)
-Moved (Into q c) o b o' p' b' = (o' ≡ o ++ resume b ∷ []) × (p' ≡ q) × (b' ≡ c)
-Moved (Out q) o b o' p' b' = (p' ≡ q) × ((popped : Option Frame) × (o ≡ o' ++ option_to_list popped) × (0 < length o → IsSome popped) × ((c : Frame) → popped ≡ Some c → b' ≡ c))
+deep-so : (n : ℕ) (xs : List Item) (d : ℕ) (s : Standing) (e : List Event) → s.limit ≡ n → Reached n xs d s.place s.frame s.around e → is_deep s ≡ limit-reached d
+deep-so n xs d s e h r =
+    let g = nests-are s.frame s.around r.bottom in
+    let k = length s.around - 1 in
+    deep-is d (nests s.around) n (is_deep s) r.depth (λ i. let j = leb-true s.limit k i in omega (arith, j, g, h)) (λ i. let j = leb-false s.limit k i in omega (arith, j, g, h))
 
-same-end : (fs gs : List Frame) (f g : Frame) → fs ++ f ∷ [] ≡ gs ++ g ∷ [] → (fs ≡ gs) × (f ≡ g)
-same-end [] [] f g e = (refl, cc)
-same-end [] (x ∷ []) f g e = absurd cc
-same-end [] (x ∷ y ∷ gs) f g e = absurd cc
-same-end (x ∷ []) [] f g e = absurd cc
-same-end (x ∷ y ∷ fs) [] f g e = absurd cc
-same-end (x ∷ fs) (y ∷ gs) f g e =
-    let t : fs ++ f ∷ [] ≡ gs ++ g ∷ [] = cc in
-    let h : x ≡ y = cc in
-    let w = same-end fs gs f g t in (cc (w.0, h), w.1)
+landed : (n : ℕ) (ks : List Kind) (d : ℕ) (s : Standing) (e : List Event) (g : Move) → s.limit ≡ n → Next n (numbered 0 ks) d s.frame s.around e g → Reaches n ks e (moved g s)
+landed n ks d s e (On p) h r = record { same = h; more = d; reached = r }
+landed n ks d s e (Past p) h r = record { same = h; more = d; reached = r }
+landed n ks d s e (Turn p c) h r = record { same = h; more = d; reached = r }
+landed n ks d s e (Into p c) h (f, r) = record { same = h; more = f; reached = r }
+landed n ks d s e (Out p) h (c, cs, g, r) =
+    subst (λ (w : List Frame). Reaches n ks e (left_for s.limit p s.frame w)) (sym g) (record { same = h; more = up c d; reached = r })
 
-no-some : IsSome {T = Frame} None → ⊥
-no-some h = absurd cc
+kept-is : (o : Option Role) (n : ℕ) (k : Kind) → keeps-one o (at n (word k)) ≡ kept_as o n k
+kept-is None n k = refl
+kept-is (Some r) n k = refl
 
-popped-is : (o' : List Frame) (cs : List Frame) (c : Frame) (popped : Option Frame) → outer-of cs ++ c ∷ [] ≡ o' ++ option_to_list popped → (0 < length (outer-of cs ++ c ∷ []) → IsSome popped) → (popped ≡ Some c) × (o' ≡ outer-of cs)
-popped-is o' cs c (Some f) e some = let w = same-end (outer-of cs) o' c f e in (ap (λ (x : Frame). Some x) (sym w.1), sym w.0)
-popped-is o' cs c None e some = absurd (no-some (some (omega (arith, length-append (outer-of cs) (c ∷ [])))))
+one-more : (ks : List Kind) (k : Kind) → numbered 0 ks ++ at (length ks) (word k) ∷ [] ≡ numbered 0 (ks ++ k ∷ [])
+one-more ks k =
+    ap (λ (i : ℕ). numbered 0 ks ++ at i (word k) ∷ []) (let e : length ks ≡ 0 + length ks = omega arith in e) ∙ sym (numbered-more 0 ks k)
 
-module _ (n : ℕ) (ts : List Kind) (q : ℕ) (s : Kind) (outer : List Frame) (p : Place) (b : Frame) (e : List Event) (st : State n ts q outer p b e) (k : ℕ) (l : q < length ts) (counted : k ≡ length outer - 1) where
-  abbrev deep : Bool
-  deep = leb n k
+pub reaches : {n : ℕ} {ks : List Kind} {es : List Event} {s : Standing} → IsRead n ks es s → Reaches n ks es s
+reaches {n = n} nothing_read = record { same = refl; more = n; reached = reached-first n }
+reaches {n = n} (one_read {ks = ks} {es = es} {s = s} k a r h) =
+    let w = reaches r in
+    let i = at (length ks) (word k) in
+    let d = subst (λ (y : Bool). step s.place s.frame y k ≡ Some a) (deep-so n (numbered 0 ks) w.more s es w.same w.reached) h in
+    let q = next n (numbered 0 ks) w.more s.place s.frame s.around es i a w.reached d in
+    let q' = subst (λ (xs : List Item). Next n xs w.more s.frame s.around (es ++ keeps-one a.keep i) a.go) (one-more ks k) q in
+    subst (λ (fs : List Event). Reaches n (ks ++ k ∷ []) (es ++ fs) (moved a.go s)) (kept-is a.keep (length ks) k) (landed n (ks ++ k ∷ []) w.more s (es ++ keeps-one a.keep i) a.go w.same q')
 
-  deep-so : deep ≡ limit-reached st.more
-  deep-so =
-      let e : k ≡ nests st.around = counted ∙ ap (λ (w : List Frame). length w - 1) st.is-outer ∙ ap (λ (w : ℕ). w - 1) (outer-length st.around) ∙ sym (nests-are b st.around st.reached.bottom) in
-      deep-is st.more (nests st.around) n deep st.reached.depth (λ h. omega (arith, leb-true n k h, e)) (λ h. omega (arith, leb-false n k h, e))
+-- ---- the fault and the end
 
-  pub faulty : step p b deep (get_or ts q s) ≡ None → FirstFault n ts q (reason_of p b deep (get_or ts q s))
-  faulty h = rw deep-so (fault-here n ts q s st.more p b st.around e l st.reached (subst (λ (w : Bool). step p b w (get_or ts q s) ≡ None) deep-so h))
+take-front : (ks us : List Kind) → take (length ks) (ks ++ us) ≡ ks
+take-front [] us = refl
+take-front (k ∷ ks) us = ap (λ (w : List Kind). k ∷ w) (take-front ks us)
 
-  to-state : (g : Move) (f : List Event) (o' : List Frame) (p' : Place) (b' : Frame) → Next n (take (q + 1) (numbered 0 ts)) st.more b st.around f g → Moved g outer b o' p' b' → State n ts (q + 1) o' p' b' f
-  to-state (On x) f o' p' b' r (h, i, j) = record { more = st.more; around = st.around; is-outer = h ∙ st.is-outer; reached = rw (i, j) r }
-  to-state (Past x) f o' p' b' r (h, i, j) = record { more = st.more; around = st.around; is-outer = h ∙ st.is-outer; reached = rw (i, j) r }
-  to-state (Turn x c) f o' p' b' r (h, i, j) = record { more = st.more; around = st.around; is-outer = h ∙ st.is-outer; reached = rw (i, j) r }
-  to-state (Into x c) f o' p' b' (d, r) (h, i, j) = record { more = d; around = resume b ∷ st.around; is-outer = h ∙ ap (λ (w : List Frame). w ++ resume b ∷ []) st.is-outer; reached = rw (i, j) r }
-  to-state (Out x) f o' p' b' (c, cs, g, r) (i, (popped, h, some, is)) =
-      let around = st.is-outer ∙ ap (λ (w : List Frame). outer-of w) g in
-      let w = popped-is o' cs c popped (sym around ∙ h) (λ k. some (subst (λ (y : List Frame). 0 < length y) (sym around) k)) in
-      record { more = up c st.more; around = cs; is-outer = w.1; reached = rw (i, is c w.0) r }
+get-behind : (ks us : List Kind) (k : Kind) → get_or (ks ++ k ∷ us) (length ks) k ≡ k
+get-behind [] us k = refl
+get-behind (x ∷ ks) us k = get-behind ks us k
 
-  pub moved : (a : Action) (f : List Event) (o' : List Frame) (p' : Place) (b' : Frame) → step p b deep (get_or ts q s) ≡ Some a → f ≡ e ++ keeps-one a.keep (at q (word (get_or ts q s))) → Moved a.go outer b o' p' b' → State n ts (q + 1) o' p' b' f
-  moved a f o' p' b' h g m =
-      to-state a.go f o' p' b' (rw (g, one-more ts q s l) (next n (take q (numbered 0 ts)) st.more p b st.around e (at q (word (get_or ts q s))) a st.reached (subst (λ (w : Bool). step p b w (get_or ts q s) ≡ Some a) deep-so h))) m
+pub refused-at : (n : ℕ) (ks : List Kind) (es : List Event) (s : Standing) (k : Kind) (us : List Kind) → IsRead n ks es s → action_at s k ≡ None → FirstFault n (ks ++ k ∷ us) (length ks) (reason_of s.place s.frame (is_deep s) k)
+refused-at n ks es s k us r h =
+    let w = reaches r in
+    let ts = ks ++ k ∷ us in
+    let deep = deep-so n (numbered 0 ks) w.more s es w.same w.reached in
+    let here = get-behind ks us k in
+    let xs : numbered 0 ks ≡ take (length ks) (numbered 0 ts) = sym (take-numbered 0 (length ks) ts ∙ ap (λ (y : List Kind). numbered 0 y) (take-front ks (k ∷ us))) in
+    let q = subst (λ (y : List Item). Reached n y w.more s.place s.frame s.around es) xs w.reached in
+    let g = subst (λ (y : Bool). step s.place s.frame y k ≡ None) deep h in
+    let g' = subst (λ (y : Kind). step s.place s.frame (limit-reached w.more) y ≡ None) (sym here) g in
+    let l : length ks < length ts = (let e = length-append ks (k ∷ us) in omega (arith, e)) in
+    let f = fault-here n ts (length ks) k w.more s.place s.frame s.around es l q g' in
+    let f' = subst (λ (y : Kind). FirstFault n ts (length ks) (reason_of s.place s.frame (limit-reached w.more) y)) here f in
+    subst (λ (y : Bool). FirstFault n ts (length ks) (reason_of s.place s.frame y k)) (sym deep) f'
 
-pub end-fault : (n : ℕ) (ts : List Kind) (q : ℕ) (outer : List Frame) (p : Place) (b : Frame) (e : List Event) → State n ts q outer p b e → q ≡ length ts → is_end p b ≡ false → FirstFault n ts q why.End
-end-fault n ts q outer p b e st l h = fault-end n ts q st.more p b st.around e l st.reached h
+pub ended : (n : ℕ) (ks : List Kind) (es : List Event) (s : Standing) → IsRead n ks es s → is_end s.place s.frame ≡ true → IsText n ks es
+ended n ks es s r h = let w = reaches r in accepted n (numbered 0 ks) w.more s.place s.frame s.around es w.reached h
 
-pub end-parsed : (n : ℕ) (ts : List Kind) (q : ℕ) (outer : List Frame) (p : Place) (b : Frame) (e : List Event) → State n ts q outer p b e → length ts ≤ q → is_end p b ≡ true → Parsed n ts e
-end-parsed n ts q outer p b e st l h =
-    let r = subst (λ (w : List Item). Reached n w st.more p b st.around e) (all-of-it ts q l) st.reached in
-    record { derives = accepted n (numbered 0 ts) st.more p b st.around e r h; only = only-this n (numbered 0 ts) st.more p b st.around e r }
+pub not-ended : (n : ℕ) (ks : List Kind) (es : List Event) (s : Standing) → IsRead n ks es s → is_end s.place s.frame ≡ false → FirstFault n ks (length ks) why.End
+not-ended n ks es s r h =
+    let w = reaches r in
+    fault-end n ks (length ks) w.more s.place s.frame s.around es refl (subst (λ (y : List Item). Reached n y w.more s.place s.frame s.around es) (sym (all-of-it ks (length ks) (omega arith))) w.reached) h
 
-pub kept-more : (ks : List Kept) (k : Kept) → events (ks ++ k ∷ []) ≡ events ks ++ event k ∷ []
-kept-more ks k = map-append event ks (k ∷ [])
+-- ---- the list of what is kept
 
-pub by-go : (g h : Move) (o : List Frame) (b : Frame) (o' : List Frame) (p' : Place) (b' : Frame) → g ≡ h → Moved h o b o' p' b' → Moved g o b o' p' b'
-by-go g h o b o' p' b' e m = subst (λ (x : Move). Moved x o b o' p' b') (sym e) m
+pub kept-one : (ks js : List Kept) (r : Role) (q : ℕ) (k : Kind) (o : Option Role) → o ≡ Some r → js ≡ ks ++ record { role = r; at = q; kind = k } ∷ [] → events js ≡ events ks ++ kept_as o q k
+kept-one ks js r q k o e h = rw (e, h) (map-append event ks (record { role = r; at = q; kind = k } ∷ []))
 
-pub kept-one : (ks js : List Kept) (r : Role) (q : ℕ) (s : Kind) (o : Option Role) → o ≡ Some r → js ≡ ks ++ record { role = r; at = q; kind = s } ∷ [] → events js ≡ events ks ++ keeps-one o (at q (word s))
-kept-one ks js r q s o e h = rw (e, h) (kept-more ks (record { role = r; at = q; kind = s }))
+pub kept-none : (ks js : List Kept) (q : ℕ) (k : Kind) (o : Option Role) → o ≡ None → js ≡ ks → events js ≡ events ks ++ kept_as o q k
+kept-none ks js q k o e h = rw (e, h) (sym (append-nil (events ks)))
 
-pub kept-none : (ks js : List Kept) (i : Item) (o : Option Role) → o ≡ None → js ≡ ks → events js ≡ events ks ++ keeps-one o i
-kept-none ks js i o e h = rw (e, h) (sym (append-nil (events ks)))
+-- ---- what the code computes
+
+pub refused-by : (n : ℕ) (ks : List Kind) (es : List Event) (s t : Standing) (k : Kind) (us : List Kind) (deep : Bool) (o : Option Action) (y : SynWhy) (q : ℕ) → IsRead n ks es s → t ≡ s → deep ≡ is_deep s → o ≡ step t.place t.frame deep k → o ≡ None → y ≡ reason_of t.place t.frame deep k → q ≡ length ks → FirstFault n (ks ++ k ∷ us) q y
+refused-by n ks es s t k us deep o y q r e f g h i j =
+    let h' : action_at s k ≡ None = subst (λ (z : Standing). step z.place z.frame (is_deep s) k ≡ None) e (subst (λ (z : Bool). step t.place t.frame z k ≡ None) f (sym g ∙ h)) in
+    let i' : y ≡ reason_of s.place s.frame (is_deep s) k = subst (λ (z : Standing). y ≡ reason_of z.place z.frame (is_deep s) k) e (subst (λ (z : Bool). y ≡ reason_of t.place t.frame z k) f i) in
+    subst (λ (z : ℕ). FirstFault n (ks ++ k ∷ us) z y) (sym j) (subst (λ (z : SynWhy). FirstFault n (ks ++ k ∷ us) (length ks) z) (sym i') (refused-at n ks es s k us r h'))
+
+pub taken-by : (n : ℕ) (ks : List Kind) (es : List Event) (s t u : Standing) (k : Kind) (deep : Bool) (o : Option Action) (a : Action) (q : ℕ) → IsRead n ks es s → t ≡ s → deep ≡ is_deep s → o ≡ step t.place t.frame deep k → o ≡ Some a → u ≡ moved a.go s → q ≡ length ks → IsRead n (ks ++ k ∷ []) (es ++ kept_as a.keep q k) u
+taken-by n ks es s t u k deep o a q r e f g h i j =
+    let h' : action_at s k ≡ Some a = subst (λ (z : Standing). step z.place z.frame (is_deep s) k ≡ Some a) e (subst (λ (z : Bool). step t.place t.frame z k ≡ Some a) f (sym g ∙ h)) in
+    rw (j, i) (one_read k a r h')

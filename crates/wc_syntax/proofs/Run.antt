@@ -1,10 +1,13 @@
 -- A stack of phrases reads tokens: the same sentences and the same fronts as the grammar's.
-use Rattle.std.proofs.Common.{◌≡◌, List, [], ◌∷◌, ◌++◌, refl, sym, ap, subst, ◌∙◌, append_assoc, append-nil, inl, inr, ◌⊎◌}
+use Rattle.std.proofs.Common.{◌≡◌, List, [], ◌∷◌, ◌++◌, refl, sym, ap, subst, ◌∙◌, append_assoc, append-nil, inl, inr}
+use Rattle.std.proofs.Common.{◌⊎◌}
 use Rattle.wc_syntax.specs.declared.kind.Kind.{Kind}
 use Rattle.wc_syntax.specs.declared.role.Role.{Role}
 use Rattle.wc_syntax.specs.Phrases.{Terminal, word, Nonterminal, Phrase, Empty, Token, Keep, ◌·◌, ◌∣◌, Many, The}
 use Rattle.wc_syntax.specs.Grammar.{body}
-use Rattle.wc_syntax.specs.Deriving.{Item, terminal_of, Event, kept, Derives, empty, token, keeps, then, left, right, none, more, rule, Begins, nothing, begins-token, begins-keeps, in-first, in-second, in-left, in-right, in-item, in-later, in-rule}
+use Rattle.wc_syntax.specs.Deriving.{Item, terminal_of, Event, kept, Derives, empty, token, keeps, then, left, right}
+use Rattle.wc_syntax.specs.Deriving.{none, more, rule, Begins, nothing, begins-token, begins-keeps, in-first, in-second}
+use Rattle.wc_syntax.specs.Deriving.{in-left, in-right, in-item, in-later, in-rule}
 
 -- whether the tokens are all, or are cut off somewhere
 pub data Mode : Type 0 where

@@ -1,5 +1,6 @@
 -- The states of the parser: the tokens so far lead there.
-use Rattle.std.proofs.Common.{arith, ◌≡◌, ℕ, zero, suc, ◌+◌, Bool, true, false, cond, List, [], ◌∷◌, ◌++◌, Option, Some, None, refl, sym, ap, subst, ◌∙◌, append_assoc, append-nil, inl, inr}
+use Rattle.std.proofs.Common.{arith, ◌≡◌, ℕ, zero, suc, ◌+◌, Bool, true, false, cond, List, [], ◌∷◌, ◌++◌, Option, Some}
+use Rattle.std.proofs.Common.{None, refl, sym, ap, subst, ◌∙◌, append_assoc, append-nil, inl, inr}
 use Rattle.std.specs.Prelude.{◌&&◌, not}
 use Rattle.wc_syntax.specs.declared.role.Role.{Role}
 use Rattle.wc_syntax.specs.declared.place.Place.{Place}
@@ -14,7 +15,9 @@ use Rattle.wc_syntax.specs.Deriving.{Item, terminal_of, Event, kept}
 use Rattle.wc_syntax.specs.Table.{leads_to, is_end, resume}
 use Rattle.wc_syntax.proofs.Run.{Mode, Cut, Run, cut}
 use Rattle.wc_syntax.proofs.Edges.{keep}
-use Rattle.wc_syntax.proofs.Places.{left, front, over, is-open, means, said, led, entered, some, sound, sound-go, alike, at-bottom, limit-reached, valid, is-block, fits-in, leaves, leaves-valid}
+use Rattle.wc_syntax.proofs.Places.{left, front, over, is-open, means}
+use Rattle.wc_syntax.proofs.Validity.{valid, is-block, fits-in, leaves, leaves-valid}
+use Rattle.wc_syntax.proofs.Agreement.{said, led, entered, some, sound, sound-go, alike, at-bottom, limit-reached}
 use Rattle.wc_syntax.proofs.Machine.{Reads, Alts, step-out, step-in, leads, tag-out, tag-in, over-out, over-in}
 
 -- how many may be open in a body, where so many may be open in one in it

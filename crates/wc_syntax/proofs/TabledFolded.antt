@@ -3,7 +3,7 @@ use Rattle.std.proofs.Common.{ℕ, zero, suc, refl}
 use Rattle.wc_syntax.specs.declared.place.Place.{Place}
 use Rattle.wc_syntax.specs.declared.place.Place.TheVariants as place
 use Rattle.wc_syntax.specs.declared.place.Frame.TheVariants as frame
-use Rattle.wc_syntax.proofs.Places.{Tabled}
+use Rattle.wc_syntax.proofs.Agreement.{Tabled}
 
 pub tabled-Held : (d : ℕ) (p : Place) → Tabled d p frame.Held
 tabled-Held zero place.Done = record { agrees = refl; ends = refl; all-lead = refl }

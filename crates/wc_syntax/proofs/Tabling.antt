@@ -3,13 +3,17 @@ use Rattle.std.proofs.Common.{ℕ}
 use Rattle.wc_syntax.specs.declared.place.Place.{Place}
 use Rattle.wc_syntax.specs.declared.place.Frame.{Frame}
 use Rattle.wc_syntax.specs.declared.place.Frame.TheVariants as frame
-use Rattle.wc_syntax.proofs.Places.{Tabled}
-use Rattle.wc_syntax.proofs.TabledText.{tabled-Start, tabled-Fields, tabled-Module, tabled-Closed, tabled-Field, tabled-Described, tabled-Import}
-use Rattle.wc_syntax.proofs.TabledFields.{tabled-FuncStart, tabled-FuncImport, tabled-FuncHead, tabled-TableStart, tabled-TableImport, tabled-MemoryStart, tabled-MemoryImport, tabled-GlobalStart, tabled-GlobalImport}
+use Rattle.wc_syntax.proofs.Agreement.{Tabled}
+use Rattle.wc_syntax.proofs.TabledText.{tabled-Start, tabled-Fields, tabled-Module, tabled-Closed, tabled-Field}
+use Rattle.wc_syntax.proofs.TabledText.{tabled-Described, tabled-Import}
+use Rattle.wc_syntax.proofs.TabledFields.{tabled-FuncStart, tabled-FuncImport, tabled-FuncHead, tabled-TableStart}
+use Rattle.wc_syntax.proofs.TabledFields.{tabled-TableImport, tabled-MemoryStart, tabled-MemoryImport}
+use Rattle.wc_syntax.proofs.TabledFields.{tabled-GlobalStart, tabled-GlobalImport}
 use Rattle.wc_syntax.proofs.TabledSegments.{tabled-Elem, tabled-ElemTail, tabled-Elements, tabled-Data, tabled-Strings}
 use Rattle.wc_syntax.proofs.TabledOffsets.{tabled-Func, tabled-ElemOffset, tabled-DataOffset}
 use Rattle.wc_syntax.proofs.TabledBlocks.{tabled-Region, tabled-First, tabled-FoldedRegion}
-use Rattle.wc_syntax.proofs.TabledFolded.{tabled-Held, tabled-Asked, tabled-Then, tabled-Chosen, tabled-Else, tabled-Settled}
+use Rattle.wc_syntax.proofs.TabledFolded.{tabled-Held, tabled-Asked, tabled-Then, tabled-Chosen, tabled-Else}
+use Rattle.wc_syntax.proofs.TabledFolded.{tabled-Settled}
 
 pub tabled : (d : ℕ) (p : Place) (f : Frame) → Tabled d p f
 tabled d p frame.Start = tabled-Start d p

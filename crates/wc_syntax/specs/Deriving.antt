@@ -36,8 +36,8 @@ pub data Derives : Phrase → List Item → List Event → Type 0 where
   rule : {n : Nonterminal} {us : List Item} {es : List Event} → Derives (body n) us es → Derives (The n) us es
 
 -- `Begins g ts`: some sentence of g begins with the tokens ts. The empty list begins every phrase, and a token the one
--- that it is; tokens begin a sequence where they begin its first part, or are a sentence of that and then begin the rest;
--- a choice where they begin one of the two; and a repetition as the sequence of its items.
+-- that it is; tokens begin a sequence where they begin its first part, or are a sentence of that and then begin the
+-- rest; a choice where they begin one of the two; and a repetition as the sequence of its items.
 pub data Begins : Phrase → List Item → Type 0 where
   nothing : {a : Phrase} → Begins a []
   begins-token : {t : Terminal} {i : Item} → terminal_of i ≡ t → Begins (Token t) (i ∷ [])

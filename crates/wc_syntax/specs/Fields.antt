@@ -1,8 +1,11 @@
 -- The grammar of fields and of whole texts (Core 1.0, 6.6).
 use Rattle.std.specs.Prelude.{ℕ}
-use Rattle.wc_syntax.specs.declared.kind.Kind.TheVariants.{Close, Id, Name, Text, ModuleWord, TypeWord, ImportWord, FuncWord, TableWord, MemoryWord, GlobalWord, ExportWord, StartWord, ElemWord, DataWord, OffsetWord, FuncrefWord}
+use Rattle.wc_syntax.specs.declared.kind.Kind.TheVariants.{Close, Id, Name, Text, ModuleWord, TypeWord, ImportWord}
+use Rattle.wc_syntax.specs.declared.kind.Kind.TheVariants.{FuncWord, TableWord, MemoryWord, GlobalWord, ExportWord}
+use Rattle.wc_syntax.specs.declared.kind.Kind.TheVariants.{StartWord, ElemWord, DataWord, OffsetWord, FuncrefWord}
 use Rattle.wc_syntax.specs.declared.role.Role.TheVariants as role
-use Rattle.wc_syntax.specs.Phrases.{Phrase, Keep, ◌·◌, ◌∣◌, Many, The, token, Maybe, modulefield, offset, foldedinstr, export, local, typeuse}
+use Rattle.wc_syntax.specs.Phrases.{Phrase, Keep, ◌·◌, ◌∣◌, Many, The, token, Maybe, modulefield, offset, foldedinstr}
+use Rattle.wc_syntax.specs.Phrases.{export, local, typeuse}
 use Rattle.wc_syntax.specs.Types.{lp, rp, index, functype, limits, tabletype, globaltype}
 use Rattle.wc_syntax.specs.Instructions.{instrs}
 

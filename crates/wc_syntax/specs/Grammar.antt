@@ -1,5 +1,6 @@
 -- The grammar: what each rule says.
-use Rattle.wc_syntax.specs.Phrases.{Phrase, Nonterminal, text, modulefield, offset, instr, foldedinstr, export, local, typeuse, param, result}
+use Rattle.wc_syntax.specs.Phrases.{Phrase, Nonterminal, text, modulefield, offset, instr, foldedinstr, export, local}
+use Rattle.wc_syntax.specs.Phrases.{typeuse, param, result}
 use Rattle.wc_syntax.specs.Types.{param_body, result_body, local_body, typeuse_body}
 use Rattle.wc_syntax.specs.Instructions.{instr_body, foldedinstr_body}
 use Rattle.wc_syntax.specs.Fields.{export_body, offset_body, modulefield_body, text_body}

@@ -1,9 +1,12 @@
 -- The grammar of instructions (Core 1.0, 6.5; Core 2.0, 6.5, for block types).
 use Rattle.std.specs.Prelude.{ℕ, zero, suc}
-use Rattle.wc_syntax.specs.declared.kind.Kind.TheVariants.{Close, Id, Natural32, Natural64, Signed32, Signed64, MemOffset, MemAlign, Simple, Indexed, BrTable, CallIndirect, Access, Const32, Const64, Region, If, ThenWord, ElseWord, EndWord}
+use Rattle.wc_syntax.specs.declared.kind.Kind.TheVariants.{Close, Id, Natural32, Natural64, Signed32, Signed64}
+use Rattle.wc_syntax.specs.declared.kind.Kind.TheVariants.{MemOffset, MemAlign, Simple, Indexed, BrTable, CallIndirect}
+use Rattle.wc_syntax.specs.declared.kind.Kind.TheVariants.{Access, Const32, Const64, Region, If, ThenWord, ElseWord}
+use Rattle.wc_syntax.specs.declared.kind.Kind.TheVariants.{EndWord}
 use Rattle.wc_syntax.specs.declared.role.Role.{Role}
 use Rattle.wc_syntax.specs.declared.role.Role.TheVariants as role
-use Rattle.wc_syntax.specs.Phrases.{mark, Phrase, Token, Keep, ◌·◌, ◌∣◌, Many, The, token, Maybe, instr, foldedinstr, typeuse}
+use Rattle.wc_syntax.specs.Phrases.{mark, Phrase, Token, Keep, ◌·◌, ◌∣◌, Many, The, Maybe, instr, foldedinstr, typeuse}
 use Rattle.wc_syntax.specs.Types.{lp, rp, index}
 
 -- a literal of 32 bits, and one of 64 bits  (6.3.1, iN)

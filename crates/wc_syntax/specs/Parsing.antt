@@ -1,5 +1,5 @@
 -- What reading a text promises.
-use Rattle.std.specs.Prelude.{◌≡◌, ℕ, List, map}
+use Rattle.std.specs.Prelude.{ℕ, List, map}
 use Rattle.wc_syntax.specs.declared.kind.Kind.{Kind}
 use Rattle.wc_syntax.specs.declared.kept.Kept.{Kept}
 use Rattle.wc_syntax.specs.declared.refusal.Refusal.{Refusal}
@@ -14,10 +14,9 @@ event k = kept k.role (at k.at (word k.kind))
 abbrev pub events : List Kept → List Event
 events ks = map event ks
 
--- tokens of these kinds are a text, in which at most d instructions are nested, and these are all that are kept of them
-pub record Parsed (d : ℕ) (ks : List Kind) (es : List Event) : Type 0 where
-  pub derives : Derives (The (text d)) (numbered 0 ks) es
-  pub only : (fs : List Event) → Derives (The (text d)) (numbered 0 ks) fs → fs ≡ es
+-- tokens of these kinds are a text, in which at most d instructions are nested, and these are kept of them
+abbrev pub IsText : ℕ → List Kind → List Event → Type 0
+IsText d ks es = Derives (The (text d)) (numbered 0 ks) es
 
 -- it is the first fault, or memory was refused
 abbrev pub IsRefusal : ℕ → List Kind → Refusal → Type 0

@@ -1,7 +1,11 @@
 -- The first fault of a list of tokens, and why it is one.
 use Rattle.std.specs.Prelude.{◌≡◌, ℕ, ◌+◌, ◌≤◌, ◌<◌, List, [], ◌∷◌, ◌++◌, ◌⊎◌, take, drop, length}
 use Rattle.wc_syntax.specs.declared.kind.Kind.{Kind}
-use Rattle.wc_syntax.specs.declared.kind.Kind.TheVariants.{Open, Close, Id, Natural32, Natural64, Natural, Signed32, Signed64, Signed, Name, Text, MemOffset, MemOffsetRange, MemOffsetForm, MemAlign, MemAlignPower, MemAlignRange, MemAlignForm, Simple, Indexed, BrTable, CallIndirect, Access, Const32, Const64, Region, If, ValType, FloatType, FloatName}
+use Rattle.wc_syntax.specs.declared.kind.Kind.TheVariants.{Open, Close, Id, Natural32, Natural64, Natural, Signed32}
+use Rattle.wc_syntax.specs.declared.kind.Kind.TheVariants.{Signed64, Signed, Name, Text, MemOffset, MemOffsetRange}
+use Rattle.wc_syntax.specs.declared.kind.Kind.TheVariants.{MemOffsetForm, MemAlign, MemAlignPower, MemAlignRange}
+use Rattle.wc_syntax.specs.declared.kind.Kind.TheVariants.{MemAlignForm, Simple, Indexed, BrTable, CallIndirect, Access}
+use Rattle.wc_syntax.specs.declared.kind.Kind.TheVariants.{Const32, Const64, Region, If, ValType, FloatType, FloatName}
 use Rattle.wc_syntax.specs.declared.why.SynWhy.{SynWhy}
 use Rattle.wc_syntax.specs.declared.why.SynWhy.TheVariants as why
 use Rattle.wc_syntax.specs.Phrases.{Terminal, word, mark, The, text}
@@ -51,8 +55,8 @@ abbrev pub ReasonAt : ℕ → List Kind → ℕ → List Kind → SynWhy → Typ
 ReasonAt d ks p [] r = r ≡ why.End
 ReasonAt d ks p (k ∷ _) r = Why (May d ks p) (wrong k) r
 
--- The fault is the first token such that no text, in which at most d instructions are nested, begins with the tokens up to
--- and including it. Where there is none and the tokens are no text, it is the number of tokens.
+-- The fault is the first token such that no text, in which at most d instructions are nested, begins with the tokens
+-- up to and including it. Where there is none and the tokens are no text, it is the number of tokens.
 pub record FirstFault (d : ℕ) (ks : List Kind) (p : ℕ) (r : SynWhy) : Type 0 where
   pub within : p ≤ length ks
   pub before : Begins (The (text d)) (take p (numbered 0 ks))

@@ -1,5 +1,5 @@
 -- The table of the parser: what a token does where so much is left to read.
-use Rattle.std.specs.Prelude.{Bool, true, false, cond, ◌||◌, List, [], ◌∷◌, ◌++◌, Option, Some, None}
+use Rattle.std.specs.Prelude.{Bool, true, false, cond, List, [], ◌∷◌, Option, Some, None}
 use Rattle.wc_syntax.specs.declared.kind.Kind.{Kind}
 use Rattle.wc_syntax.specs.declared.kind.Kind.TheVariants as kind
 use Rattle.wc_syntax.specs.declared.role.Role.{Role}

@@ -1,8 +1,9 @@
 -- The grammar of types (Core 1.0, 6.4), of indices and of type uses (6.6.1 and 6.6.3).
-use Rattle.wc_syntax.specs.declared.kind.Kind.TheVariants.{Open, Close, Id, Natural32, FuncWord, TypeWord, ParamWord, ResultWord, LocalWord, MutWord, FuncrefWord, ValType}
+use Rattle.wc_syntax.specs.declared.kind.Kind.TheVariants.{Open, Close, Id, Natural32, FuncWord, TypeWord, ParamWord}
+use Rattle.wc_syntax.specs.declared.kind.Kind.TheVariants.{ResultWord, LocalWord, MutWord, FuncrefWord, ValType}
 use Rattle.wc_syntax.specs.declared.role.Role.{Role}
 use Rattle.wc_syntax.specs.declared.role.Role.TheVariants as role
-use Rattle.wc_syntax.specs.Phrases.{Phrase, Keep, ◌·◌, ◌∣◌, Many, The, token, Maybe, typeuse, param, result}
+use Rattle.wc_syntax.specs.Phrases.{Phrase, Keep, ◌·◌, ◌∣◌, Many, The, token, Maybe, param, result}
 
 -- "(" and ")"
 abbrev pub lp : Phrase

@@ -1,14 +1,15 @@
 //! The kept tokens of a text.
 
-ghost use Rattle.std.specs.Prelude.{◌≡◌, MatchResult};
-ghost use Rattle.wc_syntax.specs.Parsing.{events, Parsed, IsRefusal};
+ghost use Rattle.std.specs.Prelude.{◌≡◌, ◌⊎◌, ℕ, List, IfOk, IfErr, IsErrAnd, MatchResult};
+ghost use Rattle.wc_syntax.specs.Deriving.{Event};
+ghost use Rattle.wc_syntax.specs.Parsing.{events, IsText, IsRefusal};
+ghost use Rattle.wc_syntax.specs.Reasons.{FirstFault};
+ghost use Rattle.wc_syntax.specs.declared.why.SynWhy.{SynWhy as Reason};
 
 use crate::kind::Kind;
-use crate::place::{Frame, Move, Place};
-use crate::reason::reason_of;
+use crate::reading::Reading;
 use crate::refusal::Refusal;
 use crate::role::Role;
-use crate::table::{is_end, resume, step};
 use crate::why::SynWhy;
 use std::alloc::Global;
 
@@ -20,54 +21,23 @@ pub struct Kept {
     pub kind: Kind,
 }
 
-/// The kept tokens of a text with tokens of these kinds, in which at most `limit` instructions are nested in one
-/// another (Core 1.0, 6.4 to 6.6), or the first token that no such text has there.
-pub fn kept_tokens(alloc: Global, limit: usize, kinds: &[Kind]) -> Result<Vec<Kept>, Refusal>
-    ensures { MatchResult result (λ kept. Parsed limit kinds.now (events kept.items)) (λ r. IsRefusal limit kinds.now r) }
+/// The kept tokens, or the first fault.
+#[inline]
+fn kept_or_refusal(alloc: Global, limit: usize, kinds: &[Kind]) -> Result<Vec<Kept>, Refusal>
+    ensures { MatchResult result (λ kept. IsText limit kinds.now (events kept.items))
+        (λ r. IsRefusal limit kinds.now r) }
 {
-    let mut outer: Vec<Frame> = Vec::new(alloc);
+    let mut reading = Reading::new(alloc, limit);
     let mut kept: Vec<Kept> = Vec::new(alloc);
-    let mut place = Place::Done;
-    let mut frame = Frame::Start;
     let mut at: usize = 0;
     while at < kinds.len() {
         let kind = kinds[at];
-        // The text itself is the outermost frame.
-        let deep = outer.len().saturating_sub(1) >= limit;
-        let Some(action) = step(place, frame, deep, kind) else {
-            let why = reason_of(place, frame, deep, kind);
-            return Err(Refusal::Bad { token: at, why });
-        };
-        if let Some(role) = action.keep {
+        if let Some(role) = reading.take(at, kind)? {
             kept.push(Kept { role, at, kind })?;
-        }
-        match action.go {
-            Move::On(next) => {
-                place = next;
-            }
-            Move::Past(next) => {
-                place = next;
-                frame = resume(frame);
-            }
-            Move::Turn(next, turned) => {
-                place = next;
-                frame = turned;
-            }
-            Move::Into(next, inner) => {
-                outer.push(resume(frame))?;
-                place = next;
-                frame = inner;
-            }
-            Move::Out(next) => {
-                place = next;
-                if let Some(around) = outer.pop() {
-                    frame = around;
-                }
-            }
         }
         at += 1;
     }
-    if is_end(place, frame) {
+    if reading.is_text() {
         Ok(kept)
     } else {
         Err(Refusal::Bad {
@@ -75,4 +45,22 @@ pub fn kept_tokens(alloc: Global, limit: usize, kinds: &[Kind]) -> Result<Vec<Ke
             why: SynWhy::End,
         })
     }
+}
+
+/// The kept tokens of a text with tokens of these kinds, in which at most `limit` instructions are nested in one
+/// another (Core 1.0, 6.4 to 6.6), or the first token that no such text has there.
+///
+/// Plain blocks and folded instructions of every kind are nested in one another. The place of a fault is the number of
+/// its token, or the number of all tokens where one more has to follow. `Memory` comes only where memory was refused.
+pub fn kept_tokens(alloc: Global, limit: usize, kinds: &[Kind]) -> Result<Vec<Kept>, Refusal>
+    ensures kept { IfOk result (λ kept. IsText limit kinds.now (events kept.items)) }
+    ensures refusal { IfErr result (λ r. IsRefusal limit kinds.now r) }
+
+    // So the answer is what is kept exactly where the tokens are a text, and this fault exactly where it is the first.
+    ensures only { (es : List Event) → IsText limit kinds.now es
+        → MatchResult result (λ kept. events kept.items ≡ es) (λ r. r ≡ Refusal.Memory) }
+    ensures only_fault { (at : ℕ) (why : Reason) → FirstFault limit kinds.now at why
+        → IsErrAnd result (λ r. (r ≡ Refusal.Bad at why) ⊎ (r ≡ Refusal.Memory)) }
+{
+    kept_or_refusal(alloc, limit, kinds)
 }

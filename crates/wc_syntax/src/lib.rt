@@ -3,7 +3,9 @@
 
 mod kept;
 mod kind;
+mod laws;
 mod place;
+mod reading;
 mod reason;
 mod refusal;
 mod role;
@@ -12,7 +14,9 @@ mod why;
 
 pub use kept::{Kept, kept_tokens};
 pub use kind::Kind;
+pub use laws::{always_one, never_both, one_fault, one_list};
 pub use place::{Action, Frame, Move, Place};
+pub use reading::Reading;
 pub use reason::reason_of;
 pub use refusal::Refusal;
 pub use role::Role;

@@ -2,6 +2,22 @@
 #![tactic(auto)]
 
 #[cfg(test)]
-mod faults;
+mod asking;
+#[cfg(test)]
+mod examples;
+#[cfg(test)]
+mod fronts;
 #[cfg(test)]
 mod kinds;
+#[cfg(test)]
+mod nesting;
+#[cfg(test)]
+mod reading;
+#[cfg(test)]
+mod roles;
+#[cfg(test)]
+mod rows;
+#[cfg(test)]
+mod sentences;
+#[cfg(test)]
+mod words;

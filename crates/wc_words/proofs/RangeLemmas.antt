@@ -1,5 +1,6 @@
 -- What the value of each kind may be.
-use Rattle.std.proofs.Common.{◌≡◌, ℕ, ◌-◌, ◌%◌, ◌^◌, ◌<◌, ◌≤◌, ◌⊎◌, inl, inr, List, Option, Some, None, refl, sym, ap, subst, ◌∙◌, arith}
+use Rattle.std.proofs.Common.{◌≡◌, ℕ, ◌-◌, ◌%◌, ◌^◌, ◌<◌, ◌≤◌, ◌⊎◌, inl, inr, List, Option, Some, None, refl, sym, ap}
+use Rattle.std.proofs.Common.{subst, ◌∙◌, arith}
 use Rattle.std.proofs.lemmas.Bool.{cases_lt}
 use Rattle.wc_ops.specs.declared.op.Op.{Op}
 use Rattle.wc_ops.specs.declared.op.Op.TheVariants as op
@@ -16,7 +17,8 @@ use Rattle.wc_words.specs.Symbols.{bare}
 use Rattle.wc_words.specs.Numbers.{NaturalIs, below_32, below_64, above, HasSign, SignedIs, of_32, of_64, beyond}
 use Rattle.wc_words.specs.Numbers.{OffsetIs, offset_number, offset_range, offset_form}
 use Rattle.wc_words.specs.Numbers.{AlignIs, align_power, align_no_power, align_range, align_form}
-use Rattle.wc_words.specs.Names.{op_kind, keyword, KeywordIs, word, i32, i64, f32, f64, NameIs, keyword_is, instruction, float}
+use Rattle.wc_words.specs.Names.{op_kind, keyword, KeywordIs, word, i32, i64, f32, f64, NameIs, keyword_is, instruction}
+use Rattle.wc_words.specs.Names.{float}
 use Rattle.wc_words.specs.Words.{Says, natural, signed, offset, align, name, WordIs, known, other}
 use Rattle.wc_words.specs.Tokens.{StringIs, name as string_name, no_name, TokenIs}
 use Rattle.wc_words.specs.Ranges.{FitsKind}

@@ -1,5 +1,6 @@
 -- A word is one name.
-use Rattle.std.proofs.Common.{◌≡◌, ℕ, Bool, true, false, IsTrue, List, [], ◌∷◌, Option, Some, None, if◌then◌else◌, refl, sym, ap, subst, ◌∙◌, codes}
+use Rattle.std.proofs.Common.{◌≡◌, ℕ, Bool, true, false, IsTrue, List, [], ◌∷◌, Option, Some, None, if◌then◌else◌, refl}
+use Rattle.std.proofs.Common.{sym, ap, subst, ◌∙◌, codes}
 use Rattle.std.specs.Str.{bytes_eq}
 use Rattle.wc_ops.specs.declared.op.Op.{Op}
 use Rattle.wc_ops.specs.declared.op.Op.TheVariants as op
@@ -18,7 +19,8 @@ use Rattle.wc_syntax.specs.declared.kind.Kind.TheVariants as kind
 use Rattle.wc_words.specs.declared.symbol.Symbol.{Symbol}
 use Rattle.wc_words.specs.declared.symbol.Value.TheVariants.{Instruction, ValType}
 use Rattle.wc_words.specs.Symbols.{bare, valued}
-use Rattle.wc_words.specs.Names.{op_kind, keyword, KeywordIs, word, i32, i64, f32, f64, NameIs, keyword_is, instruction, float}
+use Rattle.wc_words.specs.Names.{op_kind, keyword, KeywordIs, word, i32, i64, f32, f64, NameIs, keyword_is, instruction}
+use Rattle.wc_words.specs.Names.{float}
 
 -- a keyword or the name of a type, with what it is
 record Entry : Type 0 where

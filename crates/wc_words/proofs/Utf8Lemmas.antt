@@ -1,10 +1,12 @@
 -- UTF-8 read byte by byte.
-use Rattle.std.proofs.Common.{◌≡◌, ℕ, ◌<◌, ◌≤◌, Bool, true, false, ◌↔◌, IsTrue, IsUtf8, List, [], ◌∷◌, ◌++◌, Option, Some, None}
+use Rattle.std.proofs.Common.{◌≡◌, ℕ, ◌<◌, ◌≤◌, Bool, true, false, ◌↔◌, IsTrue, IsUtf8, List, [], ◌∷◌, ◌++◌, Option}
+use Rattle.std.proofs.Common.{Some, None}
 use Rattle.std.proofs.Common.{◌⊎◌, refl, sym, ap, subst, ◌∙◌, inl, inr, arith}
 use Rattle.std.specs.Prelude.{⊤}
 use Rattle.std.proofs.lemmas.Bool.{cases_lt}
 use Rattle.std.proofs.lemmas.Bool.Decides.{nat_tests}
-use Rattle.simdutf8.specs.Steps.{IsContinuation, IsClosed, Step, first, second, later, Steps, StepsThen, least_after, most_after}
+use Rattle.simdutf8.specs.Steps.{IsContinuation, IsClosed, Step, first, second, later, Steps, StepsThen, least_after}
+use Rattle.simdutf8.specs.Steps.{most_after}
 use Rattle.simdutf8.specs.Tracks.{last_three}
 use Rattle.simdutf8.proofs.Chars.{StepsThen-IsUtf8}
 use Rattle.simdutf8.proofs.StepsLemmas.{StepsThen_parts, StepsThen-append}

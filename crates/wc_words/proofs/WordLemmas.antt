@@ -1,5 +1,6 @@
 -- What a word may say by its first characters.
-use Rattle.std.proofs.Common.{◌≡◌, ◌≢◌, ℕ, ◌<◌, ◌≤◌, nat_eq, nat_le, Bool, true, false, ◌||◌, IsTrue, List, [], ◌∷◌, ◌++◌, length, take, drop, codes, get_or, lit<, IsUtf8, if◌then◌else◌}
+use Rattle.std.proofs.Common.{◌≡◌, ◌≢◌, ℕ, ◌<◌, ◌≤◌, nat_eq, nat_le, Bool, true, false, ◌||◌, IsTrue, List, [], ◌∷◌}
+use Rattle.std.proofs.Common.{◌++◌, length, take, drop, codes, get_or, lit<, IsUtf8, if◌then◌else◌}
 use Rattle.std.proofs.Common.{Option, Some, None, refl, sym, ap, subst, ◌∙◌, ◌⊎◌, inl, inr, arith}
 use Rattle.std.specs.Str.{bytes_eq}
 use Rattle.std.specs.List.{starts_with}
@@ -26,7 +27,8 @@ use Rattle.wc_words.specs.declared.symbol.Symbol.{Symbol}
 use Rattle.wc_words.specs.declared.shape.Shape.{Shape}
 use Rattle.wc_words.specs.declared.shape.Shape.TheVariants as shape
 use Rattle.wc_words.specs.Symbols.{bare, OrOther}
-use Rattle.wc_words.specs.Numbers.{NaturalIs, below_32, below_64, above, HasSign, SignedIs, of_32, of_64, beyond, OffsetIs, AlignIs}
+use Rattle.wc_words.specs.Numbers.{NaturalIs, below_32, below_64, above, HasSign, SignedIs, of_32, of_64, beyond}
+use Rattle.wc_words.specs.Numbers.{OffsetIs, AlignIs}
 use Rattle.wc_words.specs.Names.{keyword, KeywordIs, word, i32, i64, f32, f64, NameIs, keyword_is, instruction, float}
 use Rattle.wc_words.specs.Words.{Says, natural, signed, offset, align, name, WordIs, known, other}
 use Rattle.wc_words.specs.Shapes.{shape_of}

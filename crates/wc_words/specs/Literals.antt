@@ -1,4 +1,4 @@
--- The numbers of constants (Core 1.0, 6.3.1 and 6.5.7).
+-- The numbers of constants (Core 1.0, 6.3.1 and 6.5.6).
 use Rattle.std.specs.Prelude.{◌≡◌, ℕ, ◌%◌, ◌^◌, List, ◌⊎◌}
 use Rattle.wc_tokens.specs.Standard.Numbers.{Signed, Literal, FitsBits, bits_of}
 use Rattle.wc_syntax.specs.declared.kind.Kind.TheVariants as kind
@@ -14,5 +14,6 @@ pub record IsLiteral32 (s : Symbol) (l : Signed) : Type 0 where
 
 -- a literal of 64 bits, whose bits are the value
 pub record IsLiteral64 (s : Symbol) (l : Signed) : Type 0 where
-  pub kind_is : ((s.kind ≡ kind.Natural32) ⊎ (s.kind ≡ kind.Natural64)) ⊎ ((s.kind ≡ kind.Signed32) ⊎ (s.kind ≡ kind.Signed64))
+  pub kind_is : ((s.kind ≡ kind.Natural32) ⊎ (s.kind ≡ kind.Natural64))
+      ⊎ ((s.kind ≡ kind.Signed32) ⊎ (s.kind ≡ kind.Signed64))
   pub value_is : s.value ≡ Number (bits_of 64 l)

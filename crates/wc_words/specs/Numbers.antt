@@ -1,4 +1,4 @@
--- Words that say a number, and what stands behind `offset=` and `align=` (Core 1.0, 6.3.1 and 6.5.4).
+-- Words that say a number, and what stands behind `offset=` and `align=` (Core 1.0, 6.3.1 and 6.5.5).
 use Rattle.std.specs.Prelude.{◌≡◌, ◌≢◌, ℕ, ◌^◌, ◌<◌, ◌≤◌, List}
 use Rattle.wc_tokens.specs.Standard.Numbers.{Natural, Signed, Unsigned, Plus, Minus, Literal, FitsBits, bits_of}
 use Rattle.wc_syntax.specs.declared.kind.Kind.TheVariants as kind
@@ -30,7 +30,8 @@ pub data SignedIs : List ℕ → Symbol → Type 0 where
 
 -- what stands behind `offset=`
 pub data OffsetIs : List ℕ → Symbol → Type 0 where
-  offset_number : {text : List ℕ} {n : ℕ} → Natural text n → n < 2 ^ 32 → OffsetIs text (valued kind.MemOffset (Offset n))
+  offset_number : {text : List ℕ} {n : ℕ} → Natural text n → n < 2 ^ 32
+      → OffsetIs text (valued kind.MemOffset (Offset n))
   offset_range : {text : List ℕ} {n : ℕ} → Natural text n → 2 ^ 32 ≤ n → OffsetIs text (bare kind.MemOffsetRange)
   offset_form : {text : List ℕ} → ((n : ℕ) → ¬ (Natural text n)) → OffsetIs text (bare kind.MemOffsetForm)
 

@@ -12,8 +12,8 @@ use crate::word::word;
 use wc_syntax::Kind;
 use wc_tokens::{Token, TokenKind};
 
-/// The kind and the value of a token (Core 1.0, 6.3, and 6.4 to 6.6 for the words). It is for a token whose text has the
-/// form of its kind, as each one of `lex` has. It takes no memory.
+/// The kind and the value of a token (Core 1.0, 6.3, and 6.4 to 6.6 for the words). It is for a token whose text has
+/// the form of its kind, as each one of `lex` has. It takes no memory.
 #[inline(always)]
 pub fn symbol_of(token: &Token<'_>) -> Symbol
     requires { HasForm token.now.kind token.now.text.now }

@@ -15,7 +15,8 @@ use Rattle.wc_tokens.specs.Standard.Faults.{Stuck}
 use Rattle.wc_tokens.specs.Reading.Heads.{LineEnds, RunEnds}
 use Rattle.wc_tokens.proofs.Comments.CommentLaws.{Inside-closed, not-closed}
 use Rattle.wc_tokens.proofs.Escapes.ElementLaws.{EndsElements-step, EndsElements-end, read_element-shorter}
-use Rattle.wc_tokens.proofs.Decided.HeadLaws.{BeginsToken, Gap-line, Stuck-semicolon, BeginsToken-open, BeginsToken-close}
+use Rattle.wc_tokens.proofs.Decided.HeadLaws.{BeginsToken, Gap-line, Stuck-semicolon, BeginsToken-open}
+use Rattle.wc_tokens.proofs.Decided.HeadLaws.{BeginsToken-close}
 use Rattle.wc_tokens.proofs.Decided.HeadLaws.{Gap-block, Stuck-block, BeginsToken-string, Stuck-string, Stuck-escape}
 use Rattle.wc_tokens.proofs.Decided.HeadLaws.{BeginsToken-id, BeginsToken-word, Gap-blank, Stuck-character}
 

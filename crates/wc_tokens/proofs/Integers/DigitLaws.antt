@@ -5,7 +5,8 @@ use Rattle.std.proofs.Math.Nat.{mul-le-mul_left}
 use Rattle.std.proofs.lemmas.Bool.{cases_lt, cases_eq}
 use Rattle.wc_tokens.specs.Standard.Digits.{digit_of, IsDigit, Digits, one, more, apart}
 use Rattle.wc_tokens.specs.Reading.Scans.{fitting, extended, scan}
-use Rattle.wc_tokens.proofs.Integers.Scans.{lt-true, lt-false, scan-digit, scan-apart, scan-other, scan-nothing, scan-end}
+use Rattle.wc_tokens.proofs.Integers.Scans.{lt-true, lt-false, scan-digit, scan-apart, scan-other, scan-nothing}
+use Rattle.wc_tokens.proofs.Integers.Scans.{scan-end}
 use Rattle.wc_tokens.proofs.Integers.Scans.{scan-none}
 
 -- one more digit of a number that fits or doesn't

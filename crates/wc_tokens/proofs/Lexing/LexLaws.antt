@@ -7,7 +7,8 @@ use Rattle.wc_tokens.specs.declared.token.TokenKind.{TokenKind}
 use Rattle.wc_tokens.specs.declared.token.TokenKind.TheVariants.{Open, Close, Id, Str, Word}
 use Rattle.wc_tokens.specs.declared.fault.LexWhy.{LexWhy}
 use Rattle.wc_tokens.specs.declared.fault.LexWhy.TheVariants.{NotUtf8, TooLong}
-use Rattle.wc_tokens.specs.Standard.Gaps.{Inside, nothing, other, semicolon, parenthesis, comment, Gap, blank, line, block}
+use Rattle.wc_tokens.specs.Standard.Gaps.{Inside, nothing, other, semicolon, parenthesis, comment, Gap, blank, line}
+use Rattle.wc_tokens.specs.Standard.Gaps.{block}
 use Rattle.wc_tokens.specs.Standard.Lexemes.{IsToken, Lexeme, place, spanned, Lexed, ended, gap, token, Lexes, longest}
 use Rattle.wc_tokens.specs.Standard.Faults.{Stuck, Stops, stuck, FirstFault, too_long, not_utf8, lexical}
 use Rattle.wc_tokens.specs.Standard.Faults as faults

@@ -7,7 +7,8 @@ use Rattle.std.specs.List.{AllByRecursion}
 use Rattle.wc_tokens.specs.declared.token.Token.{Token}
 use Rattle.wc_tokens.specs.declared.token.TokenKind.{TokenKind}
 use Rattle.wc_tokens.specs.declared.fault.LexWhy.{LexWhy}
-use Rattle.wc_tokens.specs.Standard.Gaps.{is_blank, Inside, nothing, other, semicolon, parenthesis, comment, Gap, blank, line}
+use Rattle.wc_tokens.specs.Standard.Gaps.{is_blank, Inside, nothing, other, semicolon, parenthesis, comment, Gap, blank}
+use Rattle.wc_tokens.specs.Standard.Gaps.{line}
 use Rattle.wc_tokens.specs.Standard.Gaps.{block}
 use Rattle.wc_tokens.specs.Standard.Lexemes.{Lexeme, place, spanned, Lexed, ended, gap, token, Lexes, longest}
 use Rattle.wc_tokens.specs.declared.fault.LexFault.{LexFault}

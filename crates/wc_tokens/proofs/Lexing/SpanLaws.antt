@@ -8,7 +8,8 @@ use Rattle.std.proofs.lemmas.List.{get_or_at}
 use Rattle.std.proofs.lemmas.Str.{IsCharBoundary-before_ascii, IsCharBoundary-after_ascii}
 use Rattle.wc_tokens.specs.declared.token.TokenKind.{TokenKind}
 use Rattle.wc_tokens.specs.declared.token.TokenKind.TheVariants.{Open, Close, Id, Str, Word}
-use Rattle.wc_tokens.specs.Standard.Lexemes.{is_idchar, IsIdchar, IsRun, HasForm, Lexeme, Lexed, ended, gap, token, longest}
+use Rattle.wc_tokens.specs.Standard.Lexemes.{is_idchar, IsIdchar, IsRun, HasForm, Lexeme, Lexed, ended, gap, token}
+use Rattle.wc_tokens.specs.Standard.Lexemes.{longest}
 use Rattle.wc_tokens.specs.Reading.Stops.{StandsIn}
 use Rattle.wc_tokens.specs.Standard.Tokens.{InOrder}
 use Rattle.wc_tokens.proofs.Lexing.LexLaws.{Gap-shorter}

@@ -5,7 +5,8 @@ use Rattle.wc_tokens.specs.Standard.Lexemes.{Lexed}
 use Rattle.wc_tokens.specs.Standard.Faults.{Stops}
 use Rattle.wc_tokens.specs.Standard.Tokens.{lexemes_of}
 use Rattle.wc_tokens.proofs.Lexing.LexLaws.{Gap-shorter}
-use Rattle.wc_tokens.proofs.Lexing.RunLaws.{IsReadTo-start, IsReadTo-gap, IsReadTo-blanks, blanks-shorter, IsReadTo-token}
+use Rattle.wc_tokens.proofs.Lexing.RunLaws.{IsReadTo-start, IsReadTo-gap, IsReadTo-blanks, blanks-shorter}
+use Rattle.wc_tokens.proofs.Lexing.RunLaws.{IsReadTo-token}
 use Rattle.wc_tokens.proofs.Lexing.RunLaws.{StandsIn-token, token-shorter, Lexed-end, InOrder-end, Stops-stuck}
 use Rattle.wc_tokens.proofs.lexer.tokens.Goals as goal
 

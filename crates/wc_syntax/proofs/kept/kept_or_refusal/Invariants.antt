@@ -1,12 +1,12 @@
-use Rattle.std.proofs.Common.{◌≤◌, ◌-◌, length}
+use Rattle.std.proofs.Common.{◌≤◌, ◌-◌, length, take}
 use Rattle.wc_syntax.specs.Parsing.{events}
-use Rattle.wc_syntax.proofs.Parses.{State}
-use Rattle.wc_syntax.proofs.kept.kept_tokens.Given as goal
+use Rattle.wc_syntax.specs.Reading.{IsRead}
+use Rattle.wc_syntax.proofs.kept.kept_or_refusal.Given as goal
 
 abbrev pub invariant-loop-at : goal.invariant-loop-at
 invariant-loop-at l = record {
   within : l.at ≤ length l.kinds;
-  state : State l.limit l.kinds l.at l.outer.items l.place l.frame (events l.kept.items);
+  read : IsRead l.limit (take l.at l.kinds) (events l.kept.items) l.reading;
 }
 
 abbrev pub decreases-loop-at : goal.decreases-loop-at

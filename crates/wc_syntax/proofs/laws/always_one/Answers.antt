@@ -1,0 +1,5 @@
+use Rattle.wc_syntax.proofs.Exactness.{always-one}
+use Rattle.wc_syntax.proofs.laws.always_one.Goals as goal
+
+pub returns : goal.returns
+returns c = always-one

@@ -1,0 +1,73 @@
+//! What is kept of a text, and in which role.
+
+use crate::asking::kinds_of;
+use std::alloc::AllocError;
+use std::test::Fail;
+use wc_syntax::Role::*;
+use wc_syntax::{Refusal, Role, kept_tokens};
+
+/// The roles of the tokens that are kept of a text, with their numbers; none of what is no text.
+fn roles_of(rt: &HostRuntime, text: &str) -> Result<Vec<(usize, Role)>, AllocError> {
+    let mut roles = Vec::new(rt.alloc());
+    match kept_tokens(rt.alloc(), 2, &kinds_of(rt, text)?) {
+        Ok(kept) => {
+            for token in &kept {
+                roles.push((token.at, token.role))?;
+            }
+            Ok(roles)
+        }
+        Err(Refusal::Bad { .. }) => Ok(roles),
+        Err(Refusal::Memory) => Err(AllocError),
+    }
+}
+
+#[test]
+fn folded_if(rt: HostRuntime) -> Result<(), Fail> {
+    let roles = roles_of(&rt, "( func ( if $a ( nop ) ( then br 0 ) ( else nop ) ) )")?;
+    assert_eq!(rt;
+        roles.as_slice(),
+        [
+            (1, Field),
+            (3, HeldBegin),
+            (4, Label),
+            (6, HeldPlain),
+            (7, HeldEnd),
+            (9, Then),
+            (10, Plain),
+            (11, Index),
+            (14, Else),
+            (15, Plain),
+            (17, End),
+            (18, FieldEnd),
+        ]
+        .as_slice()
+    );
+    Ok(())
+}
+
+#[test]
+fn segments(rt: HostRuntime) -> Result<(), Fail> {
+    let roles = roles_of(
+        &rt,
+        "( table $a funcref ( elem 0 ) ) ( data 0 ( i32.const 0 ) \"a\" )",
+    )?;
+    assert_eq!(rt;
+        roles.as_slice(),
+        [
+            (1, Field),
+            (2, FieldId),
+            (5, Segment),
+            (6, Element),
+            (8, FieldEnd),
+            (10, Field),
+            (11, Target),
+            (13, HeldPlain),
+            (14, Literal),
+            (15, HeldEnd),
+            (16, Bytes),
+            (17, FieldEnd),
+        ]
+        .as_slice()
+    );
+    Ok(())
+}
