@@ -1,0 +1,5 @@
+mod HeadLemmas
+pub mod SizeLemmas
+mod Meanings
+mod OpenLemmas
+mod InstrLemmas

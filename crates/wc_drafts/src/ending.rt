@@ -1,0 +1,31 @@
+//! Where a body ends.
+
+ghost use Rattle.std.specs.Prelude.{◌≡◌, IfOk, OnOk};
+ghost use Rattle.wc_body.specs.Standard.Draft.{whole};
+ghost use Rattle.wc_drafts.specs.Standard.Ending.{all_closed};
+
+use crate::saying::end_in;
+use std::alloc::AllocError;
+use wc_surface::{CodeBuilder, TextCode};
+
+/// The instructions, once all that is open has ended. The error is want of memory.
+pub(crate) fn all_closed(code: CodeBuilder) -> Result<TextCode, AllocError>
+    ensures { IfOk result (λ text. text ≡ all_closed code.around code.last) }
+{
+    let mut code = code;
+    close_all(&mut code)?;
+    match code.finish() {
+        Ok(text) => Ok(text),
+        Err(_) => unreachable!(),
+    }
+}
+
+/// Ends all that is open. The error is want of memory.
+fn close_all(code: &mut CodeBuilder) -> Result<(), AllocError>
+    ensures { OnOk result (code.new ≡ whole (all_closed code.old.around code.old.last)) }
+{
+    for _ in 0..code.depth() {
+        end_in(code)?;
+    }
+    Ok(())
+}

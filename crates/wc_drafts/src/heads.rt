@@ -1,0 +1,80 @@
+//! Heads of blocks that are being said.
+
+ghost use Rattle.std.specs.Prelude.{◌≡◌, [], ◌∷◌, ◌++◌, OnOk};
+ghost use Rattle.wc_drafts.specs.Standard.Heads.{with_else_id, with_end_id};
+
+use std::alloc::{AllocError, Global};
+use std::marker::Model;
+use wc_ast::List;
+use wc_surface::{Head, Id};
+
+/// The heads of a body so far. A contract sees them as a list.
+#[derive(Debug, Drop)]
+pub struct Heads<'a> {
+    items: Vec<Head<'a>>,
+}
+
+impl<'a> Model for Heads<'a> {
+    ghost use Rattle.std.specs.Prelude.{List as Seq};
+    ghost use Rattle.wc_surface.specs.declared.head.Head.{Head};
+
+    ghost Value = { Seq Head };
+
+    ghost view = { λ heads. heads.items.items };
+}
+
+impl<'a> Heads<'a> {
+    ghost use Rattle.wc_drafts.specs.Standard.Words.{place_behind};
+
+    /// None so far. It takes no memory.
+    pub fn new(alloc: Global) -> Heads<'a>
+        ensures { result ≡ [] }
+    {
+        Heads {
+            items: Vec::new(alloc),
+        }
+    }
+
+    /// Adds a head at the end. The error is want of memory.
+    pub fn push(&mut self, head: Head<'a>) -> Result<(), AllocError>
+        ensures { OnOk result (self.new ≡ self.old ++ head.entry ∷ []) }
+    {
+        self.items.push(head)?;
+        Ok(())
+    }
+
+    /// The place that the next head will have, as 32 bits hold it.
+    pub fn place_behind(&self) -> u32
+        ensures { result ≡ place_behind self.now }
+    {
+        crate::row::low_32(self.items.as_slice().len())
+    }
+
+    /// Puts the identifier behind `else` into the head of this place.
+    pub fn set_else_id(&mut self, place: u32, id: Id<'a>)
+        ensures { self.new ≡ with_else_id self.old place id.entry }
+    {
+        let place = place as usize;
+        if place < self.items.len() {
+            self.items[place].else_id = Some(id);
+        }
+    }
+
+    /// Puts the identifier behind `end` into the head of this place.
+    pub fn set_end_id(&mut self, place: u32, id: Id<'a>)
+        ensures { self.new ≡ with_end_id self.old place id.entry }
+    {
+        let place = place as usize;
+        if place < self.items.len() {
+            self.items[place].end_id = Some(id);
+        }
+    }
+
+    /// The heads, with the memory that they stand in.
+    pub fn into_list(self) -> List<Head<'a>>
+        ensures { result ≡ self.entry }
+    {
+        let Heads { items } = self;
+        List::from_vec(items)
+    }
+}

@@ -1,0 +1,43 @@
+//! What holds of what is said. Each function only states its law: it does nothing.
+
+ghost use Rattle.std.specs.Prelude.{◌≡◌, ℕ, ◌≤◌, ◌+◌, List, [], length};
+ghost use Rattle.wc_syntax.specs.declared.role.Role.{Role};
+ghost use Rattle.wc_syntax.specs.Phrases.{The, foldedinstr};
+ghost use Rattle.wc_syntax.specs.Instructions.{instrs};
+ghost use Rattle.wc_syntax.specs.Deriving.{Item, Event, Derives};
+ghost use Rattle.wc_body.specs.Standard.Nested.{nesting_limit};
+ghost use Rattle.wc_body.specs.Standard.Draft.{Frame};
+ghost use Rattle.wc_surface.specs.declared.instr.TextInstr.{TextInstr};
+ghost use Rattle.wc_surface.specs.Standard.Sizes.{body_size};
+ghost use Rattle.wc_drafts.specs.declared.body_draft.BodyDraft.{BodyDraft};
+ghost use Rattle.wc_drafts.specs.declared.held.Held.{Held};
+ghost use Rattle.wc_drafts.specs.declared.use_draft.UseDraft.{UseDraft};
+ghost use Rattle.wc_drafts.specs.declared.word.Word.{Word};
+ghost use Rattle.wc_drafts.specs.Standard.Uses.{take_use};
+ghost use Rattle.wc_drafts.specs.Standard.Taking.{take};
+ghost use Rattle.wc_drafts.specs.Standard.Ending.{nothing_said, ended};
+ghost use Rattle.wc_drafts.specs.Standard.Sizes.{said_size};
+ghost use Rattle.wc_drafts.specs.Standard.Derived.{AreWords, take_all, Leaves};
+
+/// One more kept token adds no more than one parameter to a type use, and no more than one to the type uses and
+/// parameters of a body. At first there are none, and the end adds none.
+pub fn one_token_adds_one()
+    ensures params { (u : UseDraft) (r : Role) (w : Word) → length (take_use u r w).params ≤ length u.params + 1 }
+    ensures body { (d : BodyDraft) (r : Role) (w : Word) → said_size (take d r w) ≤ said_size d + 1 }
+    ensures first { said_size nothing_said ≡ 0 }
+    ensures end { (d : BodyDraft) → body_size (ended d) ≤ said_size d }
+{}
+
+/// Behind the instructions of a derivation stands open, and waits, what stood open and waited before them: so behind a
+/// whole body nothing does.
+pub fn instructions_close_what_they_open()
+    ensures instrs { (depth : ℕ) (items : List Item) (es : List Event) (words : ℕ → Word) (d : BodyDraft)
+        (around : List (Frame TextInstr ℕ)) (held : List Held) (blocks : List ℕ)
+        → Derives (instrs depth) items es → AreWords words es → length around + depth ≤ nesting_limit
+        → Leaves d around held blocks → Leaves (take_all words d es) around held blocks }
+    ensures folded { (depth : ℕ) (items : List Item) (es : List Event) (words : ℕ → Word) (d : BodyDraft)
+        (around : List (Frame TextInstr ℕ)) (held : List Held) (blocks : List ℕ)
+        → Derives (The (foldedinstr depth)) items es → AreWords words es → length around + depth ≤ nesting_limit
+        → Leaves d around held blocks → Leaves (take_all words d es) around held blocks }
+    ensures first { Leaves nothing_said [] [] [] }
+{}

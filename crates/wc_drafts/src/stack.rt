@@ -1,0 +1,58 @@
+//! Stacks.
+
+ghost use Rattle.std.specs.Prelude.{◌≡◌, [], ◌∷◌, List, OnOk, MatchOption};
+
+use std::alloc::{AllocError, Global};
+use std::marker::Model;
+
+/// A stack. A contract sees the items, the last one first.
+#[derive(Debug, Drop)]
+pub struct Stack<T> {
+    items: Vec<T>,
+}
+
+impl<T> Model for Stack<T> {
+    ghost use Rattle.std.specs.Prelude.{List, reverse};
+
+    ghost Value = { List T };
+
+    ghost view = { λ stack. reverse stack.items.items };
+}
+
+impl<T: Drop> Stack<T> {
+    /// Nothing so far. It takes no memory.
+    pub fn new(alloc: Global) -> Stack<T>
+        ensures { result ≡ [] }
+    {
+        Stack {
+            items: Vec::new(alloc),
+        }
+    }
+
+    /// Puts an item on top. The error is want of memory.
+    #[inline(always)]
+    pub fn push(&mut self, item: T) -> Result<(), AllocError>
+        ensures { OnOk result (self.new ≡ item ∷ self.old) }
+    {
+        self.items.push(item)?;
+        Ok(())
+    }
+
+    /// Takes the item on top.
+    #[inline(always)]
+    pub fn pop(&mut self) -> Option<T>
+        ensures { MatchOption result ((self.old ≡ []) × (self.new ≡ [])) (λ item. self.old ≡ item ∷ self.new) }
+    {
+        self.items.pop()
+    }
+}
+
+impl<T: Copy> Stack<T> {
+    /// The item on top.
+    #[inline(always)]
+    pub fn top(&self) -> Option<T>
+        ensures { MatchOption result (self.now ≡ []) (λ item. (rest : List T) × (self.now ≡ item ∷ rest)) }
+    {
+        self.items.last().copied()
+    }
+}

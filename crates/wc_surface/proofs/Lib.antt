@@ -1,0 +1,3 @@
+pub mod KeyLemmas
+mod DraftLemmas
+mod LocalLemmas

@@ -1,0 +1,2 @@
+-- How the logic stores the values that contracts see.
+pub mod Codes

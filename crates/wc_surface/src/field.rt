@@ -1,0 +1,151 @@
+//! The fields of a text, other than segments.
+
+use crate::head::TextBody;
+use crate::id::{Id, Index};
+use crate::local::TextLocals;
+use crate::segment::{DataField, ElemField};
+use crate::signature::Signature;
+use crate::type_use::{ParamName, TypeUse};
+use wc_ast::{ExportKind, GlobalType, Limits, List, Name};
+
+/// A field (Core 1.0, 6.6.13).
+#[derive(Debug, Drop)]
+pub enum Field<'a> {
+    FuncType(TypeField<'a>),
+    Import(ImportField<'a>),
+    Func(FuncField<'a>),
+    Table(TableField<'a>),
+    Memory(MemoryField<'a>),
+    Global(GlobalField<'a>),
+    Export(ExportField<'a>),
+    Start(StartField<'a>),
+    Elem(ElemField<'a>),
+    Data(DataField<'a>),
+}
+
+/// A type (Core 1.0, 6.6.2).
+#[derive(Debug, Drop)]
+pub struct TypeField<'a> {
+    pub id: Option<Id<'a>>,
+    pub signature: Signature,
+    /// The identifiers of parameters, in the order of the parameters.
+    pub names: List<ParamName<'a>>,
+}
+
+/// What an import asks for.
+#[derive(Debug, Drop)]
+pub struct ImportNames {
+    /// The number of the word `import`.
+    pub token: u32,
+    /// The name of the module.
+    pub module: Name,
+    /// The name in that module.
+    pub item: Name,
+}
+
+/// An import (Core 1.0, 6.6.4).
+#[derive(Debug, Drop)]
+pub struct ImportField<'a> {
+    pub names: ImportNames,
+    pub id: Option<Id<'a>>,
+    pub desc: ImportDesc<'a>,
+}
+
+/// What an import brings (Core 1.0, 6.6.4).
+#[derive(Debug, Drop)]
+pub enum ImportDesc<'a> {
+    Func(TypeUse<'a>),
+    Table(Limits),
+    Memory(Limits),
+    Global(GlobalType),
+}
+
+/// A function (Core 1.0, 6.6.5).
+#[derive(Debug, Drop)]
+pub struct FuncField<'a> {
+    pub id: Option<Id<'a>>,
+    /// The names under which it is exported.
+    pub exports: List<Name>,
+    pub ty: TypeUse<'a>,
+    pub desc: FuncDesc<'a>,
+}
+
+/// How a function is given.
+#[derive(Debug, Drop)]
+pub enum FuncDesc<'a> {
+    Import(ImportNames),
+    Code {
+        locals: TextLocals<'a>,
+        body: TextBody<'a>,
+    },
+}
+
+/// A table (Core 1.0, 6.6.6).
+#[derive(Debug, Drop)]
+pub struct TableField<'a> {
+    pub id: Option<Id<'a>>,
+    /// The names under which it is exported.
+    pub exports: List<Name>,
+    pub desc: TableDesc<'a>,
+}
+
+/// How a table is given.
+#[derive(Debug, Drop)]
+pub enum TableDesc<'a> {
+    Import(ImportNames, Limits),
+    Limits(Limits),
+    /// Its size and its first elements are those of this list of functions.
+    Elems(List<Index<'a>>),
+}
+
+/// A memory (Core 1.0, 6.6.7).
+#[derive(Debug, Drop)]
+pub struct MemoryField<'a> {
+    pub id: Option<Id<'a>>,
+    /// The names under which it is exported.
+    pub exports: List<Name>,
+    pub desc: MemoryDesc,
+}
+
+/// How a memory is given.
+#[derive(Debug, Drop)]
+pub enum MemoryDesc {
+    Import(ImportNames, Limits),
+    Limits(Limits),
+    /// Its size and its first content are those of these bytes.
+    Bytes(List<u8>),
+}
+
+/// A global (Core 1.0, 6.6.8).
+#[derive(Debug, Drop)]
+pub struct GlobalField<'a> {
+    pub id: Option<Id<'a>>,
+    /// The names under which it is exported.
+    pub exports: List<Name>,
+    pub ty: GlobalType,
+    pub desc: GlobalDesc<'a>,
+}
+
+/// How a global is given.
+#[derive(Debug, Drop)]
+pub enum GlobalDesc<'a> {
+    Import(ImportNames),
+    /// Its first value.
+    Init(TextBody<'a>),
+}
+
+/// An export (Core 1.0, 6.6.9).
+#[derive(Debug, Drop)]
+pub struct ExportField<'a> {
+    pub name: Name,
+    pub kind: ExportKind,
+    pub index: Index<'a>,
+}
+
+/// The start function (Core 1.0, 6.6.10).
+#[derive(Debug, Drop)]
+pub struct StartField<'a> {
+    /// The number of the word `start`.
+    pub token: u32,
+    pub index: Index<'a>,
+}

@@ -1,0 +1,31 @@
+//! What a text says before its names are resolved: its fields, with identifiers where the text has them.
+#![tactic(auto)]
+
+pub mod code;
+pub mod code_builder;
+pub mod field;
+pub mod head;
+pub mod id;
+pub mod instr;
+pub mod law;
+pub mod local;
+pub mod segment;
+pub mod signature;
+pub mod surface;
+pub mod type_use;
+
+pub use crate::code::{TextCode, TextEntry};
+pub use crate::code_builder::CodeBuilder;
+pub use crate::field::{
+    ExportField, Field, FuncDesc, FuncField, GlobalDesc, GlobalField, ImportDesc, ImportField,
+    ImportNames, MemoryDesc, MemoryField, StartField, TableDesc, TableField, TypeField,
+};
+pub use crate::head::{Head, HeadType, TextBody};
+pub use crate::id::{Id, Index};
+pub use crate::instr::{Operand, TextInstr};
+pub use crate::law::one_key;
+pub use crate::local::{Local, LocalGroup, TextLocals};
+pub use crate::segment::{DataField, ElemField};
+pub use crate::signature::Signature;
+pub use crate::surface::Surface;
+pub use crate::type_use::{ParamName, TypeUse, User};

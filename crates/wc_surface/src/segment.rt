@@ -1,0 +1,24 @@
+//! Element and data segments.
+
+use crate::head::TextBody;
+use crate::id::Index;
+use wc_ast::List;
+
+/// An element segment (Core 1.0, 6.6.11).
+#[derive(Debug, Drop)]
+pub struct ElemField<'a> {
+    /// Its table, where one is named.
+    pub table: Option<Index<'a>>,
+    pub offset: TextBody<'a>,
+    pub funcs: List<Index<'a>>,
+}
+
+/// A data segment (Core 1.0, 6.6.12).
+#[derive(Debug, Drop)]
+pub struct DataField<'a> {
+    /// Its memory, where one is named.
+    pub memory: Option<Index<'a>>,
+    pub offset: TextBody<'a>,
+    /// What its strings stand for, one behind the other.
+    pub bytes: List<u8>,
+}

@@ -1,0 +1,5 @@
+//! The tests of `wc_surface`, over its public items.
+#![tactic(auto)]
+
+#[cfg(test)]
+mod tests;
