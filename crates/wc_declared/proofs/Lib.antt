@@ -1,0 +1,9 @@
+pub mod Faults
+pub mod Adding
+pub mod Ordering
+pub mod Growing
+pub mod Naming
+pub mod Beyond
+pub mod Staging
+pub mod ImportsFirst
+pub mod ReadBack

@@ -1,0 +1,5 @@
+-- What private functions speak of.
+pub mod Found
+pub mod Seen
+pub mod Rest
+pub mod Declaring

@@ -1,0 +1,134 @@
+//! The order of fields.
+
+ghost use Rattle.std.specs.Prelude.{◌≡◌, false};
+ghost use Rattle.wc_spaces.specs.Standard.Least.{least_from};
+ghost use Rattle.wc_declared.specs.Standard.Order.{func_sort, table_sort, memory_sort, global_sort, late, late_after};
+ghost use Rattle.wc_declared.specs.Standard.Order.{second, second_after, defines, starts};
+
+use wc_spaces::Noted;
+use wc_surface::{Field, FuncDesc, GlobalDesc, MemoryDesc, TableDesc};
+use wc_targets::NameWhy;
+
+/// What the order of fields asks of a field (Core 1.0, 6.6.13).
+#[derive(Clone, Copy, Debug, PartialEq, Eq)]
+pub enum Sort {
+    /// An import, inline too, with the number of its word.
+    Import(u32),
+    /// A function, a table, a memory or a global that is no import.
+    Definition,
+    /// A start function, with the number of its word.
+    Start(u32),
+    Other,
+}
+
+fn sort_of_func(desc: &FuncDesc<'_>) -> Sort
+    ensures { result ≡ func_sort desc.now }
+{
+    match desc {
+        FuncDesc::Import(names) => Sort::Import(names.token),
+        FuncDesc::Code { .. } => Sort::Definition,
+    }
+}
+
+fn sort_of_table(desc: &TableDesc<'_>) -> Sort
+    ensures { result ≡ table_sort desc.now }
+{
+    match desc {
+        TableDesc::Import(names, _) => Sort::Import(names.token),
+        TableDesc::Limits(_) | TableDesc::Elems(_) => Sort::Definition,
+    }
+}
+
+fn sort_of_memory(desc: &MemoryDesc) -> Sort
+    ensures { result ≡ memory_sort desc.now }
+{
+    match desc {
+        MemoryDesc::Import(names, _) => Sort::Import(names.token),
+        MemoryDesc::Limits(_) | MemoryDesc::Bytes(_) => Sort::Definition,
+    }
+}
+
+fn sort_of_global(desc: &GlobalDesc<'_>) -> Sort
+    ensures { result ≡ global_sort desc.now }
+{
+    match desc {
+        GlobalDesc::Import(names) => Sort::Import(names.token),
+        GlobalDesc::Init(_) => Sort::Definition,
+    }
+}
+
+fn sort_of(field: &Field<'_>) -> Sort
+    ensures { result ≡ Rattle.wc_declared.specs.Standard.Order.sort_of field.now }
+{
+    match field {
+        Field::Import(import) => Sort::Import(import.names.token),
+        Field::Func(func) => sort_of_func(&func.desc),
+        Field::Table(table) => sort_of_table(&table.desc),
+        Field::Memory(memory) => sort_of_memory(&memory.desc),
+        Field::Global(global) => sort_of_global(&global.desc),
+        Field::Start(start) => Sort::Start(start.token),
+        Field::FuncType(_) | Field::Export(_) | Field::Elem(_) | Field::Data(_) => Sort::Other,
+    }
+}
+
+/// Notes an import, where a definition was seen.
+fn judge_late(seen: bool, sort: Sort, noted: &mut Noted<NameWhy>)
+    ensures { noted.new.first ≡ least_from noted.old.first (late seen sort) }
+{
+    match (seen, sort) {
+        (true, Sort::Import(token)) => noted.note(token, NameWhy::LateImport),
+        _ => {}
+    }
+}
+
+/// Notes a start, where one was seen.
+fn judge_second(seen: bool, sort: Sort, noted: &mut Noted<NameWhy>)
+    ensures { noted.new.first ≡ least_from noted.old.first (second seen sort) }
+{
+    match (seen, sort) {
+        (true, Sort::Start(token)) => noted.note(token, NameWhy::SecondStart),
+        _ => {}
+    }
+}
+
+fn is_definition(sort: Sort) -> bool
+    ensures { result ≡ defines sort }
+{
+    match sort {
+        Sort::Definition => true,
+        Sort::Import(_) | Sort::Start(_) | Sort::Other => false,
+    }
+}
+
+fn is_start(sort: Sort) -> bool
+    ensures { result ≡ starts sort }
+{
+    match sort {
+        Sort::Start(_) => true,
+        Sort::Import(_) | Sort::Definition | Sort::Other => false,
+    }
+}
+
+/// Notes each import behind a definition.
+pub(crate) fn note_late(fields: &[Field<'_>], noted: &mut Noted<NameWhy>)
+    ensures { noted.new.first ≡ least_from noted.old.first (late_after false fields.now) }
+{
+    let mut seen = false;
+    for field in fields {
+        let sort = sort_of(field);
+        judge_late(seen, sort, noted);
+        seen = seen | is_definition(sort);
+    }
+}
+
+/// Notes each start behind another.
+pub(crate) fn note_second(fields: &[Field<'_>], noted: &mut Noted<NameWhy>)
+    ensures { noted.new.first ≡ least_from noted.old.first (second_after false fields.now) }
+{
+    let mut seen = false;
+    for field in fields {
+        let sort = sort_of(field);
+        judge_second(seen, sort, noted);
+        seen = seen | is_start(sort);
+    }
+}

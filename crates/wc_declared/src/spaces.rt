@@ -1,0 +1,111 @@
+//! Index spaces.
+
+ghost use Rattle.std.specs.Prelude.{◌≡◌, ◌<◌, ◌≤◌, ◌+◌, ◌++◌, ◌∷◌, [], ◌^◌, ℕ, List, Option, IfOk, OnOk, length};
+ghost use Rattle.wc_spaces.specs.Standard.Least.{least_from};
+ghost use Rattle.wc_spaces.specs.Kept.Spaces.{IsSpace, size_of};
+ghost use Rattle.wc_declared.specs.Standard.Spaces.{brings, declares, space as all_declared, texts, repeated_after};
+ghost use Rattle.wc_declared.specs.Standard.Spaces.{repeated, text_in};
+ghost use Rattle.wc_declared.specs.Kept.Found.{id_in, found};
+
+use crate::kind::SpaceKind;
+use std::alloc::{AllocError, Global};
+use wc_spaces::{Noted, Space};
+use wc_surface::{Field, Id, ImportDesc};
+use wc_targets::NameWhy;
+
+/// What an import declares in the index space: nothing, or one thing with this identifier.
+fn brought<'a>(
+    kind: SpaceKind,
+    desc: &'a ImportDesc<'a>,
+    id: &'a Option<Id<'a>>,
+) -> Option<Option<&'a Id<'a>>>
+    ensures { found result ≡ brings kind desc.now id.now }
+{
+    match (kind, desc) {
+        (SpaceKind::Func, ImportDesc::Func(_)) => Some(id.as_ref()),
+        (SpaceKind::Table, ImportDesc::Table(_)) => Some(id.as_ref()),
+        (SpaceKind::Memory, ImportDesc::Memory(_)) => Some(id.as_ref()),
+        (SpaceKind::Global, ImportDesc::Global(_)) => Some(id.as_ref()),
+        _ => None,
+    }
+}
+
+/// What a field declares in the index space: nothing, or one thing with an identifier or none.
+fn declared<'a>(kind: SpaceKind, field: &'a Field<'a>) -> Option<Option<&'a Id<'a>>>
+    ensures { found result ≡ declares kind field.now }
+{
+    match (kind, field) {
+        (SpaceKind::Type, Field::FuncType(ty)) => Some(ty.id.as_ref()),
+        (_, Field::Import(import)) => brought(kind, &import.desc, &import.id),
+        (SpaceKind::Func, Field::Func(func)) => Some(func.id.as_ref()),
+        (SpaceKind::Table, Field::Table(table)) => Some(table.id.as_ref()),
+        (SpaceKind::Memory, Field::Memory(memory)) => Some(memory.id.as_ref()),
+        (SpaceKind::Global, Field::Global(global)) => Some(global.id.as_ref()),
+        _ => None,
+    }
+}
+
+/// Adds one declaration, with this identifier or with none.
+fn add_one<'a>(
+    space: &mut Space<'a>,
+    id: Option<&'a Id<'a>>,
+    noted: &mut Noted<NameWhy>,
+) -> Result<(), AllocError>
+    requires { size_of space.old + 1 < 2 ^ 32 }
+    ensures space { (ds : List (Option (List ℕ))) → IsSpace ds space.old
+        → OnOk result (IsSpace (ds ++ text_in (id_in id.entry) ∷ []) space.new) }
+    ensures noted { (ds : List (Option (List ℕ))) → IsSpace ds space.old
+        → OnOk result (noted.new.first ≡ least_from noted.old.first (repeated_after ds (id_in id.entry ∷ []))) }
+    ensures size { OnOk result (size_of space.new ≡ size_of space.old + 1) }
+{
+    match id {
+        None => {
+            space.add_unnamed();
+            Ok(())
+        }
+        Some(id) => space.add_named(
+            id.token(),
+            id.text().as_bytes(),
+            NameWhy::DuplicateId,
+            noted,
+        ),
+    }
+}
+
+/// Adds what a field declares.
+fn add_found<'a>(
+    space: &mut Space<'a>,
+    declared: Option<Option<&'a Id<'a>>>,
+    noted: &mut Noted<NameWhy>,
+) -> Result<(), AllocError>
+    requires { size_of space.old + 1 < 2 ^ 32 }
+    ensures space { (ds : List (Option (List ℕ))) → IsSpace ds space.old
+        → OnOk result (IsSpace (ds ++ texts (found declared.entry)) space.new) }
+    ensures noted { (ds : List (Option (List ℕ))) → IsSpace ds space.old
+        → OnOk result (noted.new.first ≡ least_from noted.old.first (repeated_after ds (found declared.entry))) }
+    ensures size { OnOk result (size_of space.new ≤ size_of space.old + 1) }
+{
+    match declared {
+        None => Ok(()),
+        Some(id) => add_one(space, id, noted),
+    }
+}
+
+/// All that the fields declare in the index space. What has the identifier of one before it is noted.
+pub fn space<'a>(
+    alloc: Global,
+    kind: SpaceKind,
+    fields: &'a [Field<'a>],
+    noted: &mut Noted<NameWhy>,
+) -> Result<Space<'a>, AllocError>
+    requires { length fields.now < 2 ^ 32 }
+    ensures space { IfOk result (λ space. IsSpace (texts (all_declared kind fields.now)) space) }
+    ensures noted { OnOk result (noted.new.first
+        ≡ least_from noted.old.first (repeated (all_declared kind fields.now))) }
+{
+    let mut space = Space::new(alloc);
+    for field in fields {
+        add_found(&mut space, declared(kind, field), noted)?;
+    }
+    Ok(space)
+}

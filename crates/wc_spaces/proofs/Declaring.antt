@@ -1,0 +1,45 @@
+-- One more declaration.
+use Rattle.std.proofs.Common.{◌≡◌, ℕ, ◌+◌, Bool, true, false, not, cond, List, [], ◌∷◌, ◌++◌, length, Option, Some}
+use Rattle.std.proofs.Common.{None, is_some, refl, sym, ap, ◌∙◌, arith, length-append}
+use Rattle.std.specs.List.{list_any, position_from}
+use Rattle.std.specs.Str.{bytes_eq}
+use Rattle.wc_spaces.specs.declared.noted.Fault.{Fault}
+use Rattle.wc_spaces.specs.declared.space.Space.{Space}
+use Rattle.wc_spaces.specs.Kept.Places.{place_in}
+use Rattle.wc_spaces.specs.Kept.Spaces.{IsSpace, size_of}
+use Rattle.wc_spaces.specs.Standard.Least.{earlier, least_from}
+use Rattle.wc_spaces.specs.Standard.Spaces.{is_named, place_of, duplicate}
+use Rattle.wc_spaces.proofs.FirstStays.{kept}
+use Rattle.wc_spaces.proofs.Positions.{position-push, position-any}
+
+pub unnamed : (ds : List (Option (List ℕ))) (old new : Space) → IsSpace ds old
+    → ((q : List ℕ) → place_in new.places q ≡ place_in old.places q) → size_of new ≡ size_of old + 1
+    → IsSpace (ds ++ None ∷ []) new
+unnamed ds old new w h e = record {
+  placed = λ q. h q ∙ w.placed q ∙ kept (place_of q ds) ∙ sym (position-push (is_named q) 0 (length ds) ds None (omega arith));
+  counted = omega (arith, e, w.counted, length-append ds (None ∷ []));
+}
+
+pub named : (ds : List (Option (List ℕ))) (old new : Space) (text : List ℕ) → IsSpace ds old
+    → ((q : List ℕ) → place_in new.places q
+    ≡ cond (is_some (place_in old.places q)) (place_in old.places q) (cond (bytes_eq text q) (Some (size_of old)) None))
+    → size_of new ≡ size_of old + 1
+    → IsSpace (ds ++ Some text ∷ []) new
+named ds old new text w h e = record {
+  placed = λ q. h q
+      ∙ ap (λ (o : Option ℕ). cond (is_some o) o (cond (bytes_eq text q) (Some (size_of old)) None)) (w.placed q)
+      ∙ sym (position-push (is_named q) 0 (size_of old) ds (Some text) (omega (arith, w.counted)));
+  counted = omega (arith, e, w.counted, length-append ds (Some text ∷ []));
+}
+
+module _ {W : Type 0} (first now : Option (Fault W)) (f : Fault W) where
+  told_by : (b told : Bool) → told ≡ not b → now ≡ cond told first (earlier first f) → now ≡ least_from first (cond b (f ∷ []) [])
+  told_by true told e g = rw e at g
+  told_by false told e g = rw e at g
+
+  -- the fault of a text that one before it has
+  pub told-fault : (ds : List (Option (List ℕ))) (text : List ℕ) (old : Space) (told : Bool) → IsSpace ds old
+      → told ≡ not (is_some (place_in old.places text)) → now ≡ cond told first (earlier first f)
+      → now ≡ least_from first (cond (list_any (is_named text) ds) (f ∷ []) [])
+  told-fault ds text old told w e g = told_by (list_any (is_named text) ds) told
+      (e ∙ ap (λ (o : Option ℕ). not (is_some o)) (w.placed text) ∙ ap (λ b. not b) (position-any (is_named text) 0 ds)) g

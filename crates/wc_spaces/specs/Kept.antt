@@ -1,0 +1,5 @@
+-- What is kept of places, spaces, labels and types.
+pub mod Places
+pub mod Spaces
+pub mod Labels
+pub mod Types

@@ -1,0 +1,96 @@
+//! Rows worked out by hand from the standard.
+
+use std::alloc::{AllocError, Global};
+use std::test::Fail;
+use wc_spaces::{Labels, Noted, Places, Space, Types};
+
+/// The place of a name and how many are declared, of `$a`, one with no name, `$b` and `$a`, in this order.
+fn declared(alloc: Global, name: &[u8]) -> Result<(Option<u32>, u32), AllocError> {
+    let mut noted = Noted::nothing();
+    let mut space = Space::new(alloc);
+    space.add_named(3, b"$a", 2u8, &mut noted)?;
+    space.add_unnamed();
+    space.add_named(9, b"$b", 2u8, &mut noted)?;
+    space.add_named(12, b"$a", 2u8, &mut noted)?;
+    Ok((space.place(name), space.len()))
+}
+
+#[test]
+fn a_name_has_the_place_of_its_first_declaration(rt: HostRuntime) -> Result<(), Fail> {
+    assert!(rt; declared(rt.alloc(), b"$a")? == (Some(0), 4));
+    assert!(rt; declared(rt.alloc(), b"$b")? == (Some(2), 4));
+    assert!(rt; declared(rt.alloc(), b"$")? == (None, 4));
+    Ok(())
+}
+
+/// The token that is noted where `$a` stands at the first of these tokens, and then at the others.
+fn noted_of(alloc: Global, first: u32, second: u32, third: u32) -> Result<Option<u32>, AllocError> {
+    let mut noted = Noted::nothing();
+    let mut space = Space::new(alloc);
+    space.add_named(first, b"$a", 2u8, &mut noted)?;
+    space.add_named(second, b"$a", 2u8, &mut noted)?;
+    space.add_named(third, b"$a", 2u8, &mut noted)?;
+    match noted.first {
+        Some(fault) => Ok(Some(fault.token)),
+        None => Ok(None),
+    }
+}
+
+#[test]
+fn the_fault_is_that_of_the_least_token(rt: HostRuntime) -> Result<(), Fail> {
+    assert!(rt; noted_of(rt.alloc(), 3, 12, 20)? == Some(12));
+    assert!(rt; noted_of(rt.alloc(), 3, 20, 12)? == Some(12));
+    Ok(())
+}
+
+/// The places of `$a` inside a block `$a`, a block with no label, `$b` and `$a`, before and after the innermost ends.
+fn places_of_a(alloc: Global) -> Result<(Option<u32>, Option<u32>), AllocError> {
+    let mut labels = Labels::new(alloc);
+    labels.enter(Some(b"$a"))?;
+    labels.enter(None)?;
+    labels.enter(Some(b"$b"))?;
+    labels.enter(Some(b"$a"))?;
+    let inside = labels.place(b"$a");
+    labels.leave();
+    Ok((inside, labels.place(b"$a")))
+}
+
+#[test]
+fn a_label_is_the_innermost(rt: HostRuntime) -> Result<(), Fail> {
+    assert!(rt; places_of_a(rt.alloc())? == (Some(0), Some(2)));
+    Ok(())
+}
+
+/// The index of the type of this key behind types of the keys `7F`, `7E` and `7E`, and how many there are then.
+fn index_behind(alloc: Global, key: &[u8]) -> Result<(u32, usize), AllocError> {
+    let mut types = Types::new(alloc);
+    types.add(b"\x7f")?;
+    types.add(b"\x7e")?;
+    types.add(b"\x7e")?;
+    let index = types.find_or_add(key)?;
+    Ok((index, types.len()))
+}
+
+#[test]
+fn a_type_has_the_smallest_index(rt: HostRuntime) -> Result<(), Fail> {
+    assert!(rt; index_behind(rt.alloc(), b"\x7e")? == (1, 3));
+    assert!(rt; index_behind(rt.alloc(), b"")? == (3, 4));
+    Ok(())
+}
+
+/// What is left of the place of a text that was put, put again and added.
+fn put_twice(alloc: Global) -> Result<(bool, Option<u32>, Option<u32>), AllocError> {
+    let mut places = Places::new(alloc);
+    places.put(b"x", 4)?;
+    places.put(b"x", 5)?;
+    let is_new = places.add(b"x", 6)?;
+    let place = places.place(b"x");
+    places.remove(b"x");
+    Ok((is_new, place, places.place(b"x")))
+}
+
+#[test]
+fn a_text_has_the_place_that_was_put(rt: HostRuntime) -> Result<(), Fail> {
+    assert!(rt; put_twice(rt.alloc())? == (false, Some(5), None));
+    Ok(())
+}

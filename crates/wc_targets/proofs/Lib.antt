@@ -1,0 +1,3 @@
+pub mod Listing
+pub mod Shapes
+pub mod Walking
