@@ -27,7 +27,8 @@ use Rattle.wc_print.specs.Printable.{is_run, AreApart}
 use Rattle.wc_print.specs.Lines.{type_item, type_use_items, block_items, number_items}
 use Rattle.wc_print.specs.Lines.{instr_rest, mark_items, body_items, expr_items}
 use Rattle.wc_print.specs.Layout.{values_items, type_items, max_items, limits_items, global_type_items, desc_items}
-use Rattle.wc_print.specs.Layout.{import_items, func_items, table_items, memory_items, global_items, export_items, start_items}
+use Rattle.wc_print.specs.Layout.{import_items, func_items, table_items, memory_items, global_items, export_items}
+use Rattle.wc_print.specs.Layout.{start_items}
 use Rattle.wc_print.specs.Layout.{place_items, elem_items, data_items, field_items, layout}
 
 -- the items may stand behind anything, and before what may stand behind a run

@@ -1,14 +1,17 @@
 -- A printed text has the tokens that it was printed from.
-use Rattle.std.proofs.Common.{◌≡◌, ℕ, zero, suc, ◌/◌, ◌%◌, ◌<◌, ◌≤◌, nat_lt, Bool, true, false, ◌&&◌, if◌then◌else◌, List, [], ◌∷◌, ◌++◌, length, refl, arith, IsUtf8}
+use Rattle.std.proofs.Common.{◌≡◌, ℕ, zero, suc, ◌/◌, ◌%◌, ◌<◌, ◌≤◌, nat_lt, Bool, true, false, ◌&&◌, if◌then◌else◌}
+use Rattle.std.proofs.Common.{List, [], ◌∷◌, ◌++◌, length, refl, arith, IsUtf8}
 use Rattle.std.specs.List.{AllByRecursion, flat_map, list_all}
 use Rattle.std.specs.Fmt.{decimal, signed_decimal}
 use Rattle.std.proofs.lemmas.Str.{IsUtf8-from_ascii}
 use Rattle.std.proofs.lemmas.Str.Ascii.{IsAscii-from_all}
 use Rattle.std.proofs.lemmas.List.Elements.{All-from_recursion}
 use Rattle.wc_tokens.specs.Standard.Gaps.{BeginsNot, blank}
-use Rattle.wc_tokens.specs.Standard.Lexemes.{is_idchar, HasForm, MayPrecede, BeginsNoIdchar, Lexeme, Lexed, ended, gap, token, Lexes, longest}
+use Rattle.wc_tokens.specs.Standard.Lexemes.{is_idchar, HasForm, MayPrecede, BeginsNoIdchar, Lexeme, Lexed, ended, gap}
+use Rattle.wc_tokens.specs.Standard.Lexemes.{token, Lexes, longest}
 use Rattle.wc_print.specs.Printed.{Printed, opening, closing, word, number, integer, part, quoted, hex, stands, escaped}
-use Rattle.wc_print.specs.Printed.{spelled, kind_of, Item, next, after, below, spaces, gap_of, token_of, text, lexemes_in, lexemes}
+use Rattle.wc_print.specs.Printed.{spelled, kind_of, Item, next, after, below, spaces, gap_of, token_of, text}
+use Rattle.wc_print.specs.Printed.{lexemes_in, lexemes}
 use Rattle.wc_print.specs.Printable.{IsByte, is_letter, is_word, IsSpelled, AreSpelled, is_run, AreApart, IsPrintable}
 use Rattle.wc_print.proofs.ReadStrings.{IsString-escaped}
 use Rattle.wc_print.proofs.Words.{word-append, letters, word-decimal, word-signed, IsRun-word}

@@ -1,5 +1,6 @@
 -- Value types as they are put.
-use Rattle.std.proofs.Common.{◌≡◌, ◌≢◌, ℕ, zero, suc, ◌-◌, ◌<◌, ◌≤◌, ◌==◌, Bool, true, false, not, List, [], ◌∷◌, ◌++◌, map, replicate, length, refl, ap}
+use Rattle.std.proofs.Common.{◌≡◌, ◌≢◌, ℕ, zero, suc, ◌-◌, ◌<◌, ◌≤◌, ◌==◌, Bool, true, false, not, List, [], ◌∷◌, ◌++◌}
+use Rattle.std.proofs.Common.{map, replicate, length, refl, ap}
 use Rattle.std.proofs.Common.{sub-one, arith}
 use Rattle.std.specs.Prelude.{Result, OnOk, is_ok, if◌then◌else◌}
 use Rattle.wc_ops.specs.declared.val_type.ValType.{ValType}

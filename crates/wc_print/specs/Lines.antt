@@ -11,7 +11,8 @@ use Rattle.wc_body.specs.declared.entry.Kind.{Kind}
 use Rattle.wc_body.specs.declared.entry.Kind.TheVariants as kinds
 use Rattle.wc_ops.specs.declared.op.Op.TheVariants as ops
 use Rattle.wc_ops.specs.Standard.Opcodes.{row, memory}
-use Rattle.wc_body.specs.Standard.Nested.{Region, block, loop, Code, Mark, plain, begin, begin_if, otherwise, close, flatten}
+use Rattle.wc_body.specs.Standard.Nested.{Region, block, loop, Code, Mark, plain, begin, begin_if, otherwise, close}
+use Rattle.wc_body.specs.Standard.Nested.{flatten}
 use Rattle.wc_print.specs.Printed.{Printed, opening, closing, word, number, integer, part, Item, next, after, below}
 
 -- ` i32` (6.4.1)
@@ -29,7 +30,7 @@ block_items block_types.Empty = []
 block_items (block_types.Value t) = after opening ∷ next (word (codes "result")) ∷ type_item t ∷ next closing ∷ []
 block_items (block_types.Index n) = type_use_items n
 
--- ` offset=4`, unless it is zero (6.5.4)
+-- ` offset=4`, unless it is zero (6.5.5)
 abbrev pub offset_items : ℕ → List Item
 offset_items n = if n == 0 then [] else after (part (codes "offset=") n) ∷ []
 
@@ -40,7 +41,7 @@ bytes_of (suc zero) = 2
 bytes_of (suc (suc zero)) = 4
 bytes_of (suc (suc (suc n))) = 8
 
--- ` align=1`, unless it is the natural one (6.5.4)
+-- ` align=1`, unless it is the natural one (6.5.5)
 abbrev pub align_items : ℕ → ℕ → List Item
 align_items natural a = if a == natural then [] else after (part (codes "align=") (bytes_of a)) ∷ []
 

@@ -15,7 +15,7 @@ use crate::lines::{head_line, index_line, memory_line, simple_line};
 use crate::numbers::{put_integer, put_natural, put_number};
 use crate::types::{put_result, put_type_use};
 use std::alloc::AllocError;
-use wc_ast::{BlockType, Body, Entry, Instr, Kind, Labels, MemArg, MemOp};
+use wc_ast::{BlockType, Body, BodyRef, Entry, Instr, Kind, Labels, MemArg, MemOp};
 
 /// Where an instruction stands.
 #[derive(Clone, Copy)]
@@ -165,7 +165,7 @@ fn put_entry(out: &mut Vec<u8>, place: Place, entry: Entry<'_>) -> Result<(), Al
 
 /// The instructions of a body.
 #[inline(always)]
-fn put_entries(out: &mut Vec<u8>, place: Place, body: &Body) -> Result<(), AllocError>
+fn put_entries(out: &mut Vec<u8>, place: Place, body: &BodyRef<'_>) -> Result<(), AllocError>
     ensures { let items = flat_map (mark_items (item_at place)) (flatten body.now) in
         OnOk result (Put items out.old.items out.new.items) }
 {
@@ -177,7 +177,7 @@ fn put_entries(out: &mut Vec<u8>, place: Place, body: &Body) -> Result<(), Alloc
 }
 
 /// The instructions of a function, each on a line.
-pub fn put_lines(out: &mut Vec<u8>, body: &Body) -> Result<(), AllocError>
+pub fn put_lines(out: &mut Vec<u8>, body: &BodyRef<'_>) -> Result<(), AllocError>
     ensures { OnOk result (Put (body_items body.now) out.old.items out.new.items) }
 {
     put_entries(out, Place::Line, body)
@@ -187,5 +187,5 @@ pub fn put_lines(out: &mut Vec<u8>, body: &Body) -> Result<(), AllocError>
 pub fn put_inline(out: &mut Vec<u8>, body: &Body) -> Result<(), AllocError>
     ensures { OnOk result (Put (expr_items body.now) out.old.items out.new.items) }
 {
-    put_entries(out, Place::Inline, body)
+    put_entries(out, Place::Inline, &body.as_ref())
 }

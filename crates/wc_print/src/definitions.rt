@@ -9,18 +9,27 @@ use crate::bodies::{put_inline, put_lines};
 use crate::field::Field;
 use crate::types::{put_global_type, put_limits, put_locals, put_type_use};
 use std::alloc::AllocError;
-use wc_ast::{Func, Global, Limits};
+use wc_ast::{FuncRef, Funcs, Global, Limits};
 
-impl Field for Func {
-    ghost items = { func_items };
+fn put_func(out: &mut Vec<u8>, func: &FuncRef<'_>) -> Result<(), AllocError>
+    ensures { OnOk result (Put (func_items func.now) out.old.items out.new.items) }
+{
+    out.extend_from_slice(b"\n  (func")?;
+    put_type_use(out, func.ty())?;
+    put_locals(out, func.locals())?;
+    put_lines(out, func.body())?;
+    out.extend_from_slice(b"\n  )")
+}
 
-    fn put(&self, out: &mut Vec<u8>) -> Result<(), AllocError> {
-        out.extend_from_slice(b"\n  (func")?;
-        put_type_use(out, self.ty)?;
-        put_locals(out, &self.locals)?;
-        put_lines(out, &self.body)?;
-        out.extend_from_slice(b"\n  )")
+/// The functions.
+pub fn put_funcs(out: &mut Vec<u8>, funcs: &Funcs) -> Result<(), AllocError>
+    ensures { OnOk result (Put (flat_map func_items funcs.now) out.old.items out.new.items) }
+{
+    let mut left = funcs.iter();
+    while let Some(func) = left.next() {
+        put_func(out, &func)?;
     }
+    Ok(())
 }
 
 fn put_table(out: &mut Vec<u8>, limits: Limits) -> Result<(), AllocError>

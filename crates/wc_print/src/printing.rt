@@ -6,7 +6,7 @@ ghost use Rattle.wc_print.specs.Printed.{text};
 ghost use Rattle.wc_print.specs.Printable.{IsPrintable, Put};
 ghost use Rattle.wc_print.specs.Layout.{field_items, layout};
 
-use crate::definitions::{put_memories, put_tables};
+use crate::definitions::{put_funcs, put_memories, put_tables};
 use crate::field::put_all;
 use crate::segments::put_start;
 use std::alloc::{AllocError, Global};
@@ -18,7 +18,7 @@ fn put_fields(out: &mut Vec<u8>, module: &Module) -> Result<(), AllocError>
 {
     put_all(out, module.types.as_slice())?;
     put_all(out, module.imports.as_slice())?;
-    put_all(out, module.funcs.as_slice())?;
+    put_funcs(out, &module.funcs)?;
     put_tables(out, module.tables.as_slice())?;
     put_memories(out, module.mems.as_slice())?;
     put_all(out, module.globals.as_slice())?;
@@ -28,8 +28,9 @@ fn put_fields(out: &mut Vec<u8>, module: &Module) -> Result<(), AllocError>
     put_all(out, module.datas.as_slice())
 }
 
-/// The text of a module (Core 1.0, chapter 6), in the layout of `docs/FORMAT.md`. Every module has one, whatever rule it
-/// breaks, and `printed_lexes` says which tokens it has. It takes memory for the text alone. The error is want of memory.
+/// The text of a module (Core 1.0, chapter 6), in the layout of `docs/FORMAT.md`. Every module has one, whatever rule
+/// it breaks, and `printed_lexes` says which tokens it has. It takes memory for the text alone. The error is want of
+/// memory.
 pub fn print(alloc: Global, module: &Module) -> Result<String, AllocError>
     ensures layout { IfOk result (λ it. string_bytes it ≡ text (layout module.now)) }
     ensures printable { IfOk result (λ it. IsPrintable (layout module.now)) }

@@ -10,7 +10,7 @@ ghost use Rattle.wc_ast.specs.Standard.LocalGroups.{written_out};
 use crate::field::Field;
 use crate::numbers::put_number;
 use std::alloc::AllocError;
-use wc_ast::{FuncType, GlobalType, Group, Limits, Locals, ValType};
+use wc_ast::{FuncType, GlobalType, Group, Limits, LocalsRef, ValType};
 
 fn value_text(value_type: ValType) -> &'static str
     ensures { result.now ≡ printed (type_item value_type ∷ []) }
@@ -87,7 +87,7 @@ fn put_groups(out: &mut Vec<u8>, groups: &[Group]) -> Result<(), AllocError>
 }
 
 /// The declared locals, if there are any.
-pub fn put_locals(out: &mut Vec<u8>, locals: &Locals) -> Result<(), AllocError>
+pub fn put_locals(out: &mut Vec<u8>, locals: &LocalsRef<'_>) -> Result<(), AllocError>
     ensures { OnOk result (Put (values_items (codes "local") locals.now) out.old.items out.new.items) }
 {
     if locals.len() == 0 {

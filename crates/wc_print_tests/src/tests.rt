@@ -1,0 +1,7 @@
+mod bodies;
+mod checks;
+mod inputs;
+mod modules;
+mod nesting;
+mod printing;
+mod strings;

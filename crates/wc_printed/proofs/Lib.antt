@@ -1,0 +1,10 @@
+pub mod Utf8Bytes
+pub mod Each
+pub mod Symbols
+pub mod Meaning
+pub mod Parts
+pub mod Codes
+pub mod Whole
+pub mod Same
+pub mod Told
+pub mod Standing

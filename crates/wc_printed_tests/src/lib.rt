@@ -1,0 +1,5 @@
+//! The tests of `wc_printed`, over its public items.
+#![tactic(auto)]
+
+#[cfg(test)]
+mod tests;

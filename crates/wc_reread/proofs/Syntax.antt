@@ -1,0 +1,92 @@
+-- The printed text says its fields.
+use Rattle.std.proofs.Common.{◌≡◌, ℕ, suc, List, [], ◌∷◌, map, drop, refl, sym, ap, subst, Option, Some, None, length, arith}
+use Rattle.std.specs.List.{AllByRecursion}
+use Rattle.wc_ast.specs.declared.module.Module.{Module}
+use Rattle.wc_body.specs.Standard.Nested.{nesting_limit}
+use Rattle.wc_tokens.specs.Standard.Lexemes.{Lexeme, spanned}
+use Rattle.wc_syntax.specs.declared.role.Role.{Role}
+use Rattle.wc_print.specs.Printed.{Printed, opening, closing, word, number, integer, part, quoted, kind_of, spelled, text}
+use Rattle.wc_print.specs.Printed.{Item as Place, token_of, lexemes_in, lexemes}
+use Rattle.wc_print.specs.Printable.{IsSpelled, AreSpelled, IsPrintable}
+use Rattle.wc_print.specs.Layout.{layout}
+use Rattle.wc_print.proofs.ReadStrings.{IsString-escaped}
+use Rattle.wc_printed.specs.Signs.{Sign}
+use Rattle.wc_printed.specs.Fields.{signs}
+use Rattle.wc_printed.specs.Fitting.{Fits}
+use Rattle.wc_printed.specs.Kept.{Said, said_before, said_from, event_of, kinds_of, kinds, events}
+use Rattle.wc_printed.proofs.Symbols.{Says}
+use Rattle.wc_printed.proofs.Meaning.{IsSign}
+use Rattle.wc_printed.proofs.Same.{tokens_of, whole as same}
+use Rattle.wc_printed.proofs.Told.{head, tail}
+use Rattle.wc_printed.proofs.Standing.{past}
+use Rattle.wc_printed.proofs.Whole.{module-means}
+use Rattle.wc_text.specs.Standard.Texts.{Item}
+use Rattle.wc_text.specs.Standard.Meaning.{Each, none, more, HasKind, StandsFor, IsItem, Syn}
+use Rattle.wc_reread.specs.Items.{bytes_in, item_as, item_before, items_from, items}
+use Rattle.wc_reread.specs.Surface.{text_fields}
+use Rattle.wc_reread.proofs.Whole.{whole}
+
+stands-for : (p : Printed) → IsSpelled p → StandsFor (kind_of p) (spelled p) (bytes_in p)
+stands-for opening h = refl
+stands-for closing h = refl
+stands-for (word w) h = refl
+stands-for (number n) h = refl
+stands-for (integer z) h = refl
+stands-for (part w n) h = refl
+stands-for (quoted bytes) h = IsString-escaped bytes h
+
+have-kinds : (size : ℕ) (places : List Place) (ss : List Sign) → map token_of places ≡ tokens_of ss
+    → AllByRecursion IsSign ss → Each HasKind (lexemes_in size places) (kinds_of ss)
+have-kinds size [] [] e h = none
+have-kinds size [] (s ∷ ss) e h = absurd cc
+have-kinds size (i ∷ places) [] e h = absurd cc
+have-kinds size (i ∷ places) (s ∷ ss) e h =
+    more (s.symbol, subst (λ (p : Printed). Says p s.symbol) (sym (ap head e)) h.0, refl)
+    (have-kinds size places ss (ap tail e) h.1)
+
+module _ (addresses : ℕ → ℕ × ℕ) (ts : List Lexeme) where
+  before : (r : Option Role) (n : ℕ) (s : Sign) (later : List Said) (is : List Item)
+      → ((r : Role) → IsItem ts (event_of (record { role = r; at = n; symbol = s.symbol; text = spelled s.token }))
+      (item_as addresses r n s))
+      → Each (IsItem ts) (map event_of later) is
+      → Each (IsItem ts) (map event_of (said_before r n s later)) (item_before addresses r n s is)
+  before None n s later is h k = k
+  before (Some r) n s later is h k = more (h r) k
+
+  are-items : (size n : ℕ) (places : List Place) (ss : List Sign) → drop n ts ≡ lexemes_in size places
+      → map token_of places ≡ tokens_of ss → AllByRecursion IsSign ss → AreSpelled places
+      → Each (IsItem ts) (map event_of (said_from n ss)) (items_from addresses n ss)
+  are-items size n [] [] e f h k = none
+  are-items size n [] (s ∷ ss) e f h k = absurd cc
+  are-items size n (i ∷ places) [] e f h k = none
+  are-items size n (i ∷ places) (s ∷ ss) e f h k =
+      let p = token_of i in
+      before s.role n s (said_from (suc n) ss) (items_from addresses (suc n) ss)
+      (λ r. record {
+        lexeme = spanned size (kind_of p) (spelled p) (text places);
+        rest = lexemes_in size places;
+        stands = e;
+        event = refl;
+        symbol = subst (λ (q : Printed). Says q s.symbol) (sym (ap head f)) h.0;
+        text = ap spelled (sym (ap head f));
+        bytes = subst (λ (q : Printed). StandsFor (kind_of p) (spelled p) (bytes_in q)) (ap head f) (stands-for p k.0);
+      })
+      (are-items size (suc n) places ss (past ts n _ _ e) (ap tail f) h.1 k.1)
+
+-- the addresses of the bytes do not matter
+abbrev nowhere : ℕ → ℕ × ℕ
+nowhere n = (0, 0)
+
+pub syntax-of : (m : Module) → Fits m → IsPrintable (layout m) → Syn (lexemes (layout m)) (text_fields m)
+syntax-of m h p =
+    let means = module-means nesting_limit (omega arith) m h in
+    let size = length (text (layout m)) in
+    record {
+      kinds = kinds m;
+      are_kinds = have-kinds size (layout m) (signs m) (same m).same means.says;
+      es = events m;
+      text = means.derives 0;
+      items = items nowhere m;
+      are_items = are-items nowhere (lexemes (layout m)) size 0 (layout m) (signs m) refl (same m).same means.says p.spelled;
+      says = sym (whole nowhere m h);
+    }

@@ -1,0 +1,43 @@
+-- The fields of a text, kept token by kept token (Core 1.0, 6.6.13).
+use Rattle.std.specs.Prelude.{ℕ, List, [], ◌∷◌, ◌++◌}
+use Rattle.wc_syntax.specs.declared.kind.Kind.TheVariants.{OtherWord}
+use Rattle.wc_syntax.specs.declared.role.Role.{Role}
+use Rattle.wc_syntax.specs.declared.role.Role.TheVariants as role
+use Rattle.wc_surface.specs.declared.field.Field.{Field}
+use Rattle.wc_drafts.specs.declared.word.Word.{Word}
+use Rattle.wc_text.specs.declared.text_draft.TextDraft.{TextDraft}
+use Rattle.wc_text.specs.Standard.Fields.{started, take_string, take_word}
+use Rattle.wc_text.specs.Standard.Finished.{finished}
+
+-- a kept token: what it is to the value, the token, and what a string stands for (nothing, where it is no string)
+pub record Item : Type 0 where
+  pub role : Role
+  pub word : Word
+  pub bytes : List ℕ
+
+-- no field so far
+abbrev pub nothing : TextDraft
+nothing = record { fields = []; field = started OtherWord 0 }
+
+-- a field begins, ends, or has one more part
+abbrev pub take_by : Role → Word → List ℕ → TextDraft → TextDraft
+take_by role.Field w bytes d = record d { field = started w.symbol.kind w.token }
+take_by role.FieldEnd w bytes d =
+    record { fields = d.fields ++ finished d.field ∷ []; field = started OtherWord 0 }
+take_by role.ExportName w bytes d = record d { field = take_string d.field role.ExportName bytes }
+take_by role.ModuleName w bytes d = record d { field = take_string d.field role.ModuleName bytes }
+take_by role.ItemName w bytes d = record d { field = take_string d.field role.ItemName bytes }
+take_by role.Bytes w bytes d = record d { field = take_string d.field role.Bytes bytes }
+take_by r w bytes d = record d { field = take_word d.field r w }
+
+-- one more kept token
+abbrev pub take_item : TextDraft → Item → TextDraft
+take_item d i = take_by i.role i.word i.bytes d
+
+abbrev pub take_items : TextDraft → List Item → TextDraft
+take_items d [] = d
+take_items d (i ∷ is) = take_items (take_item d i) is
+
+-- the fields that kept tokens say
+abbrev pub said : List Item → List Field
+said is = (take_items nothing is).fields

@@ -1,0 +1,4 @@
+pub mod Marks
+pub mod Heads
+pub mod Telling
+pub mod Finished
