@@ -1,6 +1,7 @@
 //! Times one layer on a file that is read whole first: `wc_bench LAYER FILE ROUNDS`. It tells on standard output what a
-//! round made, and on standard error the best and the median of the rounds: of making it, and of making it and letting it
-//! go.
+//! round made, and on standard error the best and the median of the rounds: of making it, and of the whole round, which
+//! lets it go too and, where a module is printed, decodes it first. `wc_bench text FILE` writes the printed text of a
+//! module to standard output.
 #![tactic(auto)]
 
 use anyhow::{Context, Result, bail};
@@ -8,6 +9,7 @@ use std::time::Instant;
 use std::{env, fs};
 use wc_binary::{decode, encode};
 use wc_check::check;
+use wc_print::print;
 use wc_tokens::lex;
 
 /// What is timed.
@@ -21,6 +23,8 @@ enum Layer {
     Check,
     /// From bytes to a module, and from it to its canonical bytes.
     Encode,
+    /// From a module to its text.
+    Print,
 }
 
 impl Layer {
@@ -31,6 +35,7 @@ impl Layer {
             "decode" => Some(Layer::Decode),
             "check" => Some(Layer::Check),
             "encode" => Some(Layer::Encode),
+            "print" => Some(Layer::Print),
             _ => None,
         }
     }
@@ -40,7 +45,7 @@ impl Layer {
         match self {
             Layer::Tokens => "tokens",
             Layer::Decode | Layer::Check => "functions",
-            Layer::Encode => "bytes",
+            Layer::Encode | Layer::Print => "bytes",
         }
     }
 }
@@ -108,6 +113,25 @@ fn make_bytes(rt: &HostRuntime, bytes: &[u8]) -> Result<Made> {
     })
 }
 
+/// The text of the module of these bytes, and how long it took to print it, in nanoseconds.
+fn printed(rt: &HostRuntime, bytes: &[u8]) -> Result<(String, u128)> {
+    let Ok(module) = decode(rt.alloc(), bytes) else {
+        bail!("the bytes are no module");
+    };
+    let start = Instant::now(rt)?;
+    let text = print(rt.alloc(), &module)?;
+    Ok((text, start.elapsed(rt)?.as_nanos()))
+}
+
+/// Makes the module's text.
+fn make_text(rt: &HostRuntime, bytes: &[u8]) -> Result<Made> {
+    let (text, nanoseconds) = printed(rt, bytes)?;
+    Ok(Made {
+        amount: text.len(),
+        nanoseconds,
+    })
+}
+
 /// One round. What it made is let go at its end.
 fn make(rt: &HostRuntime, layer: Layer, input: &[u8]) -> Result<Made> {
     match layer {
@@ -115,6 +139,7 @@ fn make(rt: &HostRuntime, layer: Layer, input: &[u8]) -> Result<Made> {
         Layer::Decode => make_module(rt, input),
         Layer::Check => make_checked(rt, input),
         Layer::Encode => make_bytes(rt, input),
+        Layer::Print => make_text(rt, input),
     }
 }
 
@@ -148,7 +173,14 @@ fn measure(rt: &HostRuntime, layer: Layer, path: &str, rounds: u32) -> Result<()
     }
     println!(rt; "{amount} {}", layer.unit())?;
     tell(rt, "making", input.len(), making)?;
-    tell(rt, "making and letting go", input.len(), whole)
+    tell(rt, "the whole round", input.len(), whole)
+}
+
+/// Writes the printed text of the file's module.
+fn write_text(rt: &HostRuntime, path: &str) -> Result<()> {
+    let (text, _nanoseconds) = printed(rt, &fs::read(rt, path)?)?;
+    print!(rt; "{text}")?;
+    Ok(())
 }
 
 fn main(rt: HostRuntime) -> Result<()> {
@@ -162,5 +194,10 @@ fn main(rt: HostRuntime) -> Result<()> {
             return measure(&rt, layer, path.as_str(), rounds);
         }
     }
-    bail!("usage: wc_bench tokens|decode|check|encode FILE ROUNDS")
+    if let [_, word, path] = words.as_slice() {
+        if word.as_str() == "text" {
+            return write_text(&rt, path.as_str());
+        }
+    }
+    bail!("usage: wc_bench tokens|decode|check|encode|print FILE ROUNDS, or wc_bench text FILE")
 }

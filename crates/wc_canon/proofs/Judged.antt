@@ -1,12 +1,12 @@
 -- From what decoding, checking and encoding answer to what is answered to an input.
 use Rattle.std.proofs.Common.{◌≡◌, ℕ, List, [], Option, Some, None, Result, Ok, Err, IfOk, IfSome, IsErrAnd}
-use Rattle.std.proofs.Common.{MatchResult, IfErr, subst, sym, refl, ◌⊎◌, inl, inr}
+use Rattle.std.proofs.Common.{MatchResult, IfErr, length, subst, sym, refl, ◌⊎◌, inl, inr}
 use Rattle.wc_ast.specs.declared.module.Module.{Module}
 use Rattle.wc_binary.specs.declared.fault.BinFault.{BinFault}
 use Rattle.wc_binary.specs.declared.fault.BinFault.TheVariants.{Bad, Read as Unread, Memory as NoMemoryToDecode}
 use Rattle.wc_binary.specs.declared.fault.EncFault.{EncFault}
 use Rattle.wc_binary.specs.declared.fault.EncFault.TheVariants.{Oversize as TooLarge, Memory as NoMemoryToEncode}
-use Rattle.wc_binary.specs.Standard.Module.{Bin, Canon}
+use Rattle.wc_binary.specs.Standard.Module.{Bin, Canon, IsShortestOf, IsOrLonger}
 use Rattle.wc_binary.specs.Standard.Decoding.{Decodes, DecodesNear}
 use Rattle.wc_binary.specs.Standard.Encoding.{EncodesModule}
 use Rattle.wc_binary.proofs.phrases.Freed.{canon-bin}
@@ -93,6 +93,12 @@ module _ {V : Type 0} (bytes : V → List ℕ) where
   judged-fault (Ok v) x j g p = never-both x (bytes v) g j.0 p
   judged-fault (Err f) x j g p = that-fault x f g j.1 p
 
+-- the bytes of the module are the input, or shorter
+pub none-longer : {V : Type 0} (bytes : V → List ℕ) (r : Result V Refusal) (x : List ℕ) (m : Module) → Bin x m
+    → IfOk r (λ v. IsShortestOf (bytes v) m) → IfOk r (λ v. IsOrLonger x (bytes v))
+none-longer bytes (Ok v) x m p h = h x p
+none-longer bytes (Err f) x m p h = tt
+
 -- ---- between a reader and a writer
 
 fault-judged : {V : Type 0} (bytes : V → List ℕ) (a : Option (List ℕ)) (e : BinFault) → IfSome a (λ x. Decodes x (Err e))
@@ -147,15 +153,17 @@ near-decoded a count e (Ok v) p h = tt
 near-decoded None count e (Err f) p h = tt
 near-decoded (Some x) count e (Err f) p h = subst (λ g. RefusesNear count g x) (sym h) (near-told count x e p)
 
-near-refusing : (count : ℕ) (x : List ℕ) (m : Module) (f : Refusal) → IsModuleFault m f
+near-refusing : (count : ℕ) (x : List ℕ) (m : Module) (f : Refusal) → IsModuleFault m f → count ≡ length x
     → RefusesNear count (refusing_fault f) x
-near-refusing count x m (Binary at why) q = absurd q
-near-refusing count x m (Check item why) q = tt
-near-refusing count x m Oversize q = tt
-near-refusing count x m NoMemory q = tt
+near-refusing count x m (Binary at why) q e = absurd q
+near-refusing count x m (Check item why) q e = e
+near-refusing count x m Oversize q e = e
+near-refusing count x m NoMemory q e = tt
 
 pub near-refused : {V : Type 0} (a : Option (List ℕ)) (count : ℕ) (m : Module) (f : Refusal) (r : Result V RunFault)
-    → IsModuleFault m f → IsErrAnd r (λ g. g ≡ refusing_fault f) → IfErr r (λ g. IfSome a (RefusesNear count g))
-near-refused a count m f (Ok v) q h = tt
-near-refused None count m f (Err g) q h = tt
-near-refused (Some x) count m f (Err g) q h = subst (λ g. RefusesNear count g x) (sym h) (near-refusing count x m f q)
+    → IsModuleFault m f → IfSome a (λ x. DecodesNear count x (Ok m)) → IsErrAnd r (λ g. g ≡ refusing_fault f)
+    → IfErr r (λ g. IfSome a (RefusesNear count g))
+near-refused a count m f (Ok v) q e h = tt
+near-refused None count m f (Err g) q e h = tt
+near-refused (Some x) count m f (Err g) q e h =
+    subst (λ g. RefusesNear count g x) (sym h) (near-refusing count x m f q e)

@@ -1,5 +1,6 @@
 pub mod Input
 pub mod Comparing
+pub mod Fixed
 pub mod Run
 pub mod Text
 pub mod Inner

@@ -4,6 +4,7 @@ use Rattle.std.specs.Prelude.{IfSome, Result, Ok, Err, ⊤}
 use Rattle.std.specs.Io.KnownBytes.{Keeps, Appends}
 use Rattle.wc_binary.specs.Standard.Phrase.{halt}
 use Rattle.wc_binary.specs.Standard.Module.{StopB}
+use Rattle.wc_binary.specs.Standard.Decoding.{IsCutShort}
 use Rattle.wc_canon.specs.declared.fault.Refusal.TheVariants.{Binary, Check, Oversize, Memory as NoMemory}
 use Rattle.wc_canon.specs.declared.fault.RunFault.{RunFault}
 use Rattle.wc_canon.specs.declared.fault.RunFault.TheVariants.{Refused, Read, Write, Memory}
@@ -41,12 +42,20 @@ IsQuiet old new (Err (Read at)) = Keeps old new
 IsQuiet old new (Err (Write n)) = ⊤
 IsQuiet old new (Err Memory) = Keeps old new
 
--- at most 4,096 bytes were read past those behind which the fault of the bytes x showed
+-- at most 4,096 bytes were read past those behind which the fault of the bytes x showed, which for a module that is
+-- refused are all bytes
 abbrev pub RefusesNear : ℕ → RunFault → List ℕ → Type 0
 RefusesNear count (Refused (Binary at why)) x = (taken : ℕ) × StopB x (halt at why taken) × (count ≤ taken + 4096)
-RefusesNear count (Refused (Check item why)) x = ⊤
-RefusesNear count (Refused Oversize) x = ⊤
+RefusesNear count (Refused (Check item why)) x = count ≡ length x
+RefusesNear count (Refused Oversize) x = count ≡ length x
 RefusesNear count (Refused NoMemory) x = ⊤
 RefusesNear count (Read at) x = ⊤
 RefusesNear count (Write written) x = ⊤
 RefusesNear count Memory x = ⊤
+
+-- a failed read was told, and no fault of the bytes that were read before it
+abbrev pub ReadsCut : RunFault → List ℕ → Type 0
+ReadsCut (Refused f) x = ⊤
+ReadsCut (Read at) x = IsCutShort x at
+ReadsCut (Write written) x = ⊤
+ReadsCut Memory x = ⊤

@@ -6,6 +6,7 @@ mod accepting;
 mod canonical;
 mod comparing;
 mod fault;
+mod fixed;
 mod law;
 mod normalising;
 mod rendering;
@@ -15,6 +16,7 @@ mod spelled;
 pub use accepting::accept;
 pub use comparing::{Comparison, Side, compare};
 pub use fault::{Refusal, RunFault};
+pub use fixed::is_canonical;
 pub use law::{
     always_judged, answers_are_fixed, answers_spell, never_both, never_oversize, one_answer,
     one_fault, one_meaning, same_bytes_same_module,

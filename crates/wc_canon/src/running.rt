@@ -1,11 +1,11 @@
 //! From a reader to a writer.
 
-ghost use Rattle.std.specs.Prelude.{ℕ, ◌≡◌, ◌≤◌, length, take, IfOk, IfErr, IfSome, IsErrOf, OnOk, false};
-ghost use Rattle.std.specs.Io.KnownBytes.{Appends};
-ghost use Rattle.wc_device.specs.Device.{device_inner, has_failed, read_count};
-ghost use Rattle.wc_binary.specs.Standard.Decoding.{Decodes, DecodesNear, is_read_fault as is_unread};
+ghost use Rattle.std.specs.Prelude.{ℕ, ◌≡◌, ◌≤◌, length, take, IfOk, IfErr, IfSome, IsErrOf, OnOk, Some, false};
+ghost use Rattle.std.specs.Io.KnownBytes.{Appends, IsAtEnd};
+ghost use Rattle.wc_device.specs.Device.{device_inner, failed_at, has_failed, has_ended, was_asked_again, read_count};
+ghost use Rattle.wc_binary.specs.Standard.Decoding.{Decodes, DecodesNear, DecodesCut, is_read_fault as is_unread};
 ghost use Rattle.wc_canon.specs.declared.fault.Refusal.TheVariants as refusals;
-ghost use Rattle.wc_canon.specs.Run.{Answers, RefusesNear, IsQuiet, is_read_fault, is_write_fault};
+ghost use Rattle.wc_canon.specs.Run.{Answers, RefusesNear, ReadsCut, IsQuiet, is_read_fault, is_write_fault};
 ghost use Rattle.wc_canon.specs.Inner.Steps.{Judges};
 
 use crate::canonical::canonical_bytes;
@@ -34,6 +34,10 @@ fn read_module<R: Read>(alloc: Global, r: &mut Device<R>) -> Result<Module, BinF
     ensures near { IfSome (R.remaining (device_inner r.old)) (λ x. DecodesNear (read_count r.new) x result) }
     ensures read { is_unread result ≡ has_failed r.new }
     ensures read_at { IfErr result (λ e. (at : ℕ) → e ≡ BinFault.Read at → at ≡ read_count r.new) }
+    ensures first_failure { IfErr result (λ e. (at : ℕ) → e ≡ BinFault.Read at → failed_at r.new ≡ Some at) }
+    ensures again { has_ended r.old ≡ false → was_asked_again r.new ≡ was_asked_again r.old }
+    ensures cut { IsAtEnd (R.remaining (device_inner r.new)) → IfSome (R.remaining (device_inner r.old))
+        (λ x. DecodesCut x result) }
 {
     let mut buffer = [0u8; FRONT];
     let given = match r.read(&mut buffer) {
@@ -56,6 +60,10 @@ fn answer<R: Read>(alloc: Global, r: &mut Device<R>) -> Result<Vec<u8>, RunFault
     ensures near { IfErr result (λ e. IfSome (R.remaining (device_inner r.old)) (RefusesNear (read_count r.new) e)) }
     ensures read { is_read_fault result ≡ has_failed r.new }
     ensures read_at { IfErr result (λ e. (at : ℕ) → e ≡ RunFault.Read at → at ≡ read_count r.new) }
+    ensures first_failure { IfErr result (λ e. (at : ℕ) → e ≡ RunFault.Read at → failed_at r.new ≡ Some at) }
+    ensures again { has_ended r.old ≡ false → was_asked_again r.new ≡ was_asked_again r.old }
+    ensures cut { IsAtEnd (R.remaining (device_inner r.new)) → IfErr result
+        (λ e. IfSome (R.remaining (device_inner r.old)) (ReadsCut e)) }
     ensures unwritten { is_write_fault result ≡ false }
     ensures memory { ¬ (IsErrOf result (RunFault.Refused refusals.Memory)) }
 {
@@ -102,6 +110,15 @@ pub fn run<R: Read, W: Write>(
     ensures write { is_write_fault result ≡ has_failed w.new }
     ensures read_at { IfErr result (λ e. (at : ℕ) → e ≡ RunFault.Read at → at ≡ read_count r.new) }
     ensures memory { ¬ (IsErrOf result (RunFault.Refused refusals.Memory)) }
+
+    // The failed read that is told is the reader's first failure, and nothing is read after it or after the end.
+    ensures first_failure { IfErr result (λ e. (at : ℕ) → e ≡ RunFault.Read at → failed_at r.new ≡ Some at) }
+    ensures again { has_ended r.old ≡ false → was_asked_again r.new ≡ was_asked_again r.old }
+
+    // A fault in bytes that were read is told, and no failure of a later read: where the bytes that the reader tells
+    // are those that it gave before it failed, they have no fault that shows before their end.
+    ensures cut { IsAtEnd (R.remaining (device_inner r.new)) → IfErr result
+        (λ e. IfSome (R.remaining (device_inner r.old)) (ReadsCut e)) }
 
     ensures quiet { IsQuiet (W.contents (device_inner w.old)) (W.contents (device_inner w.new)) result }
     ensures answers { Answers (R.remaining (device_inner r.old)) (W.contents (device_inner w.old))

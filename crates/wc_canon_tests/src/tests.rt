@@ -64,6 +64,37 @@ fn pieces_are_joined(rt: HostRuntime) -> Result<(), Fail> {
     Ok(())
 }
 
+/// What a run tells of a reader that gives all bytes at once and then fails.
+fn told_before_failure(alloc: Global, input: &[u8]) -> Result<String, AllocError> {
+    let mut r = Device::new(Reader::new(input, 4096, 2));
+    let mut w = Device::new(Vec::new(alloc));
+    let outcome = run(alloc, Job::Binary, &mut r, &mut w);
+    told(alloc, outcome)
+}
+
+/// The text of a fault of the format that shows before the end of the bytes is known.
+fn shows_early(text: &str) -> bool {
+    text.starts_with("byte ")
+        && !text.ends_with("unexpected end")
+        && !text.ends_with("function and code counts differ")
+}
+
+#[test]
+fn a_fault_comes_before_a_failed_read(rt: HostRuntime) -> Result<(), Fail> {
+    for &(input, text) in &REFUSED {
+        let failed = format!(in rt.alloc(); "read {}", input.len())?;
+        let want = if shows_early(text) {
+            text
+        } else {
+            failed.as_str()
+        };
+        if !input.is_empty() {
+            assert_eq!(rt; told_before_failure(rt.alloc(), input)?.as_str(), want);
+        }
+    }
+    Ok(())
+}
+
 /// A custom section of 5,002 bytes.
 fn long_input(alloc: Global, behind: &[u8]) -> Result<Vec<u8>, AllocError> {
     let mut input = Vec::new(alloc);

@@ -1,6 +1,6 @@
 -- From what was read, compared, said and reported to what a line comes to.
-use Rattle.std.proofs.Common.{◌≡◌, ◌≤◌, ◌∙◌, ℕ, List, length, take, Bool, true, false, Option, Some, None, OnOk, OnErr}
-use Rattle.std.proofs.Common.{Result, Ok, Err, IsErrAnd, ◌⊎◌, inl, inr, refl, sym, subst}
+use Rattle.std.proofs.Common.{◌≡◌, ℕ, List, Bool, true, false, Option, Some, None, OnOk, OnErr}
+use Rattle.std.proofs.Common.{Result, Ok, Err, IsErrAnd, inl, inr, refl, sym, subst}
 use Rattle.std.specs.Io.KnownBytes.{Appends}
 use Rattle.wc_cli.specs.declared.command_line.Line.{Line}
 use Rattle.wc_cli.specs.declared.failure.Failure.{Failure}

@@ -1,1 +1,4 @@
 pub mod Endings
+pub mod Findings
+pub mod Told
+pub mod Turning

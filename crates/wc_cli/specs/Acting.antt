@@ -1,44 +1,22 @@
 -- What carrying out a line comes to. x and y are the bytes of its inputs, where they are known; a and b say whether an
 -- input couldn't be read; old and new are the bytes that the writer of answers holds, where they are known.
-use Rattle.std.specs.Prelude.{◌≡◌, ◌⊎◌, ℕ, ◌≤◌, List, [], ◌∷◌, ◌++◌, length, take, codes, Bool, true, false}
-use Rattle.std.specs.Prelude.{Option, Some, None, IfSome, option_and_then, option_map, Result, Ok, Err, ⊤}
+use Rattle.std.specs.Prelude.{◌≡◌, ◌⊎◌, ℕ, ◌≤◌, List, length, take, codes, Bool, true, false}
+use Rattle.std.specs.Prelude.{Option, None, IfSome, Result, Ok, Err}
 use Rattle.std.specs.Io.KnownBytes.{Keeps, Appends}
 use denote.Ref.{Bor}
-use Rattle.wc_device.specs.declared.io_device.Device.{Device}
-use Rattle.wc_device.specs.Device.{device_inner, has_failed, read_count}
 use Rattle.wc_canon.specs.declared.fault.Refusal.{Refusal}
 use Rattle.wc_canon.specs.Input.{IsAccepted, HasFault}
 use Rattle.wc_canon.specs.Comparing.{IsSame, IsDifferent}
 use Rattle.wc_canon.specs.Run.{IsAnswerOf}
 use Rattle.wc_cli.specs.declared.command_line.Line.{Line}
-use Rattle.wc_cli.specs.declared.command_line.Line.TheVariants.{Make, Check, Compare}
+use Rattle.wc_cli.specs.declared.command_line.Line.TheVariants.{Make, Tell, Compare}
 use Rattle.wc_cli.specs.declared.failure.Failure.{Failure}
 use Rattle.wc_cli.specs.declared.failure.Failure.TheVariants.{Refused, CannotRead, CannotWrite, NotText}
 use Rattle.wc_cli.specs.declared.failure.Failure.TheVariants.{NoSubcommand, OutOfMemory}
 use Rattle.wc_cli.specs.Failing.{Reports}
-
--- ---- inputs, each the device of an opened reader, or none where it can't be opened
-
--- its bytes, where they are known
-abbrev pub input_bytes : {R : Type 0} → (R → Option (List ℕ)) → Option (Device R) → Option (List ℕ)
-input_bytes remaining None = None
-input_bytes remaining (Some d) = remaining (device_inner d)
-
--- it wasn't opened, or a read of it failed
-abbrev pub is_unread : {R : Type 0} → Option (Device R) → Bool
-is_unread None = true
-is_unread (Some d) = has_failed d
-
--- nothing was read of it
-abbrev pub IsNewInput : {R : Type 0} → Option (Device R) → Type 0
-IsNewInput None = ⊤
-IsNewInput (Some d) = (has_failed d ≡ false) × (read_count d ≡ 0)
+use Rattle.wc_cli.specs.Telling.{AnswersAsk, word_line}
 
 -- ---- what a line asks for
-
--- a word and a line end
-abbrev pub word_line : List ℕ → List ℕ
-word_line word = word ++ (10 ∷ [])
 
 -- P holds of the bytes of both inputs, where they are known
 abbrev pub IfBoth : Option (List ℕ) → Option (List ℕ) → (List ℕ → List ℕ → Type 0) → Type 0
@@ -47,7 +25,7 @@ IfBoth x y P = IfSome x (λ u. IfSome y (P u))
 -- the text that answers a line, and its status
 abbrev pub IsAnswer : Line → Option (List ℕ) → Option (List ℕ) → List ℕ → ℕ → Type 0
 IsAnswer (Make job input output) x y text status = IsAnswerOf x text × (status ≡ 0)
-IsAnswer (Check input) x y text status = IfSome x IsAccepted × (text ≡ word_line (codes "ok")) × (status ≡ 0)
+IsAnswer (Tell ask input named) x y text status = AnswersAsk ask input.now named x text status
 IsAnswer (Compare p q) x y text status =
     (IfBoth x y IsSame × (text ≡ word_line (codes "same")) × (status ≡ 0))
     ⊎ (IfBoth x y IsDifferent × (text ≡ word_line (codes "different")) × (status ≡ 1))
@@ -55,7 +33,7 @@ IsAnswer (Compare p q) x y text status =
 -- the input at the path is refused for f: the first one of a line that is
 abbrev pub IsRefusedAt : Line → Option (List ℕ) → Option (List ℕ) → List ℕ → Refusal → Type 0
 IsRefusedAt (Make job input output) x y path f = (path ≡ input.now) × IfSome x (λ u. HasFault u f)
-IsRefusedAt (Check input) x y path f = (path ≡ input.now) × IfSome x (λ u. HasFault u f)
+IsRefusedAt (Tell ask input named) x y path f = (path ≡ input.now) × IfSome x (λ u. HasFault u f)
 IsRefusedAt (Compare p q) x y path f =
     ((path ≡ p.now) × IfSome x (λ u. HasFault u f))
     ⊎ ((path ≡ q.now) × IfSome x IsAccepted × IfSome y (λ v. HasFault v f))
@@ -63,19 +41,19 @@ IsRefusedAt (Compare p q) x y path f =
 -- the input at the path couldn't be read: the first one of a line that couldn't
 abbrev pub IsUnreadAt : Line → Bool → Bool → List ℕ → Type 0
 IsUnreadAt (Make job input output) a b path = (path ≡ input.now) × (a ≡ true)
-IsUnreadAt (Check input) a b path = (path ≡ input.now) × (a ≡ true)
+IsUnreadAt (Tell ask input named) a b path = (path ≡ input.now) × (a ≡ true)
 IsUnreadAt (Compare p q) a b path = ((path ≡ p.now) × (a ≡ true)) ⊎ ((path ≡ q.now) × (a ≡ false) × (b ≡ true))
 
 -- each input of a line could be read
 abbrev pub AreRead : Line → Bool → Bool → Type 0
 AreRead (Make job input output) a b = a ≡ false
-AreRead (Check input) a b = a ≡ false
+AreRead (Tell ask input named) a b = a ≡ false
 AreRead (Compare p q) a b = (a ≡ false) × (b ≡ false)
 
 -- where the answer goes: a path, or none for the standard output
 abbrev pub goes_to : Line → Option (Bor (List ℕ))
 goes_to (Make job input output) = output
-goes_to (Check input) = None
+goes_to (Tell ask input named) = None
 goes_to (Compare p q) = None
 
 -- ---- what came of it

@@ -1,5 +1,9 @@
 pub mod Program
 pub mod Asked
 pub mod Failing
+pub mod Telling
 pub mod Acting
+pub mod Status
+pub mod Turns
 pub mod Inner
+pub mod Inputs

@@ -2,7 +2,18 @@
 
 use wc_canon::Job;
 
-/// What a command line asks for. Paths are words of the line.
+/// What is asked of an input.
+#[derive(Clone, Copy, Debug)]
+pub enum Ask {
+    /// Whether it is accepted.
+    Check,
+    /// Whether it is its own canonical bytes.
+    Canonical,
+    /// The SHA-256 of its canonical bytes.
+    Hash,
+}
+
+/// One thing that a command line asks for. Paths are words of the line.
 #[derive(Debug, Drop)]
 pub enum Line<'a> {
     /// The answer to an input is to be written: to the file at `output`, or else to the standard output.
@@ -11,9 +22,11 @@ pub enum Line<'a> {
         input: &'a str,
         output: Option<&'a str>,
     },
-    /// Whether an input is accepted.
-    Check {
+    /// What is asked of an input is to be told in one line, with the path in front of a word where it is `named`.
+    Tell {
+        ask: Ask,
         input: &'a str,
+        named: bool,
     },
     /// Whether two inputs denote the same module.
     Compare {

@@ -1,12 +1,16 @@
 //! The subcommands, their arguments and their help.
 
-ghost use Rattle.std.specs.Prelude.{◌≡◌, IfOk, false};
+ghost use Rattle.std.specs.Prelude.{◌≡◌, IfOk, false, codes};
 ghost use Rattle.clap.specs.Words.{app_of, rule_of};
 ghost use Rattle.clap.specs.declared.Command.TheViews.{out-Command as fields_of};
-ghost use Rattle.wc_cli.specs.Program.{path_rule, output_rule, binary_app, check_app, compare_app, program};
+ghost use Rattle.wc_cli.specs.Program.{path_rule, paths_rule, output_rule, top_app, binary_app};
+ghost use Rattle.wc_cli.specs.Program.{each_app, compare_app, program};
 
 use clap::{Arg, ArgAction, Command};
 use std::alloc::{AllocError, Global};
+
+/// The number of this version of the program. It stands here alone.
+const VERSION: &str = "0.1.0";
 
 /// A path that has to be given.
 fn path<'a>(alloc: Global, id: &'a str, help: &'a str) -> Arg<'a>
@@ -16,6 +20,17 @@ fn path<'a>(alloc: Global, id: &'a str, help: &'a str) -> Arg<'a>
     Arg::new(alloc, id)
         .required(true)
         .action(ArgAction::Set)
+        .help(help)
+}
+
+/// Paths of which at least one has to be given.
+fn paths<'a>(alloc: Global, id: &'a str, help: &'a str) -> Arg<'a>
+    ensures rule { rule_of result ≡ paths_rule id.entry.now }
+    ensures own { result.global ≡ false }
+{
+    Arg::new(alloc, id)
+        .required(true)
+        .action(ArgAction::Append)
         .help(help)
 }
 
@@ -43,13 +58,33 @@ fn binary<'a>(alloc: Global) -> Result<Command<'a>, AllocError>
 }
 
 fn check<'a>(alloc: Global) -> Result<Command<'a>, AllocError>
-    ensures app { IfOk result (λ c. app_of c ≡ check_app) }
+    ensures app { IfOk result (λ c. app_of c ≡ each_app (codes "check")) }
     ensures own { IfOk result (λ c. (fields_of c).has_globals ≡ false) }
 {
     Command::new(alloc, "check")
-        .about("Tell whether a module is accepted, or its first fault")
+        .about("Tell whether modules are accepted, or the first fault of each")
         .after_help("Example: wcanon check in.wasm")
-        .arg(path(alloc, "IN", "The module to read"))
+        .arg(paths(alloc, "IN", "The modules to read"))
+}
+
+fn canonical<'a>(alloc: Global) -> Result<Command<'a>, AllocError>
+    ensures app { IfOk result (λ c. app_of c ≡ each_app (codes "canonical")) }
+    ensures own { IfOk result (λ c. (fields_of c).has_globals ≡ false) }
+{
+    Command::new(alloc, "canonical")
+        .about("Tell whether modules are their own canonical bytes")
+        .after_help("Example: wcanon canonical in.wasm")
+        .arg(paths(alloc, "IN", "The modules to read"))
+}
+
+fn hash<'a>(alloc: Global) -> Result<Command<'a>, AllocError>
+    ensures app { IfOk result (λ c. app_of c ≡ each_app (codes "hash")) }
+    ensures own { IfOk result (λ c. (fields_of c).has_globals ≡ false) }
+{
+    Command::new(alloc, "hash")
+        .about("Tell the SHA-256 of the canonical bytes of modules")
+        .after_help("Example: wcanon hash in.wasm")
+        .arg(paths(alloc, "IN", "The modules to read"))
 }
 
 fn compare<'a>(alloc: Global) -> Result<Command<'a>, AllocError>
@@ -63,17 +98,28 @@ fn compare<'a>(alloc: Global) -> Result<Command<'a>, AllocError>
         .arg(path(alloc, "B", "The other module"))
 }
 
+/// The program without its subcommands.
+fn top<'a>(alloc: Global) -> Command<'a>
+    ensures { app_of result ≡ top_app }
+{
+    Command::new(alloc, "wcanon")
+        .version(VERSION)
+        .about("Gives WebAssembly modules one canonical binary form")
+        .after_help(
+            "Examples:\n  wcanon binary in.wasm -o out.wasm\n  wcanon check in.wasm\n  wcanon compare a.wasm b.wasm\n  \
+            wcanon canonical in.wasm\n  wcanon hash a.wasm b.wasm",
+        )
+        .subcommand_required(true)
+}
+
 /// The program's command, with its subcommands.
 pub(crate) fn wcanon<'a>(alloc: Global) -> Result<Command<'a>, AllocError>
     ensures { IfOk result (λ c. app_of c ≡ program) }
 {
-    Command::new(alloc, "wcanon")
-        .about("Gives WebAssembly modules one canonical binary form")
-        .after_help(
-            "Examples:\n  wcanon binary in.wasm -o out.wasm\n  wcanon check in.wasm\n  wcanon compare a.wasm b.wasm",
-        )
-        .subcommand_required(true)
+    top(alloc)
         .subcommand(binary(alloc)?)?
         .subcommand(check(alloc)?)?
+        .subcommand(canonical(alloc)?)?
+        .subcommand(hash(alloc)?)?
         .subcommand(compare(alloc)?)
 }

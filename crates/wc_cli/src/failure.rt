@@ -4,6 +4,7 @@ ghost use Rattle.std.specs.Prelude.{◌≡◌, OnOk, OnErr, true};
 ghost use Rattle.std.specs.Io.KnownBytes.{Appends};
 ghost use Rattle.wc_device.specs.Device.{device_inner, has_failed};
 ghost use Rattle.wc_cli.specs.declared.failure.Failure.{Failure};
+ghost use Rattle.wc_cli.specs.Inner.Reading.{refusal_failure};
 ghost use Rattle.wc_cli.specs.Failing.{line_of, line_about, place_text, IsToldAs, Reports};
 
 use std::alloc::Global;
@@ -11,7 +12,10 @@ use std::io::Write;
 use wc_canon::{Refusal, render};
 use wc_device::Device;
 
-/// The status where an input is refused, or two differ.
+/// The status where all went well.
+pub(crate) const DONE: u8 = 0;
+
+/// The status where an input is refused or not canonical, or two differ.
 pub(crate) const REFUSED: u8 = 1;
 
 /// The status of a fault of usage, of a file or of memory.
@@ -32,6 +36,16 @@ pub enum Failure<'a> {
     NoSubcommand,
     /// A growth of memory was refused.
     OutOfMemory,
+}
+
+/// The refusal of the input at a path, as a failure.
+pub(crate) fn refused<'a>(path: &'a str, refusal: Refusal) -> Failure<'a>
+    ensures { result ≡ refusal_failure path.entry refusal }
+{
+    match refusal {
+        Refusal::Memory => Failure::OutOfMemory,
+        refusal => Failure::Refused { path, refusal },
+    }
 }
 
 /// Writes the program's name and a text in one line, up to a failure of the writer.

@@ -7,8 +7,11 @@ mod commands;
 mod failure;
 mod parsing;
 mod reading;
+mod telling;
+mod turns;
 
 pub use acting::act;
-pub use command_line::Line;
+pub use command_line::{Ask, Line};
 pub use failure::{Failure, report};
-pub use parsing::{line, status_of};
+pub use parsing::{lines, status_of};
+pub use turns::{Opens, act_each};

@@ -1,9 +1,9 @@
 //! A whole input.
 
-ghost use Rattle.std.specs.Prelude.{◌≡◌, IfOk, IfSome, false};
+ghost use Rattle.std.specs.Prelude.{◌≡◌, ◌↔◌, IfOk, IfSome, false, true};
 ghost use Rattle.wc_device.specs.Device.{device_inner, has_failed, read_count};
-ghost use Rattle.wc_cli.specs.Acting.{input_bytes, is_unread, IsNewInput};
 ghost use Rattle.wc_cli.specs.Inner.Reading.{Reads};
+ghost use Rattle.wc_cli.specs.Inputs.{input_bytes, is_unread, IsNewInput, StaysUnread};
 
 use crate::failure::Failure;
 use std::alloc::Global;
@@ -12,6 +12,16 @@ use wc_device::Device;
 
 /// How many bytes a read is offered.
 const PIECE: usize = 4096;
+
+/// Whether nothing was read of an input yet, where it is there, and no call of it failed.
+pub(crate) fn is_new<R: Read>(input: &Option<Device<R>>) -> bool
+    ensures { (result ≡ true) ↔ IsNewInput input.now }
+{
+    match input {
+        Some(r) => !r.failed() && r.count() == 0,
+        None => true,
+    }
+}
 
 /// The reader's bytes to its end. An error of the reader of any kind ends it.
 fn read_all<'a, R: Read>(
@@ -49,6 +59,7 @@ pub(crate) fn read_input<'a, R: Read>(
     requires { IsNewInput input.old }
     ensures whole { IfOk result (λ v. IfSome (input_bytes R.remaining input.old) (λ x. v.items ≡ x)) }
     ensures reads { Reads path.now (is_unread input.new) result }
+    ensures stays { StaysUnread input.old input.new }
 {
     match input {
         Some(r) => read_all(alloc, path, r),

@@ -2,3 +2,5 @@
 mod acting;
 mod devices;
 mod lines;
+mod samples;
+mod turns;

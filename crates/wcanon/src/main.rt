@@ -1,7 +1,7 @@
-//! The program `wcanon`: canonical bytes of WebAssembly modules, their check and their comparison.
+//! The program `wcanon`: canonical bytes of WebAssembly modules, their check, their comparison and their hashes.
 #![tactic(auto)]
 
-ghost use Rattle.wc_cli.specs.Acting.{IsNewInput};
+ghost use Rattle.std.specs.Prelude.{None};
 
 mod output;
 
@@ -11,7 +11,7 @@ use output::Output;
 use std::fs::File;
 use std::process::ExitCode;
 use std::{env, io};
-use wc_cli::{Failure, Line, act, line, report, status_of};
+use wc_cli::{Failure, Line, Opens, act_each, lines, report, status_of};
 use wc_device::Device;
 
 /// The words of the command line, the program's name first.
@@ -36,40 +36,51 @@ fn print_usage(rt: &HostRuntime, error: &Error) -> u8 {
     status_of(error)
 }
 
-/// The device of an opened file, or none.
-fn open(rt: &HostRuntime, path: &str) -> Option<Device<File>>
-    ensures { IsNewInput result }
-{
-    match File::open(rt, path) {
-        Ok(file) => Some(Device::new(file)),
-        Err(_) => None,
+/// The files of the system.
+#[derive(Drop)]
+struct Files<'a> {
+    rt: &'a HostRuntime,
+}
+
+impl<'a> Opens<File> for Files<'a> {
+    ghost bytes_at = { λ _ _. None };
+
+    fn open(&self, path: &str) -> Option<Device<File>> {
+        match File::open(self.rt, path) {
+            Ok(file) => Some(Device::new(file)),
+            Err(_) => None,
+        }
     }
 }
 
-/// Opens the inputs of a line and carries it out.
-fn open_and_act(rt: &HostRuntime, line: &Line<'_>) -> u8 {
-    let (mut a, mut b, output) = match line {
-        Line::Make { input, output, .. } => (open(rt, *input), None, *output),
-        Line::Check { input } => (open(rt, *input), None, None),
-        Line::Compare { a, b } => (open(rt, *a), open(rt, *b), None),
-    };
+/// The path of the file that takes the answer, where there is one.
+fn output_path<'a>(lines: &[Line<'a>]) -> Option<&'a str> {
+    match lines.first() {
+        Some(Line::Make { output, .. }) => *output,
+        _ => None,
+    }
+}
+
+/// Carries lines out in order.
+fn carry_out(rt: &HostRuntime, lines: &[Line<'_>]) -> u8 {
+    let files = Files { rt };
     let mut errors = Device::new(rt.stderr());
-    match output {
+    match output_path(lines) {
         Some(path) => {
             let mut w = Device::new(Output::new(rt, path));
-            act(rt.alloc(), line, &mut a, &mut b, &mut w, &mut errors)
+            act_each(rt.alloc(), lines, &files, &mut w, &mut errors)
         }
         None => {
             let mut w = Device::new(rt.stdout());
-            act(rt.alloc(), line, &mut a, &mut b, &mut w, &mut errors)
+            act_each(rt.alloc(), lines, &files, &mut w, &mut errors)
         }
     }
 }
 
 /// Carries out what the words ask for.
 fn obey(rt: &HostRuntime, words: &[&str]) -> u8 {
-    match line(rt.alloc(), words) {
-        Ok(Some(line)) => open_and_act(rt, &line),
+    match lines(rt.alloc(), words) {
+        Ok(Some(lines)) => carry_out(rt, lines.as_slice()),
         Ok(None) => failed(rt, &Failure::NoSubcommand),
         Err(error) => print_usage(rt, &error),
     }

@@ -8,9 +8,14 @@ use Rattle.wc_canon.specs.declared.fault.Refusal.TheVariants.{Memory}
 use Rattle.wc_canon.specs.declared.comparing.Comparison.{Comparison}
 use Rattle.wc_canon.specs.Input.{IsAccepted, HasFault}
 use Rattle.wc_canon.specs.Comparing.{Compares}
+use Rattle.wc_cli.specs.Telling.{AnswersAsk}
+use Rattle.wc_cli.specs.declared.command_line.Ask.{Ask}
+use Rattle.wc_cli.specs.declared.telling.Answer.{Answer}
 use Rattle.wc_cli.specs.declared.failure.Failure.{Failure}
 use Rattle.wc_cli.specs.declared.failure.Failure.TheVariants.{Refused, CannotRead, CannotWrite, NotText}
 use Rattle.wc_cli.specs.declared.failure.Failure.TheVariants.{NoSubcommand, OutOfMemory}
+
+-- ---- what comes of them
 
 -- an input was read to its end; or it couldn't be read, as unread says, or memory was refused
 abbrev pub Reads : {V : Type 0} → List ℕ → Bool → Result V Failure → Type 0
@@ -33,6 +38,28 @@ Says text failed old new (Err (CannotWrite None)) =
 Says text failed old new (Err NotText) = ⊥
 Says text failed old new (Err NoSubcommand) = ⊥
 Says text failed old new (Err OutOfMemory) = ⊥
+
+-- the line that tells of an input with the bytes u, or its refusal, or want of memory
+abbrev pub AnswersBytes : Ask → List ℕ → Bool → List ℕ → Result Answer Failure → Type 0
+AnswersBytes ask path named u (Ok t) = AnswersAsk ask path named (Some u) t.text.items t.status
+AnswersBytes ask path named u (Err (Refused p f)) = (p.now ≡ path) × HasFault u f
+AnswersBytes ask path named u (Err (CannotRead p)) = ⊥
+AnswersBytes ask path named u (Err (CannotWrite p)) = ⊥
+AnswersBytes ask path named u (Err NotText) = ⊥
+AnswersBytes ask path named u (Err NoSubcommand) = ⊥
+AnswersBytes ask path named u (Err OutOfMemory) = ⊤
+
+-- the same of an input, whose bytes are x where they are known, and which couldn't be read where unread says so
+abbrev pub Finds : Ask → List ℕ → Bool → Option (List ℕ) → Bool → Result Answer Failure → Type 0
+Finds ask path named x unread (Ok t) =
+    (unread ≡ false) × AnswersAsk ask path named x t.text.items t.status
+Finds ask path named x unread (Err (Refused p f)) =
+    (unread ≡ false) × (p.now ≡ path) × IfSome x (λ u. HasFault u f)
+Finds ask path named x unread (Err (CannotRead p)) = (p.now ≡ path) × (unread ≡ true)
+Finds ask path named x unread (Err (CannotWrite p)) = ⊥
+Finds ask path named x unread (Err NotText) = ⊥
+Finds ask path named x unread (Err NoSubcommand) = ⊥
+Finds ask path named x unread (Err OutOfMemory) = ⊤
 
 -- the failure where the input at the path is refused so
 abbrev pub refusal_failure : Bor (List ℕ) → Refusal → Failure

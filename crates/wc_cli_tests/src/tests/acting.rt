@@ -1,39 +1,54 @@
 //! Lines carried out between readers and writers of the tests.
 
-ghost use Rattle.wc_cli.specs.Acting.{IsNewInput};
-
 use super::devices::{Reader, Writer};
+use super::samples::{EMPTY, LONGER, PADDED, SHORT};
 use std::alloc::Global;
+use std::io::Read;
 use std::process::Abort;
 use wc_canon::Job;
-use wc_cli::{Line, act};
+use wc_cli::{Ask, Line, act};
 use wc_device::Device;
-
-/// A type section whose size and count are padded to two bytes.
-const PADDED: &[u8] = b"\0asm\x01\0\0\0\x01\x87\0\x81\0\x60\x01\x7f\x01\x7f";
-
-/// The same module canonically.
-const SHORT: &[u8] = b"\0asm\x01\0\0\0\x01\x06\x01\x60\x01\x7f\x01\x7f";
-
-/// A module without parts.
-const EMPTY: &[u8] = b"\0asm\x01\0\0\0";
-
-/// A type section that is longer than its size.
-const LONGER: &[u8] = b"\0asm\x01\0\0\0\x01\x05\x01\x60\0\0";
 
 /// An input, its status, its answer, what a check of it says, and the line of its fault.
 const INPUTS: [(&[u8], u8, &[u8], &str, &str); 2] = [
     // accepted
     (PADDED, 0, SHORT, "ok\n", ""),
     // refused
-    (
-        LONGER,
-        1,
-        b"",
-        "",
-        "wcanon: in: byte 9: section size differs from its content\n",
-    ),
+    (LONGER, 1, b"", "", IN_IS_REFUSED),
 ];
+
+/// What is asked of an input, whether its path is wanted, the status, and what is written: to standard output and to
+/// standard error.
+const ASKED: [(Ask, bool, &[u8], u8, &str, &str); 12] = [
+    (Ask::Check, false, PADDED, 0, "ok\n", ""),
+    (Ask::Check, true, PADDED, 0, "in: ok\n", ""),
+    (Ask::Check, true, LONGER, 1, "", IN_IS_REFUSED),
+    // canonical, and the same module in other bytes
+    (Ask::Canonical, false, SHORT, 0, "canonical\n", ""),
+    (Ask::Canonical, false, PADDED, 1, "not canonical\n", ""),
+    (Ask::Canonical, true, SHORT, 0, "in: canonical\n", ""),
+    (Ask::Canonical, true, PADDED, 1, "in: not canonical\n", ""),
+    (Ask::Canonical, false, LONGER, 1, "", IN_IS_REFUSED),
+    // of the canonical bytes, with the path at any rate
+    (Ask::Hash, false, SHORT, 0, HASH_OF_SHORT, ""),
+    (Ask::Hash, false, PADDED, 0, HASH_OF_SHORT, ""),
+    (Ask::Hash, true, EMPTY, 0, HASH_OF_EMPTY, ""),
+    (Ask::Hash, false, LONGER, 1, "", IN_IS_REFUSED),
+];
+
+const IN_IS_REFUSED: &str = "wcanon: in: byte 9: section size differs from its content\n";
+
+/// By `sha256sum` of the bytes of `SHORT`.
+const HASH_OF_SHORT: &str =
+    "0fff4047f18e1fff908e8ce862cb48847cdee5e0c466357132da2f8c47075267  in\n";
+
+/// By `sha256sum` of the bytes of `EMPTY`.
+const HASH_OF_EMPTY: &str =
+    "93a44bbb96c751218e4c00d479e4c14358122a389acca16205b1e4d0dc5f9476  in\n";
+
+/// The same, as `sha256sum` writes it of a path with a line feed, a carriage return and a backslash.
+const HASH_AT_ODD_PATH: &str =
+    "\\93a44bbb96c751218e4c00d479e4c14358122a389acca16205b1e4d0dc5f9476  a\\nb\\rc\\\\d\n";
 
 /// Two inputs, their status, and what is written of them: to standard output and to standard error.
 const PAIRS: [(&[u8], &[u8], u8, &str, &str); 5] = [
@@ -73,10 +88,17 @@ fn writer(alloc: Global, piece: usize, fails_at: u32) -> Writer {
     }
 }
 
+/// The line that asks of an input.
+fn telling(ask: Ask, named: bool) -> Line<'static> {
+    Line::Tell {
+        ask,
+        input: "in",
+        named,
+    }
+}
+
 /// The device of a reader.
-fn device(input: Option<Reader<'static>>) -> Option<Device<Reader<'static>>>
-    ensures { IsNewInput result }
-{
+fn device<R: Read>(input: Option<R>) -> Option<Device<R>> {
     match input {
         Some(reader) => Some(Device::new(reader)),
         None => None,
@@ -125,13 +147,11 @@ fn to_file(alloc: Global, input: Reader<'static>, answer: Writer) -> Told {
 }
 
 fn checked(alloc: Global, input: Reader<'static>, answer: Writer) -> Told {
-    carried_out(
-        alloc,
-        Line::Check { input: "in" },
-        Some(input),
-        None,
-        answer,
-    )
+    carried_out(alloc, telling(Ask::Check, false), Some(input), None, answer)
+}
+
+fn hashed(alloc: Global, input: Reader<'static>, answer: Writer) -> Told {
+    carried_out(alloc, telling(Ask::Hash, false), Some(input), None, answer)
 }
 
 fn compared(alloc: Global, a: Reader<'static>, b: Reader<'static>, answer: Writer) -> Told {
@@ -175,6 +195,39 @@ fn one_input_is_answered(rt: HostRuntime) {
 }
 
 #[test]
+fn what_is_asked_of_an_input_is_told(rt: HostRuntime) {
+    let alloc = rt.alloc();
+    for &(ask, named, input, status, answer, fault) in &ASKED {
+        let line = telling(ask, named);
+        let told = carried_out(
+            alloc,
+            line,
+            Some(whole(input)),
+            None,
+            writer(alloc, 4096, 0),
+        );
+        is_told(&rt, told, status, answer.as_bytes(), fault);
+    }
+}
+
+#[test]
+fn paths_of_hashes_are_escaped(rt: HostRuntime) {
+    let line = Line::Tell {
+        ask: Ask::Hash,
+        input: "a\nb\rc\\d",
+        named: false,
+    };
+    let told = carried_out(
+        rt.alloc(),
+        line,
+        Some(whole(EMPTY)),
+        None,
+        writer(rt.alloc(), 4096, 0),
+    );
+    is_told(&rt, told, 0, HASH_AT_ODD_PATH.as_bytes(), "");
+}
+
+#[test]
 fn a_refused_input_makes_no_call_of_the_writer(rt: HostRuntime) {
     let alloc = rt.alloc();
     let told = to_file(alloc, whole(LONGER), writer(alloc, 4096, 0));
@@ -193,7 +246,7 @@ fn two_inputs_are_compared(rt: HostRuntime) {
 #[test]
 fn inputs_that_are_not_opened_are_told(rt: HostRuntime) {
     let alloc = rt.alloc();
-    let told = unopened(alloc, Line::Check { input: "in" }, None);
+    let told = unopened(alloc, telling(Ask::Check, false), None);
     is_told(&rt, told, 2, b"", "wcanon: in: cannot read\n");
     let told = unopened(alloc, Line::Compare { a: "one", b: "two" }, None);
     is_told(&rt, told, 2, b"", "wcanon: one: cannot read\n");
@@ -212,6 +265,8 @@ fn failing_reads_are_told(rt: HostRuntime) {
     let told = to_file(alloc, slow(2), writer(alloc, 99, 0));
     is_told(&rt, told, 2, b"", "wcanon: in: cannot read\n");
     let told = checked(alloc, slow(2), writer(alloc, 99, 0));
+    is_told(&rt, told, 2, b"", "wcanon: in: cannot read\n");
+    let told = hashed(alloc, slow(2), writer(alloc, 99, 0));
     is_told(&rt, told, 2, b"", "wcanon: in: cannot read\n");
     let told = compared(alloc, slow(0), slow(2), writer(alloc, 99, 0));
     is_told(&rt, told, 2, b"", "wcanon: two: cannot read\n");
@@ -236,16 +291,101 @@ fn failing_writes_are_told(rt: HostRuntime) {
 
 #[test]
 fn a_failing_line_of_a_fault_is_dropped(rt: HostRuntime) {
-    let line = Line::Check { input: "in" };
+    let line = telling(Ask::Check, false);
     let mut w = writer(rt.alloc(), 4096, 0);
     let mut e = writer(rt.alloc(), 4096, 1);
     let told = act(
         rt.alloc(),
         &line,
         &mut device(Some(whole(LONGER))),
-        &mut device(None),
+        &mut None,
         &mut Device::new(&mut w),
         &mut Device::new(&mut e),
     );
     assert_eq!(rt; (told, w.calls), (1, 0));
+}
+
+/// A line of each kind that has an answer.
+fn answered(alloc: Global, which: u32, answer: Writer) -> Told {
+    match which {
+        0 => to_output(alloc, whole(SHORT), answer),
+        1 => checked(alloc, whole(SHORT), answer),
+        2 => hashed(alloc, whole(SHORT), answer),
+        _ => compared(alloc, whole(SHORT), whole(EMPTY), answer),
+    }
+}
+
+#[test]
+fn answers_are_flushed_once(rt: HostRuntime) {
+    for which in 0..4 {
+        let told = answered(rt.alloc(), which, writer(rt.alloc(), 4096, 0));
+        assert_eq!(rt; (told.answer.calls, told.answer.flushes), (1, 1));
+    }
+}
+
+#[test]
+fn a_failing_flush_is_told(rt: HostRuntime) {
+    for which in 0..4 {
+        let mut answer = writer(rt.alloc(), 4096, 0);
+        answer.flush_fails = true;
+        let told = answered(rt.alloc(), which, answer);
+        assert_eq!(rt; (told.status, told.answer.flushes), (2, 1));
+        assert_eq!(rt;
+            told.fault.as_slice(),
+            b"wcanon: standard output: cannot write\n".as_slice()
+        );
+    }
+}
+
+/// How often one reader was asked, which fails at one call, and what came of it.
+fn asked(alloc: Global, fails_at: u32) -> (u8, u32) {
+    let line = telling(Ask::Check, false);
+    let mut reader = slow(fails_at);
+    let mut answer = writer(alloc, 4096, 0);
+    let mut fault = Vec::new(alloc);
+    let status = act(
+        alloc,
+        &line,
+        &mut device(Some(&mut reader)),
+        &mut None,
+        &mut Device::new(&mut answer),
+        &mut Device::new(&mut fault),
+    );
+    (status, reader.calls)
+}
+
+#[test]
+fn used_devices_are_not_used_again(rt: HostRuntime) {
+    let line = telling(Ask::Check, false);
+    let mut input = device(Some(whole(SHORT)));
+    let mut w = writer(rt.alloc(), 4096, 0);
+    let mut e = writer(rt.alloc(), 4096, 0);
+    let mut answers = Device::new(&mut w);
+    let mut faults = Device::new(&mut e);
+    let first = act(
+        rt.alloc(),
+        &line,
+        &mut input,
+        &mut None,
+        &mut answers,
+        &mut faults,
+    );
+    let second = act(
+        rt.alloc(),
+        &line,
+        &mut input,
+        &mut None,
+        &mut answers,
+        &mut faults,
+    );
+    assert_eq!(rt; (first, second), (0, 2));
+}
+
+#[test]
+fn a_failed_reader_is_not_asked_again(rt: HostRuntime) {
+    for fails_at in 1..4 {
+        assert_eq!(rt; asked(rt.alloc(), fails_at), (2, fails_at));
+    }
+    // four pieces, and the end
+    assert_eq!(rt; asked(rt.alloc(), 0), (0, 5));
 }

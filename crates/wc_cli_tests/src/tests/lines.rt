@@ -2,13 +2,13 @@
 
 use std::alloc::Global;
 use std::test::Fail;
-use wc_cli::{line, status_of};
+use wc_cli::{lines, status_of};
 
 /// What the words of a text ask for, or the status of its error.
 fn told(alloc: Global, text: &str) -> Result<String, Fail> {
     let words: Vec<&str> = text.split(' ').collect(alloc)?;
-    let told = match line(alloc, words.as_slice()) {
-        Ok(Some(line)) => format!(in alloc; "{line:?}")?,
+    let told = match lines(alloc, words.as_slice()) {
+        Ok(Some(lines)) => format!(in alloc; "{lines:?}")?,
         Ok(None) => "none".to_string(alloc)?,
         Err(error) => format!(in alloc; "status {}", status_of(&error))?,
     };
@@ -21,24 +21,48 @@ fn words_are_read(rt: HostRuntime) -> Result<(), Fail> {
         // without OUT
         (
             "wcanon binary a.wasm",
-            "Make { job: Binary, input: \"a.wasm\", output: None }",
+            "[Make { job: Binary, input: \"a.wasm\", output: None }]",
         ),
         // OUT behind
         (
             "wcanon binary a.wasm -o b.wasm",
-            "Make { job: Binary, input: \"a.wasm\", output: Some(\"b.wasm\") }",
+            "[Make { job: Binary, input: \"a.wasm\", output: Some(\"b.wasm\") }]",
         ),
         // OUT before, long
         (
             "wcanon binary --output b.wasm a.wasm",
-            "Make { job: Binary, input: \"a.wasm\", output: Some(\"b.wasm\") }",
+            "[Make { job: Binary, input: \"a.wasm\", output: Some(\"b.wasm\") }]",
         ),
         // check
-        ("wcanon check a.wasm", "Check { input: \"a.wasm\" }"),
+        (
+            "wcanon check a.wasm",
+            "[Tell { ask: Check, input: \"a.wasm\", named: false }]",
+        ),
+        // several inputs, in order
+        (
+            "wcanon check b.wasm a.wasm",
+            "[Tell { ask: Check, input: \"b.wasm\", named: true }, \
+             Tell { ask: Check, input: \"a.wasm\", named: true }]",
+        ),
+        // one input twice, behind two dashes
+        (
+            "wcanon hash -- a a",
+            "[Tell { ask: Hash, input: \"a\", named: true }, Tell { ask: Hash, input: \"a\", named: true }]",
+        ),
+        // canonical
+        (
+            "wcanon canonical a.wasm",
+            "[Tell { ask: Canonical, input: \"a.wasm\", named: false }]",
+        ),
+        // hash
+        (
+            "wcanon hash a.wasm",
+            "[Tell { ask: Hash, input: \"a.wasm\", named: false }]",
+        ),
         // compare
         (
             "wcanon compare a.wasm b.wasm",
-            "Compare { a: \"a.wasm\", b: \"b.wasm\" }",
+            "[Compare { a: \"a.wasm\", b: \"b.wasm\" }]",
         ),
     ] {
         assert_eq!(rt; told(rt.alloc(), text)?.as_str(), what);
@@ -61,6 +85,8 @@ fn errors_have_their_status(rt: HostRuntime) -> Result<(), Fail> {
         ("wcanon binary a.wasm -o", "status 2"),
         // path missing
         ("wcanon check", "status 2"),
+        ("wcanon canonical", "status 2"),
+        ("wcanon hash", "status 2"),
         // option of another
         ("wcanon check a.wasm -o b.wasm", "status 2"),
         // B missing
@@ -70,6 +96,11 @@ fn errors_have_their_status(rt: HostRuntime) -> Result<(), Fail> {
         ("wcanon -h", "status 0"),
         ("wcanon help", "status 0"),
         ("wcanon compare --help", "status 0"),
+        // the version, two ways
+        ("wcanon --version", "status 0"),
+        ("wcanon -V", "status 0"),
+        // the version of a subcommand, which has none
+        ("wcanon check --version", "status 2"),
     ] {
         assert_eq!(rt; told(rt.alloc(), text)?.as_str(), status);
     }
@@ -79,22 +110,34 @@ fn errors_have_their_status(rt: HostRuntime) -> Result<(), Fail> {
 /// The text of the error that the words of a text are.
 fn shown(rt: &HostRuntime, text: &str) -> Result<String, Fail> {
     let words: Vec<&str> = text.split(' ').collect(rt.alloc())?;
-    match line(rt.alloc(), words.as_slice()) {
+    match lines(rt.alloc(), words.as_slice()) {
         Ok(_) => Ok(String::new(rt.alloc())),
         Err(error) => Ok(format!(in rt.alloc(); "{error}")?),
     }
 }
 
 #[test]
+fn the_version_is_told(rt: HostRuntime) -> Result<(), Fail> {
+    for text in ["wcanon --version", "wcanon -V"] {
+        assert_eq!(rt; shown(&rt, text)?.as_str(), "wcanon 0.1.0\n");
+    }
+    Ok(())
+}
+
+#[test]
 fn help_names_each_subcommand(rt: HostRuntime) -> Result<(), Fail> {
     let help = shown(&rt, "wcanon --help")?;
     for part in [
-        "  binary   Write the canonical bytes of a module\n",
-        "  check    Tell whether a module is accepted, or its first fault\n",
-        "  compare  Tell whether two files denote the same module\n",
+        "  binary     Write the canonical bytes of a module\n",
+        "  check      Tell whether modules are accepted, or the first fault of each\n",
+        "  canonical  Tell whether modules are their own canonical bytes\n",
+        "  hash       Tell the SHA-256 of the canonical bytes of modules\n",
+        "  compare    Tell whether two files denote the same module\n",
         "  wcanon binary in.wasm -o out.wasm\n",
         "  wcanon check in.wasm\n",
-        "  wcanon compare a.wasm b.wasm",
+        "  wcanon compare a.wasm b.wasm\n",
+        "  wcanon canonical in.wasm\n",
+        "  wcanon hash a.wasm b.wasm",
     ] {
         assert!(rt; help.contains(part), "{help}");
     }

@@ -1,4 +1,5 @@
 use Rattle.wc_canon.proofs.Judged.{not-decoded, not-answered, answered, near-decoded, near-refused}
+use Rattle.wc_canon.proofs.FailedReads.{cut-decoded, cut-refused, fails-at, refused-fails-at}
 use Rattle.wc_canon.proofs.running.answer.Goals as goal
 
 pub returns-in_err-module-clause-judges : goal.returns-in_err-module-clause-judges
@@ -20,4 +21,21 @@ returns-in_err-module-clause-near g c = near-decoded _ _ _ _ c.in_err-module.ens
 
 pub returns-in_err-canonical_bytes-clause-near : goal.returns-in_err-canonical_bytes-clause-near
 returns-in_err-canonical_bytes-clause-near g c =
-    near-refused _ _ _ _ _ c.in_err-canonical_bytes.ensures.err c.from_residual-in_err-canonical_bytes.ensures.1
+    near-refused _ _ _ _ _ c.in_err-canonical_bytes.ensures.err c.in_ok-module.ensures.near
+    c.from_residual-in_err-canonical_bytes.ensures.1
+
+pub returns-in_err-module-clause-first_failure : goal.returns-in_err-module-clause-first_failure
+returns-in_err-module-clause-first_failure g c =
+    fails-at _ _ _ c.in_err-module.ensures.first_failure c.from_residual.ensures.1
+
+pub returns-in_err-canonical_bytes-clause-first_failure : goal.returns-in_err-canonical_bytes-clause-first_failure
+returns-in_err-canonical_bytes-clause-first_failure g c =
+    refused-fails-at _ _ _ c.from_residual-in_err-canonical_bytes.ensures.1
+
+pub returns-in_err-module-clause-cut : goal.returns-in_err-module-clause-cut
+returns-in_err-module-clause-cut g c over =
+    cut-decoded _ _ _ (c.in_err-module.ensures.cut over) c.from_residual.ensures.1
+
+pub returns-in_err-canonical_bytes-clause-cut : goal.returns-in_err-canonical_bytes-clause-cut
+returns-in_err-canonical_bytes-clause-cut g c over =
+    cut-refused _ _ _ c.from_residual-in_err-canonical_bytes.ensures.1

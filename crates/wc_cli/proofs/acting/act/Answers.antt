@@ -1,5 +1,6 @@
-use Rattle.wc_cli.proofs.Endings.{ends-told}
+use Rattle.wc_cli.proofs.Told.{ended-tells}
 use Rattle.wc_cli.proofs.acting.act.Goals as goal
 
-pub returns-in-Err : goal.returns-in-Err
-returns-in-Err g c = ends-told _ _ _ _ _ _ _ _ _ _ _ _ _ (rw c.in-Err.is at c.carry_out.ensures) c.report.ensures
+pub returns-in-None-clause-tells : goal.returns-in-None-clause-tells
+returns-in-None-clause-tells g c = λ p q r.
+    let e = c.act_on.ensures.ends in ended-tells _ _ _ _ _ _ _ _ e.0 _ _ _ _ e.1 e.2

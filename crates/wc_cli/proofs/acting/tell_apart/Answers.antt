@@ -3,12 +3,12 @@ use Rattle.wc_device.specs.Device.{device_inner, has_failed}
 use Rattle.wc_canon.specs.declared.comparing.Comparison.TheVariants.{Same, Different}
 use Rattle.wc_canon.specs.Comparing.{Compares}
 use Rattle.wc_cli.specs.declared.command_line.Line.TheVariants.{Compare}
-use Rattle.wc_cli.specs.Acting.{input_bytes, is_unread}
+use Rattle.wc_cli.specs.Inputs.{input_bytes, is_unread}
 use Rattle.wc_cli.proofs.Endings.{unsaid}
 use Rattle.wc_cli.proofs.acting.tell_apart.Goals as goal
 
-pub returns-in_err-say-in-Same : goal.returns-in_err-say-in-Same
-returns-in_err-say-in-Same g c =
+pub returns-in_err-say-in-Same-clause-ends : goal.returns-in_err-say-in-Same-clause-ends
+returns-in_err-say-in-Same-clause-ends g c =
     let x = input_bytes g.R.Read.remaining c.args.a.now in
     let y = input_bytes g.R.Read.remaining c.args.b.now in
     let a = is_unread c.compare_inputs.new.a in
@@ -16,13 +16,13 @@ returns-in_err-say-in-Same g c =
     let old = g.W.Write.contents (device_inner c.args.w.now) in
     let new = g.W.Write.contents (device_inner c.say.new.w) in
     let p : (a ≡ false) × (b ≡ false) × IfSome x (λ u. IfSome y (λ v. Compares u v Same)) =
-    rw c.in-Same.is at c.in_ok-compare_inputs.ensures in
+    rw c.in-Same.is at c.in_ok-compare_inputs.ensures.ends in
     unsaid (Compare c.args.paths.0 c.args.paths.1) x y a b (has_failed c.say.new.w) old new _ 0 _ _
     (p.0, p.1) (inl (p.2, refl, refl)) refl c.in_err-say-in-Same.ensures
     c.from_residual-in_err-say-in-Same.ensures.1
 
-pub returns-in_err-say-in-Different : goal.returns-in_err-say-in-Different
-returns-in_err-say-in-Different g c =
+pub returns-in_err-say-in-Different-clause-ends : goal.returns-in_err-say-in-Different-clause-ends
+returns-in_err-say-in-Different-clause-ends g c =
     let x = input_bytes g.R.Read.remaining c.args.a.now in
     let y = input_bytes g.R.Read.remaining c.args.b.now in
     let a = is_unread c.compare_inputs.new.a in
@@ -30,7 +30,7 @@ returns-in_err-say-in-Different g c =
     let old = g.W.Write.contents (device_inner c.args.w.now) in
     let new = g.W.Write.contents (device_inner c.say-in-Different.new.w) in
     let p : (a ≡ false) × (b ≡ false) × IfSome x (λ u. IfSome y (λ v. Compares u v Different)) =
-    rw c.in-Different.is at c.in_ok-compare_inputs.ensures in
+    rw c.in-Different.is at c.in_ok-compare_inputs.ensures.ends in
     unsaid (Compare c.args.paths.0 c.args.paths.1) x y a b (has_failed c.say-in-Different.new.w) old new _ 1 _ _
     (p.0, p.1) (inr (p.2, refl, refl)) refl c.in_err-say-in-Different.ensures
     c.from_residual-in_err-say-in-Different.ensures.1

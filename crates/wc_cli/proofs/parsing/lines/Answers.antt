@@ -1,6 +1,6 @@
 use Rattle.std.proofs.Common.{◌∙◌, ap, map}
 use Rattle.clap.specs.Words.{takes}
-use Rattle.wc_cli.proofs.parsing.line.Goals as goal
+use Rattle.wc_cli.proofs.parsing.lines.Goals as goal
 
 pub returns-clause-err : goal.returns-clause-err
 returns-clause-err c =

@@ -1,0 +1,172 @@
+//! What is told of one input, in one line.
+
+ghost use Rattle.std.specs.Prelude.{◌≡◌, ◌++◌, IfOk, IfErr, OnOk, OnErr};
+ghost use Rattle.sha2.specs.Sha256.{sha256};
+ghost use Rattle.hex.specs.Hex.{encode_lower};
+ghost use Rattle.wc_cli.specs.declared.failure.Failure.{Failure};
+ghost use Rattle.wc_cli.specs.Inputs.{input_bytes, is_unread, IsNewInput, StaysUnread};
+ghost use Rattle.wc_cli.specs.Telling.{told_line, escaped, escaped_byte, hash_line};
+ghost use Rattle.wc_cli.specs.Inner.Reading.{AnswersBytes, Finds};
+
+use crate::command_line::Ask;
+use crate::failure::{DONE, Failure, REFUSED, refused};
+use crate::reading::read_input;
+use sha2::{Digest, Sha256};
+use std::alloc::{AllocError, Global};
+use std::io::Read;
+use wc_canon::{accept, is_canonical, normalise};
+use wc_device::Device;
+
+/// A line and the status that goes with it.
+#[derive(Drop)]
+pub(crate) struct Answer {
+    pub(crate) text: Vec<u8>,
+    pub(crate) status: u8,
+}
+
+/// The line of a word, with the path in front where it is wanted.
+fn told_line(alloc: Global, path: &str, named: bool, word: &str) -> Result<Vec<u8>, AllocError>
+    ensures { IfOk result (λ v. v.items ≡ told_line path.now named word.now) }
+{
+    let mut line = Vec::new(alloc);
+    if named {
+        line.extend_from_slice(path.as_bytes())?;
+        line.extend_from_slice(b": ")?;
+    }
+    line.extend_from_slice(word.as_bytes())?;
+    line.push(b'\n')?;
+    Ok(line)
+}
+
+/// A word with its status.
+fn worded<'a>(
+    alloc: Global,
+    path: &str,
+    named: bool,
+    word: &str,
+    status: u8,
+) -> Result<Answer, Failure<'a>>
+    ensures ok { IfOk result (λ t. (t.text.items ≡ told_line path.now named word.now) × (t.status ≡ status)) }
+    ensures err { IfErr result (λ f. f ≡ Failure.OutOfMemory) }
+{
+    match told_line(alloc, path, named, word) {
+        Ok(text) => Ok(Answer { text, status }),
+        Err(_) => Err(Failure::OutOfMemory),
+    }
+}
+
+/// That an input is accepted.
+fn check<'a>(alloc: Global, path: &'a str, named: bool, bytes: &[u8]) -> Result<Answer, Failure<'a>>
+    ensures { AnswersBytes Ask.Check path.now named bytes.now result }
+{
+    match accept(alloc, bytes) {
+        Ok(()) => worded(alloc, path, named, "ok", DONE),
+        Err(refusal) => Err(refused(path, refusal)),
+    }
+}
+
+/// Whether an input is its own canonical bytes.
+fn canonical<'a>(
+    alloc: Global,
+    path: &'a str,
+    named: bool,
+    bytes: &[u8],
+) -> Result<Answer, Failure<'a>>
+    ensures { AnswersBytes Ask.Canonical path.now named bytes.now result }
+{
+    match is_canonical(alloc, bytes) {
+        Ok(true) => worded(alloc, path, named, "canonical", DONE),
+        Ok(false) => worded(alloc, path, named, "not canonical", REFUSED),
+        Err(refusal) => Err(refused(path, refusal)),
+    }
+}
+
+/// A byte of a path in a line of hashes.
+fn put_escaped(out: &mut Vec<u8>, byte: u8) -> Result<(), AllocError>
+    ensures { OnOk result (out.new.items ≡ out.old.items ++ escaped_byte byte) }
+{
+    match byte {
+        b'\n' => out.extend_from_slice(b"\\n"),
+        b'\r' => out.extend_from_slice(b"\\r"),
+        b'\\' => out.extend_from_slice(b"\\\\"),
+        other => {
+            out.push(other)?;
+            Ok(())
+        }
+    }
+}
+
+/// A path in a line of hashes.
+fn escaped(alloc: Global, path: &[u8]) -> Result<Vec<u8>, AllocError>
+    ensures { IfOk result (λ v. v.items ≡ escaped path.now) }
+{
+    let mut out = Vec::new(alloc);
+    for byte in path {
+        put_escaped(&mut out, *byte)?;
+    }
+    Ok(out)
+}
+
+/// The line of the hash of some bytes.
+fn hash_line(alloc: Global, bytes: &[u8], path: &str) -> Result<Vec<u8>, AllocError>
+    ensures { IfOk result (λ v. v.items ≡ hash_line bytes.now path.now) }
+{
+    let digits = hex::encode(alloc, Sha256::digest(bytes))?;
+    let shown = escaped(alloc, path.as_bytes())?;
+    let mut line = Vec::new(alloc);
+    if shown.len() != path.len() {
+        line.push(b'\\')?;
+    }
+    line.extend_from_slice(digits.as_bytes())?;
+    line.extend_from_slice(b"  ")?;
+    line.extend_from_slice(shown.as_slice())?;
+    line.push(b'\n')?;
+    Ok(line)
+}
+
+/// The hash of the canonical bytes of an input.
+fn hash<'a>(alloc: Global, path: &'a str, named: bool, bytes: &[u8]) -> Result<Answer, Failure<'a>>
+    ensures { AnswersBytes Ask.Hash path.now named bytes.now result }
+{
+    let answer = match normalise(alloc, bytes) {
+        Ok(answer) => answer,
+        Err(refusal) => return Err(refused(path, refusal)),
+    };
+    match hash_line(alloc, answer.as_slice(), path) {
+        Ok(text) => Ok(Answer { text, status: DONE }),
+        Err(_) => Err(Failure::OutOfMemory),
+    }
+}
+
+/// What is told of an input with these bytes.
+fn told_of<'a>(
+    alloc: Global,
+    ask: Ask,
+    path: &'a str,
+    named: bool,
+    bytes: &[u8],
+) -> Result<Answer, Failure<'a>>
+    ensures { AnswersBytes ask path.now named bytes.now result }
+{
+    match ask {
+        Ask::Check => check(alloc, path, named, bytes),
+        Ask::Canonical => canonical(alloc, path, named, bytes),
+        Ask::Hash => hash(alloc, path, named, bytes),
+    }
+}
+
+/// What is told of an input.
+pub(crate) fn find<'a, R: Read>(
+    alloc: Global,
+    ask: Ask,
+    path: &'a str,
+    named: bool,
+    input: &mut Option<Device<R>>,
+) -> Result<Answer, Failure<'a>>
+    requires { IsNewInput input.old }
+    ensures finds { Finds ask path.now named (input_bytes R.remaining input.old) (is_unread input.new) result }
+    ensures stays { StaysUnread input.old input.new }
+{
+    let bytes = read_input(alloc, path, input)?;
+    told_of(alloc, ask, path, named, bytes.as_slice())
+}
