@@ -5,9 +5,11 @@ make_wasm.py KIND MEGABYTES FILE [--padded]
 
 KIND is one of
     code    functions of a usual mix of instructions: a few locals, blocks, loops, ifs, loads, stores and calls
+    fixed   the same, and a constant global stands before the one that they set
     tiny    a great many functions of one or two instructions
     nested  functions of blocks, loops and ifs in one another, 20,000 deep
     names   imports, exports and custom sections with long names, some of them beyond ASCII
+    many    imports and exports with a great many names of a usual length
     data    one data segment
 
 With --padded each integer that has room for it takes five bytes: counts, sizes, indices and constants.
@@ -58,10 +60,11 @@ class Integers:
 class Statements:
     """Random statements over the locals, each of which leaves the stack as it was."""
 
-    def __init__(self, integers, seed):
+    def __init__(self, integers, seed, variable):
         self.u = integers.unsigned
         self.s = integers.signed
         self.random = random.Random(seed)
+        self.variable = self.u(variable)  # the global that is read and set
 
     def local(self):
         return self.u(self.random.randrange(5))
@@ -98,7 +101,7 @@ class Statements:
                 + b"\x21" + self.u(5))
 
     def globals(self):
-        return b"\x23" + self.u(0) + self.constant() + b"\x6b\x24" + self.u(0)
+        return b"\x23" + self.variable + self.constant() + b"\x6b\x24" + self.variable
 
     def indirect(self):
         return self.operand() * 2 + self.operand() + b"\x11" + self.u(0) + b"\x00\x21" + self.local()
@@ -168,8 +171,9 @@ def functions(integers, types, codes, others=()):
     return b"".join(integers.section(number, sections[number]) for number in sorted(sections))
 
 
-def code(integers, size):
-    statements = Statements(integers, 12345)
+def code(integers, size, constants=0):
+    """So many constant globals stand before the one that is set."""
+    statements = Statements(integers, 12345, constants)
     declared = locals_of(integers)
     pool = []
     for _ in range(1000):
@@ -179,12 +183,17 @@ def code(integers, size):
     others = {
         4: integers.vector([b"\x70\x00" + integers.unsigned(16)]),
         5: integers.vector([b"\x00" + integers.unsigned(2)]),
-        6: integers.vector([b"\x7f\x01\x41" + integers.signed(65536) + b"\x0b"]),
+        6: integers.vector([b"\x7f" + mutable + b"\x41" + integers.signed(65536) + b"\x0b"
+                            for mutable in [b"\x00"] * constants + [b"\x01"]]),
         7: integers.vector([integers.name("run") + b"\x00" + integers.unsigned(0)]),
         9: integers.vector([integers.unsigned(0) + b"\x41" + integers.signed(0) + b"\x0b"
                             + integers.vector([integers.unsigned(n) for n in range(16)])]),
     }
     return functions(integers, [func_type(integers, [I32, I32], [I32])], codes, others)
+
+
+def fixed(integers, size):
+    return code(integers, size, constants=1)
 
 
 def tiny(integers, size):
@@ -229,6 +238,21 @@ def names(integers, size):
             + integers.section(2, integers.vector(imports)) + integers.section(7, integers.vector(exports)) + behind)
 
 
+def many(integers, size):
+    u = integers.unsigned
+    chooser = random.Random(24680)
+    words = "core alloc string vec map set iter fmt write read next push pop len slice hash node list".split()
+    imports, exports, total, count = [], [], 0, 0
+    while total < size:
+        path = "_".join(chooser.choice(words) for _ in range(chooser.randrange(1, 6)))
+        imports.append(integers.name("env") + integers.name(f"{path}{count}") + b"\x00" + u(0))
+        exports.append(integers.name(f"{path}_{count}") + b"\x00" + u(count))
+        total += len(imports[-1]) + len(exports[-1])
+        count += 1
+    return (integers.section(1, integers.vector([func_type(integers, [], [])]))
+            + integers.section(2, integers.vector(imports)) + integers.section(7, integers.vector(exports)))
+
+
 def data(integers, size):
     content = random.Random(999).randbytes(size)
     segment = integers.unsigned(0) + b"\x41" + integers.signed(0) + b"\x0b" + integers.unsigned(len(content)) + content
@@ -237,7 +261,7 @@ def data(integers, size):
             + integers.section(11, integers.vector([segment])))
 
 
-KINDS = {"code": code, "tiny": tiny, "nested": nested, "names": names, "data": data}
+KINDS = {"code": code, "fixed": fixed, "tiny": tiny, "nested": nested, "names": names, "many": many, "data": data}
 
 
 def main():
