@@ -1,2 +1,4 @@
 pub mod Along
 pub mod Declaring
+pub mod Typing
+pub mod Spots

@@ -21,7 +21,7 @@ pub fn printed_declarations()
 
 /// The types of a printed text are those of the module, and no type use has a fault (Core 1.0, 6.6.3).
 pub fn printed_types()
-    ensures types { (m : Module) → types_of (text_fields m) ≡ m.types }
+    ensures types { (m : Module) → Known m → types_of (text_fields m) ≡ m.types }
     ensures uses { (m : Module) → Known m → all_use_faults (text_fields m) ≡ [] }
 {}
 
