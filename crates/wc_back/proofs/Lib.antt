@@ -2,3 +2,5 @@ pub mod Along
 pub mod Declaring
 pub mod Typing
 pub mod Spots
+pub mod Instructions
+pub mod Bodies
