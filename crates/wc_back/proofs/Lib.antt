@@ -1,0 +1,6 @@
+pub mod Along
+pub mod Declaring
+pub mod Typing
+pub mod Spots
+pub mod Instructions
+pub mod Bodies

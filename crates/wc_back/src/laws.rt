@@ -1,0 +1,37 @@
+//! Laws of the names of printed texts. Each function only states its law: it does nothing.
+
+ghost use Rattle.std.specs.Prelude.{◌≡◌, [], ℕ, List as Seq, Option as Maybe, map, length};
+ghost use Rattle.wc_ast.specs.declared.module.Module.{Module};
+ghost use Rattle.wc_body.specs.Standard.Nested.{Code};
+ghost use Rattle.wc_body.specs.declared.instr.BlockType.{BlockType as HeadType};
+ghost use Rattle.wc_body.specs.declared.instr.Instr.{Instr as Instruction};
+ghost use Rattle.wc_targets.specs.Standard.Contexts.{Context};
+ghost use Rattle.wc_targets.specs.Standard.Bodies.{resolved, body_faults};
+ghost use Rattle.wc_declared.specs.Standard.Stages.{declaration_faults, all_use_faults};
+ghost use Rattle.wc_declared.specs.Standard.Types.{types_of};
+ghost use Rattle.wc_declared.specs.Standard.Uses.{use_index};
+ghost use Rattle.wc_told.specs.Bodies.{text_body};
+ghost use Rattle.wc_reread.specs.Surface.{text_fields};
+ghost use Rattle.wc_back.specs.Known.{Known, KnownCode};
+
+/// The declarations of a printed text have no fault (Core 1.0, 6.6.13): it has no identifiers, and imports come first.
+pub fn printed_declarations()
+    ensures { (m : Module) → Known m → declaration_faults (text_fields m) ≡ [] }
+{}
+
+/// The types of a printed text are those of the module, and no type use has a fault (Core 1.0, 6.6.3).
+pub fn printed_types()
+    ensures types { (m : Module) → Known m → types_of (text_fields m) ≡ m.types }
+    ensures uses { (m : Module) → Known m → all_use_faults (text_fields m) ≡ [] }
+{}
+
+/// The printed instructions of a body are its instructions, whatever is declared around them, and no name in them has a
+/// fault (Core 1.0, 6.5).
+pub fn printed_bodies()
+    ensures same { (c : Context) (ids : Seq (Maybe (Seq ℕ))) (types : Seq (Seq ℕ)) (token : ℕ)
+        (code : Code Instruction HeadType) → KnownCode (length types) code
+        → c.uses ≡ map (use_index ids types) (text_body token code).uses
+        → resolved c (text_body token code) ≡ code }
+    ensures faultless { (c : Context) (n : ℕ) (token : ℕ) (code : Code Instruction HeadType) → KnownCode n code
+        → body_faults c (text_body token code) ≡ [] }
+{}

@@ -1,0 +1,6 @@
+//! The printed text of a module, with its names resolved.
+#![tactic(auto)]
+
+mod laws;
+
+pub use laws::{printed_bodies, printed_declarations, printed_types};
