@@ -121,9 +121,9 @@ label-count (instrs.Index o n) = omega arith
 label-count (instrs.Mem o arg) = omega arith
 label-count (instrs.BrTable default labels) =
     let e : length (instr_labels (instrs.BrTable default labels)) ≡ length labels + 1 =
-        simp (length-append, length-map) refl in
+    simp (length-append, length-map) refl in
     let f : length (mark_signs (plain (instrs.BrTable default labels))) ≡ length labels + 2 =
-        simp (length-append, length-map) (omega arith) in
+    simp (length-append, length-map) (omega arith) in
     omega (arith, e, f)
 label-count (instrs.CallIndirect n) = omega arith
 label-count (instrs.I32Const z) = omega arith
