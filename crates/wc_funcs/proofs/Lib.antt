@@ -1,0 +1,4 @@
+pub mod Behind
+pub mod Counting
+pub mod Sizes
+pub mod Knowing

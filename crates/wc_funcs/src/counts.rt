@@ -5,6 +5,7 @@ ghost use Rattle.std.specs.List.{All};
 ghost use Rattle.wc_surface.specs.Kept.Keyed.{params_in};
 ghost use Rattle.wc_surface.specs.declared.field.Field.{Field as FieldValue};
 ghost use Rattle.wc_declared.specs.Kept.Declaring.{IsDeclared};
+ghost use Rattle.wc_funcs.specs.Standard.Locals.{param_counts as all_param_counts};
 
 use std::alloc::{AllocError, Global};
 use wc_declared::Declared;
@@ -27,7 +28,7 @@ fn params_in_key(key: &[u8]) -> usize
 /// error is want of memory.
 pub fn param_counts(alloc: Global, declared: &Declared<'_>) -> Result<Vec<usize>, AllocError>
     ensures { (fs : List FieldValue) → IsDeclared fs declared.now
-        → IfOk result (λ counts. counts.items ≡ Rattle.wc_funcs.specs.Standard.Locals.param_counts fs) }
+        → IfOk result (λ counts. counts.items ≡ all_param_counts fs) }
 {
     let keys = declared.types.keys();
     let mut counts = Vec::with_capacity(alloc, keys.len())?;

@@ -1,6 +1,6 @@
 //! The local index space of a function.
 
-ghost use Rattle.std.specs.Prelude.{◌≡◌, ◌<◌, ◌+◌, ◌++◌, ◌∷◌, [], ◌^◌, ℕ, List, Option, Some, IfOk, OnOk, length};
+ghost use Rattle.std.specs.Prelude.{◌≡◌, ◌<◌, ◌+◌, ◌++◌, ◌∷◌, [], ◌^◌, ℕ, List, Option, Some, IfOk, OnOk, length, drop, ◌≤◌};
 ghost use Rattle.wc_spaces.specs.Kept.Spaces.{IsSpace, size_of};
 ghost use Rattle.wc_surface.specs.Standard.WrittenLocals.{locals_of, written_out};
 ghost use Rattle.wc_declared.specs.Standard.Spaces.{texts, text_in};
@@ -29,28 +29,49 @@ fn add_id<'a>(space: &mut Space<'a>, id: &'a Id<'a>) -> Result<(), AllocError>
     )
 }
 
-/// The parameter of this place. What is left of the identifiers is the answer.
+/// The parameter of this place, where so many identifiers are used up. The answer is how many are then.
 fn add_param<'a>(
     space: &mut Space<'a>,
     place: u32,
     names: &'a [ParamName<'a>],
-) -> Result<&'a [ParamName<'a>], AllocError>
-    requires { size_of space.old + 1 < 2 ^ 32 }
+    used: usize,
+) -> Result<usize, AllocError>
+    requires room { size_of space.old + 1 < 2 ^ 32 }
+    requires used { used ≤ place }
     ensures space { (ds : List (Option (List ℕ))) → IsSpace ds space.old
-        → OnOk result (IsSpace (ds ++ text_in (id_at place names.now) ∷ []) space.new) }
-    ensures left { IfOk result (λ left. left.now ≡ behind place names.now) }
+        → OnOk result (IsSpace (ds ++ text_in (id_at place (drop used names.now)) ∷ []) space.new) }
+    ensures left { IfOk result (λ after. drop after names.now ≡ behind place (drop used names.now)) }
+    ensures used { IfOk result (λ after. after ≤ used + 1) }
     ensures size { OnOk result (size_of space.new ≡ size_of space.old + 1) }
 {
-    match names.split_first() {
-        Some((name, others)) if name.place == place => {
+    match names.get(used) {
+        Some(name) if name.place == place => {
             add_id(space, &name.id)?;
-            Ok(others)
+            Ok(used + 1)
         }
         _ => {
             space.add_unnamed();
-            Ok(names)
+            Ok(used)
         }
     }
+}
+
+/// So many parameters, one by one.
+fn add_each_param<'a>(
+    space: &mut Space<'a>,
+    count: u32,
+    names: &'a [ParamName<'a>],
+) -> Result<(), AllocError>
+    requires { size_of space.old + count < 2 ^ 32 }
+    ensures space { (ds : List (Option (List ℕ))) → IsSpace ds space.old
+        → OnOk result (IsSpace (ds ++ texts (params_from 0 count names.now)) space.new) }
+    ensures size { OnOk result (size_of space.new ≡ size_of space.old + count) }
+{
+    let mut next = 0;
+    for place in 0..count {
+        next = add_param(space, place, names, next)?;
+    }
+    Ok(())
 }
 
 /// So many parameters. Where none has an identifier, it takes no longer for many than for one.
@@ -66,13 +87,10 @@ fn add_params<'a>(
 {
     if names.is_empty() {
         space.add_unnamed_many(count);
-        return Ok(());
+        Ok(())
+    } else {
+        add_each_param(space, count, names)
     }
-    let mut left = names;
-    for place in 0..count {
-        left = add_param(space, place, left)?;
-    }
-    Ok(())
 }
 
 /// The same identifier so many times.

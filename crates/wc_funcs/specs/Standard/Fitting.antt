@@ -1,5 +1,5 @@
 -- How many parameters and locals a function of a text may have.
-use Rattle.std.specs.Prelude.{ℕ, ◌+◌, ◌<◌, ◌≤◌, ◌^◌, List, length}
+use Rattle.std.specs.Prelude.{◌+◌, ◌<◌, ◌≤◌, ◌^◌, List, length}
 use Rattle.std.specs.List.{All}
 use Rattle.wc_ast.specs.Standard.LocalGroups.{locals_limit}
 use Rattle.wc_surface.specs.declared.local.Local.{Local}
