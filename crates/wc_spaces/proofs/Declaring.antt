@@ -9,7 +9,7 @@ use Rattle.wc_spaces.specs.declared.space.Space.{Space}
 use Rattle.wc_spaces.specs.Kept.Places.{place_in}
 use Rattle.wc_spaces.specs.Kept.Spaces.{IsSpace, size_of}
 use Rattle.wc_spaces.specs.Standard.Least.{earlier, least_from}
-use Rattle.wc_spaces.specs.Standard.Spaces.{is_named, place_of}
+use Rattle.wc_spaces.specs.Standard.Spaces.{is_named, place_of, duplicate}
 use Rattle.wc_spaces.proofs.FirstStays.{kept}
 use Rattle.wc_spaces.proofs.Positions.{position-push, position-any}
 

@@ -1,4 +1,4 @@
-use Rattle.std.proofs.Common.{refl}
+use Rattle.std.proofs.Common.{refl, ◌∙◌, ap}
 use Rattle.wc_spaces.proofs.Declaring.{named, told-fault}
 use Rattle.wc_spaces.proofs.space.Space.add_named.Goals as goal
 use Rattle.wc_spaces.proofs.space.Space.add_named.Goals.{then-not-branch, else-not-branch}
