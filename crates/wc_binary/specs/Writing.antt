@@ -2,6 +2,5 @@
 pub mod Values
 pub mod Locals
 pub mod Contents
-pub mod Heads
 pub mod Sections
 pub mod Writes

@@ -19,7 +19,7 @@ use Rattle.wc_binary.specs.Standard.Locals.{locals_fault, group, groups, locals}
 use Rattle.wc_body.specs.Standard.ValueBytes.{vector_bytes, value_type_bytes, FitsVector}
 use Rattle.wc_binary.specs.Writing.Values.{Anything}
 use Rattle.wc_binary.specs.Writing.Locals.{group_of, merged, group_bytes, locals_bytes, FitsLocals}
-use Rattle.wc_binary.specs.Writing.Writes.{Writes}
+use Rattle.wc_binary.specs.Writing.Writes.{Writes, Measures}
 use Rattle.wc_binary.proofs.spelling.Judging.{Judges, HasBytes}
 use Rattle.wc_binary.proofs.spelling.Phrases.{of, writes-as, u32-writes, then-writes, seen-writes}
 use Rattle.wc_binary.proofs.spelling.Types.{value_type-writes}
@@ -193,3 +193,11 @@ module _ (gs : List Group) (grouped : IsGrouped gs) (within : length (written_ou
   locals-written old new (Ok u) h = let is = merged-grouped gs grouped in (within, rw is h.1)
   locals-written old new (Err Oversize) h = λ f. h (omega (arith, grouped-few gs grouped), anything gs)
   locals-written old new (Err Memory) h = tt
+
+  -- and so is what counting their bytes answers
+  pub locals-counted : (r : Result ℕ EncFault)
+      → Measures (FitsVector Anything gs) (length (vector_bytes group_bytes gs)) r
+      → Measures (FitsLocals (written_out gs)) (length (locals_bytes (written_out gs))) r
+  locals-counted (Ok n) h = let is = merged-grouped gs grouped in rw is h
+  locals-counted (Err Oversize) h = λ f. h (omega (arith, grouped-few gs grouped), anything gs)
+  locals-counted (Err Memory) h = tt

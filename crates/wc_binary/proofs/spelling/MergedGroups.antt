@@ -134,7 +134,7 @@ abbrev pub size : List Group → ℕ
 size [] = 0
 size (g ∷ gs) = width g.count + 1 + size gs
 
-type-byte : (t : ValType) → length (value_type_bytes t) ≡ 1
+pub type-byte : (t : ValType) → length (value_type_bytes t) ≡ 1
 type-byte I32 = refl
 type-byte I64 = refl
 

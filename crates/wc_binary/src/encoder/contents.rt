@@ -2,13 +2,12 @@
 
 ghost use Rattle.wc_binary.specs.Writing.Contents.{global_bytes, elem_bytes, data_bytes};
 ghost use Rattle.wc_binary.specs.Writing.Contents.{FitsGlobal, FitsElem, FitsData};
-ghost use Rattle.wc_binary.specs.Writing.Heads.{data_head_bytes};
-ghost use Rattle.wc_binary.specs.Writing.Writes.{Writes};
 
+use crate::encoder::expression::expr_size;
 use crate::encoder::item::{Item, write_vector};
 use crate::encoder::measured::Measured;
 use crate::encoder::types::write_global_type;
-use crate::encoder::value::{write_length, write_u32};
+use crate::encoder::value::{length_size, u32_size, write_length, write_u32};
 use crate::fault::EncFault;
 use wc_ast::{Data, Elem, Global};
 
@@ -35,28 +34,21 @@ impl Item for Elem {
     }
 }
 
-/// Writes what stands before the bytes of a segment, and their count.
-fn write_data_head(out: &mut Vec<u8>, segment: &Data) -> Result<(), EncFault>
-    ensures { Writes (FitsData segment.now) out.old.items out.new.items (data_head_bytes segment.now) result }
-{
-    write_u32(out, segment.memory)?;
-    segment.offset.write(out)?;
-    write_length(out, segment.bytes.len())
-}
-
 impl Measured for Data {
     ghost bytes = { data_bytes };
 
     ghost Fits = { FitsData };
 
-    fn size(&self, head: &mut Vec<u8>, _scratch: &mut Vec<u8>) -> Result<usize, EncFault> {
-        head.clear();
-        write_data_head(head, self)?;
-        Ok(head.len().saturating_add(self.bytes.len()))
+    fn size(&self) -> Result<usize, EncFault> {
+        let head = u32_size(self.memory).saturating_add(expr_size(&self.offset.as_ref()));
+        let count = length_size(self.bytes.len())?;
+        Ok(head.saturating_add(count).saturating_add(self.bytes.len()))
     }
 
-    fn write(&self, out: &mut Vec<u8>, _scratch: &mut Vec<u8>) -> Result<(), EncFault> {
-        write_data_head(out, self)?;
+    fn write(&self, out: &mut Vec<u8>) -> Result<(), EncFault> {
+        write_u32(out, self.memory)?;
+        self.offset.write(out)?;
+        write_length(out, self.bytes.len())?;
         out.extend_from_slice(self.bytes.as_slice())?;
         Ok(())
     }

@@ -1,5 +1,6 @@
 //! Expressions (Core 1.0, 5.4.6).
 
+ghost use Rattle.std.specs.Prelude.{◌≡◌, length};
 ghost use Rattle.wc_body.specs.Standard.InstructionBytes.{expr_bytes, FitsExpr};
 
 use crate::encoder::item::Item;
@@ -30,4 +31,11 @@ impl<'a> Item for BodyRef<'a> {
         out.push(0x0b)?;
         Ok(())
     }
+}
+
+/// How many bytes the instructions take, and the byte that ends them.
+pub fn expr_size(body: &BodyRef<'_>) -> usize
+    ensures { result ≡ length (expr_bytes body.now) }
+{
+    body.bytes().len() + 1
 }

@@ -7,54 +7,50 @@ ghost use Rattle.wc_binary.specs.Writing.Values.{section_bytes, FitsSection};
 ghost use Rattle.wc_binary.specs.Standard.Sections.{section_id};
 ghost use Rattle.wc_binary.specs.Writing.Writes.{Writes, Measures};
 
-use crate::encoder::value::write_length;
+use crate::encoder::value::{length_size, write_length};
 use crate::fault::EncFault;
 use crate::section::SectionKind;
-use std::alloc::Global;
 
-/// What stands in such a section. The two vectors are room for parts that are laid out on the way.
+/// What stands in such a section.
 pub trait Measured: Sized {
     ghost bytes: { Self → Seq ℕ };
 
     ghost Fits: { Self → Type 0 };
 
     /// How many bytes the item takes.
-    fn size(&self, head: &mut Vec<u8>, scratch: &mut Vec<u8>) -> Result<usize, EncFault>
+    fn size(&self) -> Result<usize, EncFault>
         ensures { Measures (Fits self.now) (length (bytes self.now)) result };
 
     /// Writes the item.
-    fn write(&self, out: &mut Vec<u8>, scratch: &mut Vec<u8>) -> Result<(), EncFault>
+    fn write(&self, out: &mut Vec<u8>) -> Result<(), EncFault>
         ensures { Writes (Fits self.now) out.old.items out.new.items (bytes self.now) result };
 }
 
 /// How many bytes the count and the items take.
-fn vector_size<M: Measured>(alloc: Global, items: &[M]) -> Result<usize, EncFault>
+pub fn vector_size<M: Measured>(items: &[M]) -> Result<usize, EncFault>
     ensures { Measures (FitsVector M.Fits items.now) (length (vector_bytes M.bytes items.now)) result }
 {
-    let mut head = Vec::new(alloc);
-    let mut scratch = Vec::new(alloc);
-    write_length(&mut head, items.len())?;
-    let mut size = head.len();
+    let count = length_size(items.len())?;
+    let mut size = count;
     for item in items {
-        size = size.saturating_add(item.size(&mut head, &mut scratch)?);
+        size = size.saturating_add(item.size()?);
     }
     Ok(size)
 }
 
-fn write_items<M: Measured>(alloc: Global, out: &mut Vec<u8>, items: &[M]) -> Result<(), EncFault>
+/// Writes the count and the items.
+pub fn write_items<M: Measured>(out: &mut Vec<u8>, items: &[M]) -> Result<(), EncFault>
     ensures { Writes (FitsVector M.Fits items.now) out.old.items out.new.items (vector_bytes M.bytes items.now) result }
 {
-    let mut scratch = Vec::new(alloc);
     write_length(out, items.len())?;
     for item in items {
-        item.write(out, &mut scratch)?;
+        item.write(out)?;
     }
     Ok(())
 }
 
 /// Writes a section of these items, unless there is none.
 pub fn write_measured<M: Measured>(
-    alloc: Global,
     out: &mut Vec<u8>,
     kind: SectionKind,
     items: &[M],
@@ -65,9 +61,9 @@ pub fn write_measured<M: Measured>(
     if items.is_empty() {
         return Ok(());
     }
-    let size = vector_size(alloc, items)?;
+    let size = vector_size(items)?;
     out.push(kind.id())?;
     write_length(out, size)?;
     out.reserve(size)?;
-    write_items(alloc, out, items)
+    write_items(out, items)
 }

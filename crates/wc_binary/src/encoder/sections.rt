@@ -43,6 +43,6 @@ pub fn write_sections(alloc: Global, out: &mut Vec<u8>, m: &Module) -> Result<()
     write_section(alloc, out, SectionKind::Export, m.exports.as_slice())?;
     write_start_section(alloc, out, m.start)?;
     write_section(alloc, out, SectionKind::Element, m.elems.as_slice())?;
-    write_code_section(alloc, out, m.funcs.codes())?;
-    write_measured(alloc, out, SectionKind::Data, m.datas.as_slice())
+    write_code_section(out, m.funcs.codes())?;
+    write_measured(out, SectionKind::Data, m.datas.as_slice())
 }

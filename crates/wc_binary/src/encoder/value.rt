@@ -1,8 +1,8 @@
 //! Integers and lengths by their shortest spellings (Core 1.0, 5.2.2).
 
-ghost use Rattle.std.specs.Prelude.{◌≡◌, ◌++◌, ◌<◌, ◌^◌, OnOk};
+ghost use Rattle.std.specs.Prelude.{◌≡◌, ◌++◌, ◌<◌, ◌^◌, OnOk, length as count_of};
 ghost use Rattle.wc_leb128.specs.Writing.Bytes.{unsigned_bytes};
-ghost use Rattle.wc_binary.specs.Writing.Writes.{Writes};
+ghost use Rattle.wc_binary.specs.Writing.Writes.{Writes, Measures};
 
 use crate::fault::EncFault;
 use std::alloc::AllocError;
@@ -37,4 +37,34 @@ pub fn write_length(out: &mut Vec<u8>, length: usize) -> Result<(), EncFault>
     }
     write_u32(out, length as u32)?;
     Ok(())
+}
+
+/// How many bytes a number takes that takes several.
+#[inline(never)]
+fn long_size(n: u32) -> usize
+    ensures { result ≡ count_of (unsigned_bytes n) }
+{
+    shortest_u(u64::from(n)).as_slice().len()
+}
+
+/// How many bytes a number takes. Most take one, so that case is told in place.
+#[inline(always)]
+pub fn u32_size(n: u32) -> usize
+    ensures { result ≡ count_of (unsigned_bytes n) }
+{
+    if n < 128 {
+        return 1;
+    }
+    long_size(n)
+}
+
+/// How many bytes a count of items or a size in bytes takes.
+#[inline(always)]
+pub fn length_size(length: usize) -> Result<usize, EncFault>
+    ensures { Measures (length < 2 ^ 32) (count_of (unsigned_bytes length)) result }
+{
+    if length > u32::MAX as usize {
+        return Err(EncFault::Oversize);
+    }
+    Ok(u32_size(length as u32))
 }
