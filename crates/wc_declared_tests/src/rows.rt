@@ -1,12 +1,15 @@
 //! Fields of texts, written short.
 
-use std::alloc::{AllocError, Global};
+use std::alloc::Global;
 use wc_ast::{BuildFault, GlobalType, Limits, List, Name, ValType};
 use wc_surface::{
     CodeBuilder, DataField, ElemField, Field, FuncDesc, FuncField, GlobalDesc, GlobalField, Id,
     ImportDesc, ImportField, ImportNames, Index, Local, MemoryDesc, MemoryField, ParamName,
     Signature, StartField, TableDesc, TableField, TextBody, TextLocals, TypeField, TypeUse, User,
 };
+
+/// What is made, or why it couldn't be. What takes parts takes them so, and its callers have nothing to let go.
+pub type Made<T> = Result<T, BuildFault>;
 
 /// Size limits of one.
 pub const ONE: Limits = Limits { min: 1, max: None };
@@ -35,11 +38,7 @@ pub fn import_names(alloc: Global, token: u32) -> ImportNames {
 }
 
 /// A parameter's identifier at the token, if there is a text.
-fn names(
-    alloc: Global,
-    token: u32,
-    text: &'static str,
-) -> Result<List<ParamName<'static>>, AllocError> {
+fn names(alloc: Global, token: u32, text: &'static str) -> Made<List<ParamName<'static>>> {
     let mut names = Vec::new(alloc);
     if !text.is_empty() {
         names.push(ParamName {
@@ -51,11 +50,7 @@ fn names(
 }
 
 /// A use without an index, of these parameters and no results.
-pub fn inline(
-    alloc: Global,
-    user: User,
-    params: &[ValType],
-) -> Result<TypeUse<'static>, AllocError> {
+pub fn inline(alloc: Global, user: User, params: &[ValType]) -> Made<TypeUse<'static>> {
     Ok(TypeUse {
         user,
         token: 0,
@@ -72,7 +67,7 @@ pub fn numbered(
     token: u32,
     value: u32,
     params: &[ValType],
-) -> Result<TypeUse<'static>, AllocError> {
+) -> Made<TypeUse<'static>> {
     Ok(TypeUse {
         user,
         token: 0,
@@ -83,12 +78,7 @@ pub fn numbered(
 }
 
 /// A use of the type of this identifier.
-pub fn named(
-    alloc: Global,
-    user: User,
-    token: u32,
-    text: &'static str,
-) -> Result<TypeUse<'static>, AllocError> {
+pub fn named(alloc: Global, user: User, token: u32, text: &'static str) -> Made<TypeUse<'static>> {
     Ok(TypeUse {
         user,
         token: 0,
@@ -101,17 +91,17 @@ pub fn named(
 /// The same use with a parameter's identifier at the token.
 pub fn with_name(
     alloc: Global,
-    used: TypeUse<'static>,
+    used: Made<TypeUse<'static>>,
     token: u32,
     text: &'static str,
-) -> Result<TypeUse<'static>, AllocError> {
+) -> Made<TypeUse<'static>> {
     let TypeUse {
         user,
         token: word,
         index,
         signature,
         ..
-    } = used;
+    } = used?;
     Ok(TypeUse {
         user,
         token: word,
@@ -122,28 +112,25 @@ pub fn with_name(
 }
 
 /// A body of no instructions that has these uses.
-pub fn body(alloc: Global, uses: List<TypeUse<'static>>) -> Result<TextBody<'static>, BuildFault> {
+pub fn body(alloc: Global, uses: Made<List<TypeUse<'static>>>) -> Made<TextBody<'static>> {
     Ok(TextBody {
+        uses: uses?,
         code: CodeBuilder::new(alloc).finish()?,
         heads: List::new(alloc),
-        uses,
         ids: List::new(alloc),
         labels: List::new(alloc),
     })
 }
 
 /// No uses.
-pub fn no_uses(alloc: Global) -> List<TypeUse<'static>> {
-    List::new(alloc)
+pub fn no_uses(alloc: Global) -> Made<List<TypeUse<'static>>> {
+    Ok(List::new(alloc))
 }
 
 /// This use alone.
-pub fn one_use(
-    alloc: Global,
-    used: TypeUse<'static>,
-) -> Result<List<TypeUse<'static>>, AllocError> {
+pub fn one_use(alloc: Global, used: Made<TypeUse<'static>>) -> Made<List<TypeUse<'static>>> {
     let mut uses = Vec::new(alloc);
-    uses.push(used)?;
+    uses.push(used?)?;
     Ok(List::from_vec(uses))
 }
 
@@ -153,7 +140,7 @@ pub fn locals(
     count: u32,
     token: u32,
     text: &'static str,
-) -> Result<TextLocals<'static>, AllocError> {
+) -> Made<TextLocals<'static>> {
     let mut locals = TextLocals::new(alloc);
     let mut at = token;
     for _ in 0..count {
@@ -175,11 +162,7 @@ pub fn locals(
 }
 
 /// A type of these parameters.
-pub fn ty(
-    alloc: Global,
-    id: Option<Id<'static>>,
-    params: &[ValType],
-) -> Result<Field<'static>, AllocError> {
+pub fn ty(alloc: Global, id: Option<Id<'static>>, params: &[ValType]) -> Made<Field<'static>> {
     Ok(Field::FuncType(TypeField {
         id,
         signature: Signature::new(alloc, params, &[])?,
@@ -193,71 +176,92 @@ pub fn import(
     token: u32,
     id: Option<Id<'static>>,
     desc: ImportDesc<'static>,
-) -> Field<'static> {
-    Field::Import(ImportField {
+) -> Made<Field<'static>> {
+    Ok(Field::Import(ImportField {
         names: import_names(alloc, token),
         id,
         desc,
+    }))
+}
+
+/// An import of a function.
+pub fn import_func(alloc: Global, token: u32, own: Made<TypeUse<'static>>) -> Made<Field<'static>> {
+    import(alloc, token, None, ImportDesc::Func(own?))
+}
+
+/// No instructions, with these uses.
+fn code(
+    alloc: Global,
+    locals: Made<TextLocals<'static>>,
+    uses: Made<List<TypeUse<'static>>>,
+) -> Made<FuncDesc<'static>> {
+    let body = body(alloc, uses)?;
+    Ok(FuncDesc::Code {
+        locals: locals?,
+        body,
     })
+}
+
+/// No locals.
+pub fn no_locals(alloc: Global) -> Made<TextLocals<'static>> {
+    Ok(TextLocals::new(alloc))
 }
 
 /// A function of no instructions, with these uses behind its own.
 pub fn func(
     alloc: Global,
     id: Option<Id<'static>>,
-    own: TypeUse<'static>,
-    locals: TextLocals<'static>,
-    uses: List<TypeUse<'static>>,
-) -> Result<Field<'static>, BuildFault> {
+    own: Made<TypeUse<'static>>,
+    locals: Made<TextLocals<'static>>,
+    uses: Made<List<TypeUse<'static>>>,
+) -> Made<Field<'static>> {
+    let desc = code(alloc, locals, uses)?;
     Ok(Field::Func(FuncField {
+        ty: own?,
         id,
         exports: List::new(alloc),
-        ty: own,
-        desc: FuncDesc::Code {
-            locals,
-            body: body(alloc, uses)?,
-        },
+        desc,
     }))
 }
 
 /// A function `(func)`, with an identifier or none.
-pub fn plain_func(alloc: Global, id: Option<Id<'static>>) -> Result<Field<'static>, BuildFault> {
-    let own = inline(alloc, User::Func, &[])?;
-    func(alloc, id, own, TextLocals::new(alloc), no_uses(alloc))
+pub fn plain_func(alloc: Global, id: Option<Id<'static>>) -> Made<Field<'static>> {
+    let own = inline(alloc, User::Func, &[]);
+    func(alloc, id, own, no_locals(alloc), no_uses(alloc))
 }
 
 /// A table that is an import inline, where there is a token of its word.
-pub fn table(alloc: Global, id: Option<Id<'static>>, token: Option<u32>) -> Field<'static> {
+pub fn table(alloc: Global, id: Option<Id<'static>>, token: Option<u32>) -> Made<Field<'static>> {
     let desc = match token {
         Some(token) => TableDesc::Import(import_names(alloc, token), ONE),
         None => TableDesc::Limits(ONE),
     };
-    Field::Table(TableField {
+    Ok(Field::Table(TableField {
         id,
         exports: List::new(alloc),
         desc,
-    })
+    }))
 }
 
 /// A memory that is an import inline, where there is a token of its word.
-pub fn memory(alloc: Global, id: Option<Id<'static>>, token: Option<u32>) -> Field<'static> {
+pub fn memory(alloc: Global, id: Option<Id<'static>>, token: Option<u32>) -> Made<Field<'static>> {
     let desc = match token {
         Some(token) => MemoryDesc::Import(import_names(alloc, token), ONE),
         None => MemoryDesc::Limits(ONE),
     };
-    Field::Memory(MemoryField {
+    Ok(Field::Memory(MemoryField {
         id,
         exports: List::new(alloc),
         desc,
-    })
+    }))
 }
 
 /// A global with these uses.
 pub fn global(
     alloc: Global,
     id: Option<Id<'static>>,
-    uses: List<TypeUse<'static>>,
-) -> Result<Field<'static>, BuildFault> {
+    uses: Made<List<TypeUse<'static>>>,
+) -> Made<Field<'static>> {
     Ok(Field::Global(GlobalField {
         id,
         exports: List::new(alloc),
@@ -267,15 +271,15 @@ pub fn global(
 }
 
 /// The start function 0, whose word has this token.
-pub fn start(token: u32) -> Field<'static> {
-    Field::Start(StartField {
+pub fn start(token: u32) -> Made<Field<'static>> {
+    Ok(Field::Start(StartField {
         token,
         index: Index::Number { token, value: 0 },
-    })
+    }))
 }
 
 /// An element segment with these uses in its offset.
-pub fn elem(alloc: Global, uses: List<TypeUse<'static>>) -> Result<Field<'static>, BuildFault> {
+pub fn elem(alloc: Global, uses: Made<List<TypeUse<'static>>>) -> Made<Field<'static>> {
     Ok(Field::Elem(ElemField {
         table: None,
         offset: body(alloc, uses)?,
@@ -284,7 +288,7 @@ pub fn elem(alloc: Global, uses: List<TypeUse<'static>>) -> Result<Field<'static
 }
 
 /// A data segment with these uses in its offset.
-pub fn data(alloc: Global, uses: List<TypeUse<'static>>) -> Result<Field<'static>, BuildFault> {
+pub fn data(alloc: Global, uses: Made<List<TypeUse<'static>>>) -> Made<Field<'static>> {
     Ok(Field::Data(DataField {
         memory: None,
         offset: body(alloc, uses)?,

@@ -1,15 +1,15 @@
 //! Rows worked out by hand from the standard.
 
 use crate::rows::{
-    ONE, data, elem, func, global, id, import, inline, locals, memory, named, no_uses, numbered,
-    one_use, plain_func, start, table, ty, with_name,
+    Made, ONE, data, elem, func, global, id, import, import_func, inline, locals, memory, named,
+    no_locals, no_uses, numbered, one_use, plain_func, start, table, ty, with_name,
 };
 use crate::short::surface_of;
 use std::alloc::Global;
 use std::test::Fail;
-use wc_ast::{BuildFault, List, ValType};
+use wc_ast::{List, ValType};
 use wc_declared::{NameFault, declare};
-use wc_surface::{Field, ImportDesc, TextLocals, TypeUse, User};
+use wc_surface::{Field, ImportDesc, TypeUse, User};
 use wc_targets::NameWhy;
 
 const I32: ValType = ValType::I32;
@@ -43,89 +43,77 @@ fn told_of(alloc: Global, fields: List<Field<'static>>) -> Told {
 }
 
 /// What is told of one field.
-fn one(alloc: Global, field: Field<'static>) -> Result<Told, BuildFault> {
-    let mut fields = Vec::new(alloc);
-    fields.push(field)?;
-    Ok(told_of(alloc, List::from_vec(fields)))
+fn one(alloc: Global, field: Made<Field<'static>>) -> Made<Told> {
+    Ok(told_of(alloc, with(Ok(List::new(alloc)), field)?))
 }
 
 /// What is told of two fields.
-fn two(alloc: Global, first: Field<'static>, second: Field<'static>) -> Result<Told, BuildFault> {
+fn two(alloc: Global, first: Made<Field<'static>>, second: Made<Field<'static>>) -> Made<Told> {
     Ok(told_of(alloc, both(alloc, first, second)?))
 }
 
 /// What is told of three fields.
 fn three(
     alloc: Global,
-    first: Field<'static>,
-    second: Field<'static>,
-    third: Field<'static>,
-) -> Result<Told, BuildFault> {
-    let mut fields = Vec::new(alloc);
-    fields.push(first)?;
-    fields.push(second)?;
-    fields.push(third)?;
-    Ok(told_of(alloc, List::from_vec(fields)))
+    first: Made<Field<'static>>,
+    second: Made<Field<'static>>,
+    third: Made<Field<'static>>,
+) -> Made<Told> {
+    Ok(told_of(alloc, with(both(alloc, first, second), third)?))
 }
 
 /// A function of this use.
-fn using(alloc: Global, own: TypeUse<'static>) -> Result<Field<'static>, BuildFault> {
-    func(alloc, None, own, TextLocals::new(alloc), no_uses(alloc))
+fn using(alloc: Global, own: Made<TypeUse<'static>>) -> Made<Field<'static>> {
+    func(alloc, None, own, no_locals(alloc), no_uses(alloc))
 }
 
 /// A function whose instructions have this use.
-fn holding(alloc: Global, used: TypeUse<'static>) -> Result<Field<'static>, BuildFault> {
-    let own = inline(alloc, User::Func, &[])?;
-    func(
-        alloc,
-        None,
-        own,
-        TextLocals::new(alloc),
-        one_use(alloc, used)?,
-    )
+fn holding(alloc: Global, used: Made<TypeUse<'static>>) -> Made<Field<'static>> {
+    let own = inline(alloc, User::Func, &[]);
+    func(alloc, None, own, no_locals(alloc), one_use(alloc, used))
 }
 
 /// A function with a local `$x` at this token.
-fn func_of(alloc: Global, token: u32) -> Result<Field<'static>, BuildFault> {
-    let own = inline(alloc, User::Func, &[])?;
+fn func_of(alloc: Global, token: u32) -> Made<Field<'static>> {
+    let own = inline(alloc, User::Func, &[]);
     func(
         alloc,
         None,
         own,
-        locals(alloc, 0, token, "$x")?,
+        locals(alloc, 0, token, "$x"),
         no_uses(alloc),
     )
 }
 
 /// A function with so many locals from token 7 on, and then one with an identifier, if there is a text.
-fn func_with(alloc: Global, count: u32, text: &'static str) -> Result<Field<'static>, BuildFault> {
-    let own = inline(alloc, User::Func, &[])?;
+fn func_with(alloc: Global, count: u32, text: &'static str) -> Made<Field<'static>> {
+    let own = inline(alloc, User::Func, &[]);
     func(
         alloc,
         None,
         own,
-        locals(alloc, count, 7, text)?,
+        locals(alloc, count, 7, text),
         no_uses(alloc),
     )
 }
 
 /// Two types `$a`.
-fn two_types(a: Global) -> Result<Told, BuildFault> {
-    two(a, ty(a, id(3, "$a"), &[])?, ty(a, id(9, "$a"), &[])?)
+fn two_types(a: Global) -> Made<Told> {
+    two(a, ty(a, id(3, "$a"), &[]), ty(a, id(9, "$a"), &[]))
 }
 
 /// Two functions `$a`.
-fn two_funcs(a: Global) -> Result<Told, BuildFault> {
-    two(a, plain_func(a, id(3, "$a"))?, plain_func(a, id(9, "$a"))?)
+fn two_funcs(a: Global) -> Made<Told> {
+    two(a, plain_func(a, id(3, "$a")), plain_func(a, id(9, "$a")))
 }
 
 /// Two tables `$a`.
-fn two_tables(a: Global) -> Result<Told, BuildFault> {
+fn two_tables(a: Global) -> Made<Told> {
     two(a, table(a, id(3, "$a"), None), table(a, id(9, "$a"), None))
 }
 
 /// Two memories `$a`.
-fn two_memories(a: Global) -> Result<Told, BuildFault> {
+fn two_memories(a: Global) -> Made<Told> {
     two(
         a,
         memory(a, id(3, "$a"), None),
@@ -134,13 +122,13 @@ fn two_memories(a: Global) -> Result<Told, BuildFault> {
 }
 
 /// A table `$a` that is imported, and another.
-fn imported_and_defined(a: Global) -> Result<Told, BuildFault> {
+fn imported_and_defined(a: Global) -> Made<Told> {
     let brought = import(a, 2, id(3, "$a"), ImportDesc::Table(ONE));
     two(a, brought, table(a, id(9, "$a"), None))
 }
 
 /// A memory and a table `$a`.
-fn of_two_spaces(a: Global) -> Result<Told, BuildFault> {
+fn of_two_spaces(a: Global) -> Made<Told> {
     two(a, memory(a, id(3, "$a"), None), table(a, id(9, "$a"), None))
 }
 
@@ -156,14 +144,14 @@ fn of_two_equal_identifiers_of_a_space_the_later_is_told(rt: HostRuntime) -> Res
 }
 
 /// A parameter and a local `$x`.
-fn parameter_and_local(a: Global) -> Result<Told, BuildFault> {
-    let own = with_name(a, inline(a, User::Func, &[I32])?, 5, "$x")?;
-    one(a, func(a, None, own, locals(a, 2, 18, "$x")?, no_uses(a))?)
+fn parameter_and_local(a: Global) -> Made<Told> {
+    let own = with_name(a, inline(a, User::Func, &[I32]), 5, "$x");
+    one(a, func(a, None, own, locals(a, 2, 18, "$x"), no_uses(a)))
 }
 
 /// Two functions with a local `$x` each.
-fn two_functions_with_a_local(a: Global) -> Result<Told, BuildFault> {
-    two(a, func_of(a, 1)?, func_of(a, 2)?)
+fn two_functions_with_a_local(a: Global) -> Made<Told> {
+    two(a, func_of(a, 1), func_of(a, 2))
 }
 
 #[test]
@@ -174,35 +162,35 @@ fn parameters_and_locals_are_one_space(rt: HostRuntime) -> Result<(), Fail> {
 }
 
 /// An import behind a function.
-fn import_behind_a_func(a: Global) -> Result<Told, BuildFault> {
+fn import_behind_a_func(a: Global) -> Made<Told> {
     two(
         a,
-        plain_func(a, None)?,
+        plain_func(a, None),
         import(a, 12, None, ImportDesc::Memory(ONE)),
     )
 }
 
 /// An inline import behind a memory.
-fn import_inside_a_table(a: Global) -> Result<Told, BuildFault> {
+fn import_inside_a_table(a: Global) -> Made<Told> {
     two(a, memory(a, None, None), table(a, None, Some(12)))
 }
 
 /// An inline import behind a global.
-fn import_behind_a_global(a: Global) -> Result<Told, BuildFault> {
-    two(a, global(a, None, no_uses(a))?, memory(a, None, Some(12)))
+fn import_behind_a_global(a: Global) -> Made<Told> {
+    two(a, global(a, None, no_uses(a)), memory(a, None, Some(12)))
 }
 
 /// An import behind a type.
-fn import_behind_a_type(a: Global) -> Result<Told, BuildFault> {
+fn import_behind_a_type(a: Global) -> Made<Told> {
     two(
         a,
-        ty(a, None, &[])?,
+        ty(a, None, &[]),
         import(a, 12, None, ImportDesc::Memory(ONE)),
     )
 }
 
 /// Two inline imports.
-fn two_imports(a: Global) -> Result<Told, BuildFault> {
+fn two_imports(a: Global) -> Made<Told> {
     two(a, table(a, None, Some(3)), memory(a, None, Some(12)))
 }
 
@@ -217,17 +205,17 @@ fn imports_stand_before_definitions(rt: HostRuntime) -> Result<(), Fail> {
 }
 
 /// Two starts.
-fn two_starts(a: Global) -> Result<Told, BuildFault> {
+fn two_starts(a: Global) -> Made<Told> {
     two(a, start(4), start(9))
 }
 
 /// Three starts.
-fn three_starts(a: Global) -> Result<Told, BuildFault> {
+fn three_starts(a: Global) -> Made<Told> {
     three(a, start(4), start(9), start(14))
 }
 
 /// A memory between two starts.
-fn memory_between_starts(a: Global) -> Result<Told, BuildFault> {
+fn memory_between_starts(a: Global) -> Made<Told> {
     three(a, start(4), memory(a, None, None), start(9))
 }
 
@@ -240,18 +228,18 @@ fn one_start_at_most(rt: HostRuntime) -> Result<(), Fail> {
 }
 
 /// 50,000 locals.
-fn most_locals(a: Global) -> Result<Told, BuildFault> {
-    one(a, func_with(a, 50_000, "")?)
+fn most_locals(a: Global) -> Made<Told> {
+    one(a, func_with(a, 50_000, ""))
 }
 
 /// 50,001 locals, whose types are tokens 7 to 50,007.
-fn one_local_more(a: Global) -> Result<Told, BuildFault> {
-    one(a, func_with(a, 50_001, "")?)
+fn one_local_more(a: Global) -> Made<Told> {
+    one(a, func_with(a, 50_001, ""))
 }
 
 /// 50,000 locals and one with an identifier before its type.
-fn one_named_local_more(a: Global) -> Result<Told, BuildFault> {
-    one(a, func_with(a, 50_000, "$x")?)
+fn one_named_local_more(a: Global) -> Made<Told> {
+    one(a, func_with(a, 50_000, "$x"))
 }
 
 #[test]
@@ -263,26 +251,26 @@ fn as_many_locals_as_the_limit(rt: HostRuntime) -> Result<(), Fail> {
 }
 
 /// In a function's own use.
-fn unknown_of_a_func(a: Global) -> Result<Told, BuildFault> {
-    one(a, using(a, named(a, User::Func, 6, "$t")?)?)
+fn unknown_of_a_func(a: Global) -> Made<Told> {
+    one(a, using(a, named(a, User::Func, 6, "$t")))
 }
 
 /// In a call.
-fn unknown_of_a_call(a: Global) -> Result<Told, BuildFault> {
-    one(a, holding(a, named(a, User::CallIndirect, 6, "$t")?)?)
+fn unknown_of_a_call(a: Global) -> Made<Told> {
+    one(a, holding(a, named(a, User::CallIndirect, 6, "$t")))
 }
 
 /// At a block.
-fn unknown_of_a_block(a: Global) -> Result<Told, BuildFault> {
-    one(a, holding(a, named(a, User::Block, 6, "$t")?)?)
+fn unknown_of_a_block(a: Global) -> Made<Told> {
+    one(a, holding(a, named(a, User::Block, 6, "$t")))
 }
 
 /// The type stands behind its use.
-fn type_behind_its_use(a: Global) -> Result<Told, BuildFault> {
+fn type_behind_its_use(a: Global) -> Made<Told> {
     two(
         a,
-        using(a, named(a, User::Func, 6, "$t")?)?,
-        ty(a, id(30, "$t"), &[])?,
+        using(a, named(a, User::Func, 6, "$t")),
+        ty(a, id(30, "$t"), &[]),
     )
 }
 
@@ -296,34 +284,30 @@ fn an_unknown_type_is_told(rt: HostRuntime) -> Result<(), Fail> {
 }
 
 /// Type 1 of one.
-fn beyond_one_type(a: Global) -> Result<Told, BuildFault> {
+fn beyond_one_type(a: Global) -> Made<Told> {
     two(
         a,
-        using(a, numbered(a, User::Func, 6, 1, &[])?)?,
-        ty(a, None, &[])?,
+        using(a, numbered(a, User::Func, 6, 1, &[])),
+        ty(a, None, &[]),
     )
 }
 
 /// Type 0 of none, in an import.
-fn none_for_an_import(a: Global) -> Result<Told, BuildFault> {
-    let own = numbered(a, User::Func, 6, 0, &[])?;
-    one(a, import(a, 2, None, ImportDesc::Func(own)))
+fn none_for_an_import(a: Global) -> Made<Told> {
+    one(a, import_func(a, 2, numbered(a, User::Func, 6, 0, &[])))
 }
 
 /// Type 0 of none, in an offset.
-fn none_in_an_offset(a: Global) -> Result<Told, BuildFault> {
-    one(
-        a,
-        elem(a, one_use(a, numbered(a, User::Block, 6, 0, &[])?)?)?,
-    )
+fn none_in_an_offset(a: Global) -> Made<Told> {
+    one(a, elem(a, one_use(a, numbered(a, User::Block, 6, 0, &[]))))
 }
 
 /// A type that is written only behind its use.
-fn written_behind(a: Global) -> Result<Told, BuildFault> {
+fn written_behind(a: Global) -> Made<Told> {
     two(
         a,
-        using(a, numbered(a, User::Func, 6, 0, &[])?)?,
-        using(a, inline(a, User::Func, &[I64])?)?,
+        using(a, numbered(a, User::Func, 6, 0, &[])),
+        using(a, inline(a, User::Func, &[I64])),
     )
 }
 
@@ -337,38 +321,38 @@ fn no_such_type(rt: HostRuntime) -> Result<(), Fail> {
 }
 
 /// Another parameter.
-fn other_parameter(a: Global) -> Result<Told, BuildFault> {
+fn other_parameter(a: Global) -> Made<Told> {
     two(
         a,
-        ty(a, None, &[I32])?,
-        using(a, numbered(a, User::Func, 6, 0, &[I64])?)?,
+        ty(a, None, &[I32]),
+        using(a, numbered(a, User::Func, 6, 0, &[I64])),
     )
 }
 
 /// A parameter where the type has none, in an offset.
-fn parameter_in_an_offset(a: Global) -> Result<Told, BuildFault> {
+fn parameter_in_an_offset(a: Global) -> Made<Told> {
     two(
         a,
-        ty(a, None, &[])?,
-        data(a, one_use(a, numbered(a, User::Block, 6, 0, &[I64])?)?)?,
+        ty(a, None, &[]),
+        data(a, one_use(a, numbered(a, User::Block, 6, 0, &[I64]))),
     )
 }
 
 /// Against a type that is written only behind its use.
-fn other_written_behind(a: Global) -> Result<Told, BuildFault> {
+fn other_written_behind(a: Global) -> Made<Told> {
     two(
         a,
-        using(a, numbered(a, User::Func, 6, 0, &[I32])?)?,
-        using(a, inline(a, User::Func, &[I64])?)?,
+        using(a, numbered(a, User::Func, 6, 0, &[I32])),
+        using(a, inline(a, User::Func, &[I64])),
     )
 }
 
 /// Nothing is written behind the index.
-fn nothing_written(a: Global) -> Result<Told, BuildFault> {
+fn nothing_written(a: Global) -> Made<Told> {
     two(
         a,
-        ty(a, None, &[I32])?,
-        using(a, numbered(a, User::Func, 6, 0, &[])?)?,
+        ty(a, None, &[I32]),
+        using(a, numbered(a, User::Func, 6, 0, &[])),
     )
 }
 
@@ -382,27 +366,27 @@ fn a_type_differs_from_its_use(rt: HostRuntime) -> Result<(), Fail> {
 }
 
 /// In a call.
-fn name_in_a_call(a: Global) -> Result<Told, BuildFault> {
-    let call = with_name(a, inline(a, User::CallIndirect, &[I32])?, 8, "$x")?;
-    one(a, holding(a, call)?)
+fn name_in_a_call(a: Global) -> Made<Told> {
+    let call = with_name(a, inline(a, User::CallIndirect, &[I32]), 8, "$x");
+    one(a, holding(a, call))
 }
 
 /// At a block.
-fn name_at_a_block(a: Global) -> Result<Told, BuildFault> {
-    let block = with_name(a, inline(a, User::Block, &[I32])?, 8, "$x")?;
-    one(a, holding(a, block)?)
+fn name_at_a_block(a: Global) -> Made<Told> {
+    let block = with_name(a, inline(a, User::Block, &[I32]), 8, "$x");
+    one(a, holding(a, block))
 }
 
 /// Behind an index.
-fn name_behind_an_index(a: Global) -> Result<Told, BuildFault> {
-    let call = with_name(a, numbered(a, User::CallIndirect, 6, 0, &[])?, 8, "$x")?;
-    one(a, holding(a, call)?)
+fn name_behind_an_index(a: Global) -> Made<Told> {
+    let call = with_name(a, numbered(a, User::CallIndirect, 6, 0, &[]), 8, "$x");
+    one(a, holding(a, call))
 }
 
 /// Behind the index of no type, an earlier token.
-fn name_behind_no_type(a: Global) -> Result<Told, BuildFault> {
-    let block = with_name(a, numbered(a, User::Block, 6, 9, &[I32])?, 8, "$x")?;
-    one(a, holding(a, block)?)
+fn name_behind_no_type(a: Global) -> Made<Told> {
+    let block = with_name(a, numbered(a, User::Block, 6, 9, &[I32]), 8, "$x");
+    one(a, holding(a, block))
 }
 
 #[test]
@@ -415,16 +399,16 @@ fn parameters_have_no_identifiers_in_instructions(rt: HostRuntime) -> Result<(),
 }
 
 /// An unknown type, and behind it a late import.
-fn type_and_import(a: Global) -> Result<Told, BuildFault> {
+fn type_and_import(a: Global) -> Made<Told> {
     two(
         a,
-        using(a, named(a, User::Func, 6, "$t")?)?,
+        using(a, named(a, User::Func, 6, "$t")),
         memory(a, None, Some(30)),
     )
 }
 
 /// An identifier twice, and behind it a late import.
-fn identifier_and_import(a: Global) -> Result<Told, BuildFault> {
+fn identifier_and_import(a: Global) -> Made<Told> {
     three(
         a,
         memory(a, id(3, "$a"), None),
@@ -434,7 +418,7 @@ fn identifier_and_import(a: Global) -> Result<Told, BuildFault> {
 }
 
 /// A late import whose identifier stands there twice, behind the word.
-fn import_and_identifier(a: Global) -> Result<Told, BuildFault> {
+fn import_and_identifier(a: Global) -> Made<Told> {
     two(
         a,
         memory(a, id(3, "$a"), None),
@@ -450,68 +434,76 @@ fn the_first_fault_of_the_first_stage_is_told(rt: HostRuntime) -> Result<(), Fai
     Ok(())
 }
 
+/// These fields and one more.
+fn with(
+    fields: Made<List<Field<'static>>>,
+    field: Made<Field<'static>>,
+) -> Made<List<Field<'static>>> {
+    let mut longer = fields?.into_vec();
+    longer.push(field?)?;
+    Ok(List::from_vec(longer))
+}
+
 /// Both fields.
 fn both(
     alloc: Global,
-    first: Field<'static>,
-    second: Field<'static>,
-) -> Result<List<Field<'static>>, BuildFault> {
-    let mut fields = Vec::new(alloc);
-    fields.push(first)?;
-    fields.push(second)?;
-    Ok(List::from_vec(fields))
+    first: Made<Field<'static>>,
+    second: Made<Field<'static>>,
+) -> Made<List<Field<'static>>> {
+    with(with(Ok(List::new(alloc)), first), second)
 }
 
 /// The index of the use behind these fields.
 fn index_of(
     alloc: Global,
-    first: Field<'static>,
-    second: Field<'static>,
-    used: &TypeUse<'static>,
-) -> Result<Option<u32>, BuildFault> {
+    first: Made<Field<'static>>,
+    second: Made<Field<'static>>,
+    used: Made<TypeUse<'static>>,
+) -> Made<Option<u32>> {
+    let used = used?;
     match surface_of(both(alloc, first, second)?) {
         None => Ok(None),
         Some(surface) => match declare(alloc, &surface) {
-            Ok(found) => Ok(Some(found.type_index(used))),
+            Ok(found) => Ok(Some(found.type_index(&used))),
             Err(_) => Ok(None),
         },
     }
 }
 
 /// Of two equal types the index of the first.
-fn index_of_equal(a: Global) -> Result<Option<u32>, BuildFault> {
-    let block = inline(a, User::Block, &[I32])?;
-    index_of(a, ty(a, None, &[I32])?, ty(a, None, &[I32])?, &block)
+fn index_of_equal(a: Global) -> Made<Option<u32>> {
+    let block = inline(a, User::Block, &[I32]);
+    index_of(a, ty(a, None, &[I32]), ty(a, None, &[I32]), block)
 }
 
 /// A type that is written at a block, behind that of an import and of the function around it.
-fn index_inside(a: Global) -> Result<Option<u32>, BuildFault> {
-    let brought = import(a, 2, None, ImportDesc::Func(inline(a, User::Func, &[I64])?));
-    let block = inline(a, User::Block, &[I32])?;
+fn index_inside(a: Global) -> Made<Option<u32>> {
+    let brought = import_func(a, 2, inline(a, User::Func, &[I64]));
+    let block = inline(a, User::Block, &[I32]);
     index_of(
         a,
         brought,
-        holding(a, inline(a, User::Block, &[I32])?)?,
-        &block,
+        holding(a, inline(a, User::Block, &[I32])),
+        block,
     )
 }
 
 /// A call that writes nothing, and behind it a block with a parameter.
-fn call_and_block(a: Global) -> Result<Field<'static>, BuildFault> {
+fn call_and_block(a: Global) -> Made<Field<'static>> {
     let mut uses = Vec::new(a);
     uses.push(inline(a, User::CallIndirect, &[])?)?;
     uses.push(inline(a, User::Block, &[I32])?)?;
-    global(a, None, List::from_vec(uses))
+    global(a, None, Ok(List::from_vec(uses)))
 }
 
-fn index_of_the_call(a: Global) -> Result<Option<u32>, BuildFault> {
-    let call = inline(a, User::CallIndirect, &[])?;
-    index_of(a, ty(a, None, &[I64])?, call_and_block(a)?, &call)
+fn index_of_the_call(a: Global) -> Made<Option<u32>> {
+    let call = inline(a, User::CallIndirect, &[]);
+    index_of(a, ty(a, None, &[I64]), call_and_block(a), call)
 }
 
-fn index_of_the_block(a: Global) -> Result<Option<u32>, BuildFault> {
-    let block = inline(a, User::Block, &[I32])?;
-    index_of(a, ty(a, None, &[I64])?, call_and_block(a)?, &block)
+fn index_of_the_block(a: Global) -> Made<Option<u32>> {
+    let block = inline(a, User::Block, &[I32]);
+    index_of(a, ty(a, None, &[I64]), call_and_block(a), block)
 }
 
 #[test]
