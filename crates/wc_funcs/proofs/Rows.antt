@@ -1,0 +1,18 @@
+-- Rows of items one after another.
+use Rattle.std.proofs.Common.{◌≡◌, ℕ, ◌+◌, ◌<◌, List, [], ◌∷◌, ◌++◌, length, drop, get_or, map, Option, sym, ap, ◌∙◌}
+use Rattle.std.proofs.Common.{append_assoc}
+use Rattle.std.specs.List.{flat_map}
+use Rattle.wc_declared.proofs.Faults.{next}
+
+-- one more part of what is still to come
+pub part : {Y : Type 0} (out new all xs rest from : List Y) → from ≡ xs ++ rest → new ≡ out ++ xs → out ++ from ≡ all
+    → new ++ rest ≡ all
+part {Y = Y} out new all xs rest from e g h =
+    ap (λ (x : List Y). x ++ rest) g ∙ append_assoc out xs rest ∙ ap (λ (x : List Y). out ++ x) (sym e) ∙ h
+
+module _ {X Y : Type 0} (f : X → Y) where
+  pub map-more : (xs : List X) (i : ℕ) (x : X) (out new all : List Y) → i < length xs → x ≡ get_or xs i x → new ≡ out ++ f x ∷ []
+      → out ++ map f (drop i xs) ≡ all → new ++ map f (drop (i + 1) xs) ≡ all
+  map-more xs i x out new all lt e g h =
+      part out new all (f x ∷ []) (map f (drop (i + 1) xs)) (map f (drop i xs))
+      (ap (λ (ys : List X). map f ys) (next xs i x lt) ∙ ap (λ (y : X). f y ∷ map f (drop (i + 1) xs)) (sym e)) g h
