@@ -5,3 +5,7 @@ pub mod Exports
 pub mod Start
 pub mod Imports
 pub mod Ranges
+pub mod Globals
+pub mod Segments
+pub mod Funcs
+pub mod Denoted

@@ -50,10 +50,30 @@ fn put_field(
         → OnOk result (noted.new.first ≡ least_from noted.old.first (export_faults all field.now)) }
 {
     match field {
-        Field::Func(func) => put_names(out, ExportKind::Func, counts.funcs, func.exports.as_slice()),
-        Field::Table(table) => put_names(out, ExportKind::Table, counts.tables, table.exports.as_slice()),
-        Field::Memory(memory) => put_names(out, ExportKind::Memory, counts.memories, memory.exports.as_slice()),
-        Field::Global(global) => put_names(out, ExportKind::Global, counts.globals, global.exports.as_slice()),
+        Field::Func(func) => put_names(
+            out,
+            ExportKind::Func,
+            counts.funcs,
+            func.exports.as_slice(),
+        ),
+        Field::Table(table) => put_names(
+            out,
+            ExportKind::Table,
+            counts.tables,
+            table.exports.as_slice(),
+        ),
+        Field::Memory(memory) => put_names(
+            out,
+            ExportKind::Memory,
+            counts.memories,
+            memory.exports.as_slice(),
+        ),
+        Field::Global(global) => put_names(
+            out,
+            ExportKind::Global,
+            counts.globals,
+            global.exports.as_slice(),
+        ),
         Field::Export(export) => {
             let index = resolve_index(space_of(spaces, export.kind), &export.index, noted);
             out.push(Export {

@@ -2,8 +2,12 @@
 #![tactic(auto)]
 
 pub mod counts;
+pub mod datas;
+pub mod elems;
 pub mod exports;
+pub mod globals;
 pub mod imports;
 pub mod indices;
+pub mod offset;
 pub mod ranges;
 pub mod start;

@@ -1,11 +1,10 @@
 -- Imports (Core 1.0, 6.6.4), in the order of the text: a field with an import inside is one.
-use Rattle.std.specs.Prelude.{ℕ, List, [], ◌∷◌, map}
+use Rattle.std.specs.Prelude.{List, [], ◌∷◌}
 use Rattle.std.specs.List.{flat_map}
 use Rattle.wc_ast.specs.declared.import.Import.{Import}
 use Rattle.wc_ast.specs.declared.import.Desc.{Desc}
 use Rattle.wc_ast.specs.declared.import.Desc.TheVariants as desc
 use Rattle.wc_ast.specs.declared.limits.GlobalType.{GlobalType}
-use Rattle.wc_surface.specs.Standard.Keys.{key_of}
 use Rattle.wc_surface.specs.declared.type_use.TypeUse.{TypeUse}
 use Rattle.wc_surface.specs.declared.field.Field.{Field}
 use Rattle.wc_surface.specs.declared.field.Field.TheVariants as field
@@ -20,27 +19,20 @@ use Rattle.wc_surface.specs.declared.field.MemoryDesc.{MemoryDesc}
 use Rattle.wc_surface.specs.declared.field.MemoryDesc.TheVariants as memory
 use Rattle.wc_surface.specs.declared.field.GlobalDesc.{GlobalDesc}
 use Rattle.wc_surface.specs.declared.field.GlobalDesc.TheVariants as global
-use Rattle.wc_declared.specs.declared.kind.SpaceKind.TheVariants as kind
-use Rattle.wc_declared.specs.Standard.Types.{types_of}
-use Rattle.wc_declared.specs.Standard.Uses.{use_index}
-use Rattle.wc_names.specs.Standard.Indices.{declared_in}
-
--- the index of the type of a use among the fields `all` (6.6.3)
-abbrev pub type_of : List Field → TypeUse → ℕ
-type_of all u = use_index (declared_in kind.Type all) (map key_of (types_of all)) u
+use Rattle.wc_funcs.specs.Standard.Locals.{type_index}
 
 abbrev pub import : ImportNames → Desc → Import
 import names d = record { «module» = names.«module»; name = names.item; desc = d }
 
 -- what an import brings
 abbrev pub desc_of : List Field → ImportDesc → Desc
-desc_of all (written.Func u) = desc.Func (type_of all u)
+desc_of all (written.Func u) = desc.Func (type_index all u)
 desc_of all (written.Table limits) = desc.Table limits
 desc_of all (written.Memory limits) = desc.Memory limits
 desc_of all (written.Global ty) = desc.Global ty
 
 abbrev pub func_imports : List Field → TypeUse → FuncDesc → List Import
-func_imports all u (func.Import names) = import names (desc.Func (type_of all u)) ∷ []
+func_imports all u (func.Import names) = import names (desc.Func (type_index all u)) ∷ []
 func_imports all u (func.Code locals body) = []
 
 abbrev pub table_imports : TableDesc → List Import
