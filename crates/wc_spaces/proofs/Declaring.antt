@@ -1,6 +1,7 @@
 -- One more declaration.
-use Rattle.std.proofs.Common.{◌≡◌, ℕ, ◌+◌, Bool, true, false, not, cond, List, [], ◌∷◌, ◌++◌, length, Option, Some}
-use Rattle.std.proofs.Common.{None, is_some, refl, sym, ap, ◌∙◌, arith, length-append}
+use Rattle.std.proofs.Common.{◌≡◌, ℕ, zero, suc, ◌+◌, Bool, true, false, not, cond, List, [], ◌∷◌, ◌++◌, length, Option, Some}
+use Rattle.std.proofs.Common.{None, is_some, refl, sym, ap, ◌∙◌, arith, length-append, replicate}
+use Rattle.std.proofs.lemmas.List.{length-replicate}
 use Rattle.std.specs.List.{list_any, position_from}
 use Rattle.std.specs.Str.{bytes_eq}
 use Rattle.wc_spaces.specs.declared.noted.Fault.{Fault}
@@ -18,6 +19,20 @@ pub unnamed : (ds : List (Option (List ℕ))) (old new : Space) → IsSpace ds o
 unnamed ds old new w h e = record {
   placed = λ q. h q ∙ w.placed q ∙ kept (place_of q ds) ∙ sym (position-push (is_named q) 0 (length ds) ds None (omega arith));
   counted = omega (arith, e, w.counted, length-append ds (None ∷ []));
+}
+
+unnamed-places : (q : List ℕ) (i n : ℕ) (ds : List (Option (List ℕ)))
+    → position_from (is_named q) i (ds ++ replicate n None) ≡ position_from (is_named q) i ds
+unnamed-places q i zero [] = refl
+unnamed-places q i (suc n) [] = unnamed-places q (i + 1) n []
+unnamed-places q i n (d ∷ ds) = ap (λ (o : Option ℕ). cond (is_named q d) (Some i) o) (unnamed-places q (i + 1) n ds)
+
+pub unnamed-many : (ds : List (Option (List ℕ))) (old new : Space) (n : ℕ) → IsSpace ds old
+    → ((q : List ℕ) → place_in new.places q ≡ place_in old.places q) → size_of new ≡ size_of old + n
+    → IsSpace (ds ++ replicate n None) new
+unnamed-many ds old new n w h e = record {
+  placed = λ q. h q ∙ w.placed q ∙ sym (unnamed-places q 0 n ds);
+  counted = omega (arith, e, w.counted, length-append ds (replicate n None), length-replicate {A = Option (List ℕ)} n None);
 }
 
 pub named : (ds : List (Option (List ℕ))) (old new : Space) (text : List ℕ) → IsSpace ds old

@@ -16,7 +16,7 @@ pub struct Space<'a> {
 }
 
 impl<'a> Space<'a> {
-    ghost use Rattle.std.specs.Prelude.{◌≡◌, ◌<◌, ◌+◌, ◌^◌, ℕ, List, Option, Some, None, [], ◌∷◌, ◌++◌, OnOk};
+    ghost use Rattle.std.specs.Prelude.{◌≡◌, ◌<◌, ◌+◌, ◌^◌, ℕ, List, Option, Some, None, [], ◌∷◌, ◌++◌, OnOk, replicate};
     ghost use Rattle.wc_spaces.specs.Kept.Spaces.{IsSpace, size_of};
     ghost use Rattle.wc_spaces.specs.Standard.Least.{least_from};
     ghost use Rattle.wc_spaces.specs.Standard.Spaces.{place_of, duplicate};
@@ -39,6 +39,16 @@ impl<'a> Space<'a> {
         ensures size { size_of self.new ≡ size_of self.old + 1 }
     {
         self.count += 1;
+    }
+
+    /// So many more are declared, with no identifier. It takes no memory, and no longer for many than for one.
+    pub fn add_unnamed_many(&mut self, count: u32)
+        requires { size_of self.old + count < 2 ^ 32 }
+        ensures space { (ds : List (Option (List ℕ))) → IsSpace ds self.old
+            → IsSpace (ds ++ replicate count None) self.new }
+        ensures size { size_of self.new ≡ size_of self.old + count }
+    {
+        self.count += count;
     }
 
     /// One more is declared, with this identifier at the token of this number. Where one before it has that identifier,
