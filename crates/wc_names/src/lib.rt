@@ -1,4 +1,4 @@
-//! The module that a text denotes, or the first fault of its names.
+//! The lists of the module that a text denotes, other than its functions, and what is wrong with their names.
 #![tactic(auto)]
 
 pub mod counts;
