@@ -1,0 +1,112 @@
+//! Data segments.
+
+ghost use Rattle.std.specs.Prelude.{◌≡◌, ◌<◌, ◌^◌, ◌++◌, List, length, IfOk, OnOk};
+ghost use Rattle.wc_spaces.specs.Standard.Least.{least_from};
+ghost use Rattle.wc_surface.specs.declared.field.Field.{Field as FieldValue};
+ghost use Rattle.wc_declared.specs.Kept.Declaring.{IsDeclared};
+ghost use Rattle.wc_names.specs.Standard.Segments.{inline_datas, field_datas, datas_of};
+ghost use Rattle.wc_names.specs.Standard.Segments.{written_data as data_of, written_data_faults, data_faults};
+ghost use Rattle.wc_names.specs.Standard.Segments.{all_data_faults};
+
+use crate::counts::{Counts, count_field, nothing};
+use crate::indices::resolve_optional;
+use crate::offset::zero_offset;
+use std::alloc::{AllocError, Global};
+use wc_ast::{Data, List as AstList};
+use wc_declared::Declared;
+use wc_funcs::resolve_constant;
+use wc_spaces::Noted;
+use wc_surface::{DataField, Field, MemoryDesc};
+use wc_targets::NameWhy;
+
+/// Adds the bytes that stand inside the memory of this index.
+fn put_inline(
+    alloc: Global,
+    out: &mut AstList<Data>,
+    index: u32,
+    desc: &MemoryDesc,
+) -> Result<(), AllocError>
+    ensures { OnOk result (out.new ≡ out.old ++ inline_datas index desc.now) }
+{
+    match desc {
+        MemoryDesc::Import(_, _) | MemoryDesc::Limits(_) => Ok(()),
+        MemoryDesc::Bytes(bytes) => {
+            let bytes = bytes.try_copy()?;
+            let offset = zero_offset(alloc)?;
+            out.push(Data {
+                memory: index,
+                offset,
+                bytes,
+            })?;
+            Ok(())
+        }
+    }
+}
+
+/// The data segment that is written.
+fn written_data<'a>(
+    alloc: Global,
+    declared: &Declared<'a>,
+    segment: &DataField<'a>,
+    noted: &mut Noted<NameWhy>,
+) -> Result<Data, AllocError>
+    ensures segment { (all : List FieldValue) → IsDeclared all declared.now
+        → IfOk result (λ found. found ≡ data_of all segment.now) }
+    ensures noted { (all : List FieldValue) → IsDeclared all declared.now
+        → OnOk result (noted.new.first ≡ least_from noted.old.first (written_data_faults all segment.now)) }
+{
+    let memory = resolve_optional(&declared.spaces.memories, &segment.memory, noted);
+    let offset = resolve_constant(alloc, declared, &segment.offset, noted)?;
+    let bytes = segment.bytes.try_copy()?;
+    Ok(Data {
+        memory,
+        offset,
+        bytes,
+    })
+}
+
+/// Adds the data segment of a field. What is wrong with its names is noted.
+fn put_field<'a>(
+    alloc: Global,
+    out: &mut AstList<Data>,
+    declared: &Declared<'a>,
+    counts: Counts,
+    field: &Field<'a>,
+    noted: &mut Noted<NameWhy>,
+) -> Result<(), AllocError>
+    ensures datas { (all : List FieldValue) → IsDeclared all declared.now
+        → OnOk result (out.new ≡ out.old ++ field_datas all counts field.now) }
+    ensures noted { (all : List FieldValue) → IsDeclared all declared.now
+        → OnOk result (noted.new.first ≡ least_from noted.old.first (data_faults all field.now)) }
+{
+    match field {
+        Field::Memory(memory) => put_inline(alloc, out, counts.memories, &memory.desc),
+        Field::Data(segment) => {
+            let found = written_data(alloc, declared, segment, noted)?;
+            out.push(found)?;
+            Ok(())
+        }
+        _ => Ok(()),
+    }
+}
+
+/// The data segments, in the order of the text. What is wrong with their names is noted. The error is want of memory.
+pub(crate) fn datas<'a>(
+    alloc: Global,
+    declared: &Declared<'a>,
+    fields: &[Field<'a>],
+    noted: &mut Noted<NameWhy>,
+) -> Result<AstList<Data>, AllocError>
+    requires { length fields.now < 2 ^ 32 }
+    ensures datas { IsDeclared fields.now declared.now → IfOk result (λ datas. datas ≡ datas_of fields.now) }
+    ensures noted { IsDeclared fields.now declared.now
+        → OnOk result (noted.new.first ≡ least_from noted.old.first (all_data_faults fields.now)) }
+{
+    let mut out = AstList::new(alloc);
+    let mut counts = nothing();
+    for field in fields {
+        put_field(alloc, &mut out, declared, counts, field, noted)?;
+        counts = count_field(counts, field);
+    }
+    Ok(out)
+}

@@ -1,0 +1,76 @@
+//! Globals.
+
+ghost use Rattle.std.specs.Prelude.{◌≡◌, ◌++◌, List, IfOk, OnOk};
+ghost use Rattle.wc_spaces.specs.Standard.Least.{least_from};
+ghost use Rattle.wc_surface.specs.declared.field.Field.{Field as FieldValue};
+ghost use Rattle.wc_declared.specs.Kept.Declaring.{IsDeclared};
+ghost use Rattle.wc_names.specs.Standard.Globals.{global_of, init_faults, field_globals, globals_of, global_faults};
+ghost use Rattle.wc_names.specs.Standard.Globals.{all_global_faults};
+
+use std::alloc::{self, AllocError};
+use wc_ast::{Global, GlobalType, List as AstList};
+use wc_declared::Declared;
+use wc_funcs::resolve_constant;
+use wc_spaces::Noted;
+use wc_surface::{Field, GlobalDesc};
+use wc_targets::NameWhy;
+
+fn put_global<'a>(
+    alloc: alloc::Global,
+    out: &mut AstList<Global>,
+    declared: &Declared<'a>,
+    ty: GlobalType,
+    desc: &GlobalDesc<'a>,
+    noted: &mut Noted<NameWhy>,
+) -> Result<(), AllocError>
+    ensures globals { (all : List FieldValue) → IsDeclared all declared.now
+        → OnOk result (out.new ≡ out.old ++ global_of all ty desc.now) }
+    ensures noted { (all : List FieldValue) → IsDeclared all declared.now
+        → OnOk result (noted.new.first ≡ least_from noted.old.first (init_faults all desc.now)) }
+{
+    match desc {
+        GlobalDesc::Import(_) => Ok(()),
+        GlobalDesc::Init(body) => {
+            let init = resolve_constant(alloc, declared, body, noted)?;
+            out.push(Global { ty, init })?;
+            Ok(())
+        }
+    }
+}
+
+/// Adds the global that a field defines. What is wrong with the names in its first value is noted.
+fn put_field<'a>(
+    alloc: alloc::Global,
+    out: &mut AstList<Global>,
+    declared: &Declared<'a>,
+    field: &Field<'a>,
+    noted: &mut Noted<NameWhy>,
+) -> Result<(), AllocError>
+    ensures globals { (all : List FieldValue) → IsDeclared all declared.now
+        → OnOk result (out.new ≡ out.old ++ field_globals all field.now) }
+    ensures noted { (all : List FieldValue) → IsDeclared all declared.now
+        → OnOk result (noted.new.first ≡ least_from noted.old.first (global_faults all field.now)) }
+{
+    match field {
+        Field::Global(global) => put_global(alloc, out, declared, global.ty, &global.desc, noted),
+        _ => Ok(()),
+    }
+}
+
+/// The globals that fields define. What is wrong with the names in first values is noted. The error is want of memory.
+pub(crate) fn globals<'a>(
+    alloc: alloc::Global,
+    declared: &Declared<'a>,
+    fields: &[Field<'a>],
+    noted: &mut Noted<NameWhy>,
+) -> Result<AstList<Global>, AllocError>
+    ensures globals { IsDeclared fields.now declared.now → IfOk result (λ globals. globals ≡ globals_of fields.now) }
+    ensures noted { IsDeclared fields.now declared.now
+        → OnOk result (noted.new.first ≡ least_from noted.old.first (all_global_faults fields.now)) }
+{
+    let mut out = AstList::new(alloc);
+    for field in fields {
+        put_field(alloc, &mut out, declared, field, noted)?;
+    }
+    Ok(out)
+}

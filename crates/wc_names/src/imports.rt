@@ -1,0 +1,117 @@
+//! Imports.
+
+ghost use Rattle.std.specs.Prelude.{◌≡◌, [], ◌∷◌, ◌++◌, List, IfOk, OnOk};
+ghost use Rattle.wc_surface.specs.declared.field.Field.{Field as FieldValue};
+ghost use Rattle.wc_declared.specs.Kept.Declaring.{IsDeclared};
+ghost use Rattle.wc_names.specs.Standard.Imports.{import, desc_of as brought, func_imports, table_imports};
+ghost use Rattle.wc_names.specs.Standard.Imports.{memory_imports, global_imports, field_imports, imports_of};
+
+use std::alloc::{AllocError, Global};
+use wc_ast::{Desc, GlobalType, Import, List as AstList};
+use wc_body::TryClone;
+use wc_declared::Declared;
+use wc_surface::{
+    Field, FuncDesc, GlobalDesc, ImportDesc, ImportNames, MemoryDesc, TableDesc, TypeUse,
+};
+
+/// Adds an import.
+fn put(out: &mut AstList<Import>, names: &ImportNames, desc: Desc) -> Result<(), AllocError>
+    ensures { OnOk result (out.new ≡ out.old ++ import names.now desc ∷ []) }
+{
+    let module = names.module.try_clone()?;
+    let name = names.item.try_clone()?;
+    out.push(Import { module, name, desc })?;
+    Ok(())
+}
+
+/// What an import brings.
+fn desc_of(declared: &Declared<'_>, desc: &ImportDesc<'_>) -> Desc
+    ensures { (all : List FieldValue) → IsDeclared all declared.now → result ≡ brought all desc.now }
+{
+    match desc {
+        ImportDesc::Func(used) => Desc::Func(declared.type_index(used)),
+        ImportDesc::Table(limits) => Desc::Table(*limits),
+        ImportDesc::Memory(limits) => Desc::Memory(*limits),
+        ImportDesc::Global(ty) => Desc::Global(*ty),
+    }
+}
+
+fn put_func(
+    out: &mut AstList<Import>,
+    declared: &Declared<'_>,
+    used: &TypeUse<'_>,
+    desc: &FuncDesc<'_>,
+) -> Result<(), AllocError>
+    ensures { (all : List FieldValue) → IsDeclared all declared.now
+        → OnOk result (out.new ≡ out.old ++ func_imports all used.now desc.now) }
+{
+    match desc {
+        FuncDesc::Import(names) => put(out, names, Desc::Func(declared.type_index(used))),
+        FuncDesc::Code { .. } => Ok(()),
+    }
+}
+
+fn put_table(out: &mut AstList<Import>, desc: &TableDesc<'_>) -> Result<(), AllocError>
+    ensures { OnOk result (out.new ≡ out.old ++ table_imports desc.now) }
+{
+    match desc {
+        TableDesc::Import(names, limits) => put(out, names, Desc::Table(*limits)),
+        TableDesc::Limits(_) | TableDesc::Elems(_) => Ok(()),
+    }
+}
+
+fn put_memory(out: &mut AstList<Import>, desc: &MemoryDesc) -> Result<(), AllocError>
+    ensures { OnOk result (out.new ≡ out.old ++ memory_imports desc.now) }
+{
+    match desc {
+        MemoryDesc::Import(names, limits) => put(out, names, Desc::Memory(*limits)),
+        MemoryDesc::Limits(_) | MemoryDesc::Bytes(_) => Ok(()),
+    }
+}
+
+fn put_global(
+    out: &mut AstList<Import>,
+    ty: GlobalType,
+    desc: &GlobalDesc<'_>,
+) -> Result<(), AllocError>
+    ensures { OnOk result (out.new ≡ out.old ++ global_imports ty desc.now) }
+{
+    match desc {
+        GlobalDesc::Import(names) => put(out, names, Desc::Global(ty)),
+        GlobalDesc::Init(_) => Ok(()),
+    }
+}
+
+/// Adds the import of a field, where it is one.
+fn put_field(
+    out: &mut AstList<Import>,
+    declared: &Declared<'_>,
+    field: &Field<'_>,
+) -> Result<(), AllocError>
+    ensures { (all : List FieldValue) → IsDeclared all declared.now
+        → OnOk result (out.new ≡ out.old ++ field_imports all field.now) }
+{
+    match field {
+        Field::Import(import) => put(out, &import.names, desc_of(declared, &import.desc)),
+        Field::Func(func) => put_func(out, declared, &func.ty, &func.desc),
+        Field::Table(table) => put_table(out, &table.desc),
+        Field::Memory(memory) => put_memory(out, &memory.desc),
+        Field::Global(global) => put_global(out, global.ty, &global.desc),
+        _ => Ok(()),
+    }
+}
+
+/// The imports, in the order of the text. The error is want of memory.
+pub(crate) fn imports(
+    alloc: Global,
+    declared: &Declared<'_>,
+    fields: &[Field<'_>],
+) -> Result<AstList<Import>, AllocError>
+    ensures { IsDeclared fields.now declared.now → IfOk result (λ imports. imports ≡ imports_of fields.now) }
+{
+    let mut out = AstList::new(alloc);
+    for field in fields {
+        put_field(&mut out, declared, field)?;
+    }
+    Ok(out)
+}

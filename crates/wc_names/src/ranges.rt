@@ -1,0 +1,95 @@
+//! Tables and memories.
+
+ghost use Rattle.std.specs.Prelude.{◌≡◌, ◌<◌, ◌^◌, ◌++◌, All, IfOk, OnOk};
+ghost use Rattle.wc_surface.specs.Standard.Sizes.{table_inline, memory_inline, inline_size};
+ghost use Rattle.wc_names.specs.Standard.Ranges.{exactly as only, pages as pages_of, table_limits, memory_limits};
+ghost use Rattle.wc_names.specs.Standard.Ranges.{field_tables, field_memories, tables_of, memories_of};
+
+use std::alloc::{AllocError, Global};
+use wc_ast::{Limits, List as AstList};
+use wc_surface::{Field, MemoryDesc, TableDesc};
+
+/// This size and no other.
+fn exactly(size: u32) -> Limits
+    ensures { result ≡ only size }
+{
+    Limits {
+        min: size,
+        max: Some(size),
+    }
+}
+
+/// The pages that so many bytes need.
+fn pages(bytes: u32) -> u32
+    ensures { result ≡ pages_of bytes }
+{
+    ((u64::from(bytes) + 65535) / 65536) as u32
+}
+
+fn put_table_limits(out: &mut AstList<Limits>, desc: &TableDesc<'_>) -> Result<(), AllocError>
+    requires { table_inline desc.now < 2 ^ 32 }
+    ensures { OnOk result (out.new ≡ out.old ++ table_limits desc.now) }
+{
+    match desc {
+        TableDesc::Import(_, _) => {}
+        TableDesc::Limits(limits) => out.push(*limits)?,
+        TableDesc::Elems(funcs) => out.push(exactly(funcs.len() as u32))?,
+    }
+    Ok(())
+}
+
+fn put_memory_limits(out: &mut AstList<Limits>, desc: &MemoryDesc) -> Result<(), AllocError>
+    requires { memory_inline desc.now < 2 ^ 32 }
+    ensures { OnOk result (out.new ≡ out.old ++ memory_limits desc.now) }
+{
+    match desc {
+        MemoryDesc::Import(_, _) => {}
+        MemoryDesc::Limits(limits) => out.push(*limits)?,
+        MemoryDesc::Bytes(bytes) => out.push(exactly(pages(bytes.len() as u32)))?,
+    }
+    Ok(())
+}
+
+fn put_table(out: &mut AstList<Limits>, field: &Field<'_>) -> Result<(), AllocError>
+    requires { inline_size field.now < 2 ^ 32 }
+    ensures { OnOk result (out.new ≡ out.old ++ field_tables field.now) }
+{
+    match field {
+        Field::Table(table) => put_table_limits(out, &table.desc),
+        _ => Ok(()),
+    }
+}
+
+fn put_memory(out: &mut AstList<Limits>, field: &Field<'_>) -> Result<(), AllocError>
+    requires { inline_size field.now < 2 ^ 32 }
+    ensures { OnOk result (out.new ≡ out.old ++ field_memories field.now) }
+{
+    match field {
+        Field::Memory(memory) => put_memory_limits(out, &memory.desc),
+        _ => Ok(()),
+    }
+}
+
+/// The limits of the tables that fields define. The error is want of memory.
+pub(crate) fn tables(alloc: Global, fields: &[Field<'_>]) -> Result<AstList<Limits>, AllocError>
+    requires { All (λ f. inline_size f < 2 ^ 32) fields.now }
+    ensures { IfOk result (λ tables. tables ≡ tables_of fields.now) }
+{
+    let mut out = AstList::new(alloc);
+    for field in fields {
+        put_table(&mut out, field)?;
+    }
+    Ok(out)
+}
+
+/// The limits of the memories that fields define. The error is want of memory.
+pub(crate) fn memories(alloc: Global, fields: &[Field<'_>]) -> Result<AstList<Limits>, AllocError>
+    requires { All (λ f. inline_size f < 2 ^ 32) fields.now }
+    ensures { IfOk result (λ memories. memories ≡ memories_of fields.now) }
+{
+    let mut out = AstList::new(alloc);
+    for field in fields {
+        put_memory(&mut out, field)?;
+    }
+    Ok(out)
+}
