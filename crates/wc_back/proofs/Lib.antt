@@ -4,3 +4,5 @@ pub mod Typing
 pub mod Spots
 pub mod Instructions
 pub mod Bodies
+pub mod Counting
+pub mod Checked

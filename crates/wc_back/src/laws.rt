@@ -1,10 +1,15 @@
 //! Laws of the names of printed texts. Each function only states its law: it does nothing.
 
-ghost use Rattle.std.specs.Prelude.{◌≡◌, [], ℕ, List as Seq, Option as Maybe, map, length};
+ghost use Rattle.std.specs.Prelude.{◌≡◌, ◌≤◌, [], ℕ, List as Seq, Option as Maybe, map, length};
 ghost use Rattle.wc_ast.specs.declared.module.Module.{Module};
 ghost use Rattle.wc_body.specs.Standard.Nested.{Code};
 ghost use Rattle.wc_body.specs.declared.instr.BlockType.{BlockType as HeadType};
 ghost use Rattle.wc_body.specs.declared.instr.Instr.{Instr as Instruction};
+ghost use Rattle.wc_check.specs.Standard.Broken.{broken};
+ghost use Rattle.wc_print.specs.Layout.{layout};
+ghost use Rattle.wc_print.specs.Printable.{IsPrintable};
+ghost use Rattle.wc_print.specs.Printed.{text};
+ghost use Rattle.wc_tokens.specs.Standard.Lexemes.{longest};
 ghost use Rattle.wc_targets.specs.Standard.Contexts.{Context};
 ghost use Rattle.wc_targets.specs.Standard.Bodies.{resolved, body_faults};
 ghost use Rattle.wc_declared.specs.Standard.Stages.{declaration_faults, all_use_faults};
@@ -12,7 +17,13 @@ ghost use Rattle.wc_declared.specs.Standard.Types.{types_of};
 ghost use Rattle.wc_declared.specs.Standard.Uses.{use_index};
 ghost use Rattle.wc_told.specs.Bodies.{text_body};
 ghost use Rattle.wc_reread.specs.Surface.{text_fields};
-ghost use Rattle.wc_back.specs.Known.{Known, KnownCode};
+ghost use Rattle.wc_back.specs.Known.{HasFewLocals, Known, KnownCode};
+
+/// Where a module breaks no rule (Core 1.0, 3.4) and its printed text isn't too long, its names are known.
+pub fn checked_is_known()
+    ensures { (m : Module) → broken m ≡ [] → HasFewLocals m → IsPrintable (layout m)
+        → length (text (layout m)) ≤ longest → Known m }
+{}
 
 /// The declarations of a printed text have no fault (Core 1.0, 6.6.13): it has no identifiers, and imports come first.
 pub fn printed_declarations()
