@@ -71,11 +71,11 @@ module _ (c : Context) (b : TextBody) (index : TypeUse → ℕ) (same : (u : Use
       (code-back one within inner h.1 r2) (code-back two turned inner h.2 r3)
       (code-back next (behind ended close) ls h.3 r)
 
-pub body-back : (c : Context) (ids : List (Option (List ℕ))) (types : List (List ℕ)) (token : ℕ) (x : Code Instr BlockType)
-    → KnownCode (length types) x → c.uses ≡ map (use_index ids types) (text_body token x).uses
+pub body-back : (c : Context) (ids : List (Option (List ℕ))) (types : List (List ℕ)) (n token : ℕ)
+    (x : Code Instr BlockType) → KnownCode n x → c.uses ≡ map (use_index ids types) (text_body token x).uses
     → resolved c (text_body token x) ≡ x
-body-back c ids types token x h e =
-    code-back c (text_body token x) (use_index ids types) (λ u t n. refl) e (has-room token x h.1) (length types) x
+body-back c ids types n token x h e =
+    code-back c (text_body token x) (use_index ids types) (λ u t n. refl) e (has-room token x h.1) n x
     (start token) [] h.0 (at-end token x)
 
 -- ---- no faults

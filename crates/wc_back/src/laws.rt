@@ -39,8 +39,8 @@ pub fn printed_types()
 /// The printed instructions of a body are its instructions, whatever is declared around them, and no name in them has a
 /// fault (Core 1.0, 6.5).
 pub fn printed_bodies()
-    ensures same { (c : Context) (ids : Seq (Maybe (Seq ℕ))) (types : Seq (Seq ℕ)) (token : ℕ)
-        (code : Code Instruction HeadType) → KnownCode (length types) code
+    ensures same { (c : Context) (ids : Seq (Maybe (Seq ℕ))) (types : Seq (Seq ℕ)) (n : ℕ) (token : ℕ)
+        (code : Code Instruction HeadType) → KnownCode n code
         → c.uses ≡ map (use_index ids types) (text_body token code).uses
         → resolved c (text_body token code) ≡ code }
     ensures faultless { (c : Context) (n : ℕ) (token : ℕ) (code : Code Instruction HeadType) → KnownCode n code
