@@ -6,3 +6,4 @@ pub mod Instructions
 pub mod Bodies
 pub mod Counting
 pub mod Checked
+pub mod Naming

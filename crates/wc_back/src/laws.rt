@@ -15,6 +15,7 @@ ghost use Rattle.wc_targets.specs.Standard.Bodies.{resolved, body_faults};
 ghost use Rattle.wc_declared.specs.Standard.Stages.{declaration_faults, all_use_faults};
 ghost use Rattle.wc_declared.specs.Standard.Types.{types_of};
 ghost use Rattle.wc_declared.specs.Standard.Uses.{use_index};
+ghost use Rattle.wc_names.specs.Standard.Denoted.{Names};
 ghost use Rattle.wc_told.specs.Bodies.{text_body};
 ghost use Rattle.wc_reread.specs.Surface.{text_fields};
 ghost use Rattle.wc_back.specs.Known.{HasFewLocals, Known, KnownCode};
@@ -45,4 +46,9 @@ pub fn printed_bodies()
         → resolved c (text_body token code) ≡ code }
     ensures faultless { (c : Context) (n : ℕ) (token : ℕ) (code : Code Instruction HeadType) → KnownCode n code
         → body_faults c (text_body token code) ≡ [] }
+{}
+
+/// The fields of a printed text denote the module that was printed, and their names have no fault (Core 1.0, 6.6).
+pub fn printed_names()
+    ensures { (m : Module) → Known m → Names (text_fields m) m }
 {}

@@ -3,4 +3,4 @@
 
 mod laws;
 
-pub use laws::{checked_is_known, printed_bodies, printed_declarations, printed_types};
+pub use laws::{checked_is_known, printed_bodies, printed_declarations, printed_names, printed_types};
