@@ -7,3 +7,4 @@ pub mod Bodies
 pub mod Counting
 pub mod Checked
 pub mod Naming
+pub mod Reading

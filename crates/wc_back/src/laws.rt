@@ -18,6 +18,8 @@ ghost use Rattle.wc_declared.specs.Standard.Uses.{use_index};
 ghost use Rattle.wc_names.specs.Standard.Denoted.{Names};
 ghost use Rattle.wc_told.specs.Bodies.{text_body};
 ghost use Rattle.wc_reread.specs.Surface.{text_fields};
+ghost use Rattle.wc_printed.specs.Fitting.{Fits};
+ghost use Rattle.wc_back.specs.Txt.{Txt};
 ghost use Rattle.wc_back.specs.Known.{HasFewLocals, Known, KnownCode};
 
 /// Where a module breaks no rule (Core 1.0, 3.4) and its printed text isn't too long, its names are known.
@@ -51,4 +53,10 @@ pub fn printed_bodies()
 /// The fields of a printed text denote the module that was printed, and their names have no fault (Core 1.0, 6.6).
 pub fn printed_names()
     ensures { (m : Module) → Known m → Names (text_fields m) m }
+{}
+
+/// Where a module breaks no rule (Core 1.0, 3.4), its printed text is a text of the module, if it isn't too long.
+pub fn back()
+    ensures { (m : Module) → Fits m → HasFewLocals m → broken m ≡ [] → IsPrintable (layout m)
+        → length (text (layout m)) ≤ longest → Txt (text (layout m)) m }
 {}
