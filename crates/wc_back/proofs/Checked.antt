@@ -1,6 +1,6 @@
 -- Where a module breaks no rule, its names are known.
-use Rattle.std.proofs.Common.{◌≡◌, ℕ, ◌+◌, ◌<◌, ◌≤◌, ◌^◌, nat_lt, nat_le, Bool, true, false, not, List, [], ◌∷◌, ◌++◌}
-use Rattle.std.proofs.Common.{length, map, take, refl, ap, ◌∙◌, Option, Some, None}
+use Rattle.std.proofs.Common.{◌≡◌, ℕ, ◌+◌, ◌<◌, ◌≤◌, nat_le, Bool, true, false, not, List, [], ◌∷◌, ◌++◌}
+use Rattle.std.proofs.Common.{length, take, refl}
 use Rattle.std.specs.List.{AllByRecursion}
 use Rattle.std.proofs.lemmas.Bool.{leb-false, ltb-false}
 use Rattle.wc_ops.specs.declared.val_type.ValType.{ValType}
@@ -10,7 +10,7 @@ use Rattle.wc_body.specs.declared.instr.BlockType.{BlockType}
 use Rattle.wc_body.specs.declared.instr.BlockType.TheVariants as block_types
 use Rattle.wc_body.specs.declared.instr.Instr.{Instr}
 use Rattle.wc_body.specs.declared.instr.Instr.TheVariants as instrs
-use Rattle.wc_body.specs.Standard.Nested.{Code, empty, op, region, choice, Mark, plain, begin, begin_if}
+use Rattle.wc_body.specs.Standard.Nested.{Code, empty, op, region, choice, Mark, begin_if}
 use Rattle.wc_body.specs.Standard.Placed.{placed, deeper}
 use Rattle.wc_body.specs.Standard.Throughout.{Throughout}
 use Rattle.wc_ast.specs.declared.limits.GlobalType.{GlobalType}
@@ -33,7 +33,6 @@ use Rattle.wc_check.specs.Standard.Spaces.{module_context, local_count}
 use Rattle.wc_check.specs.Standard.SizeRules.{import_rules, broken_table, broken_mem}
 use Rattle.wc_check.specs.Standard.InstructionRules.{instr_rules, mark_rules, broken_instr, broken_in_body}
 use Rattle.wc_check.specs.Standard.ConstantRules.{constant_type, is_type, is_constant}
-use Rattle.wc_check.specs.Standard.SegmentRules.{elem_rules, data_rules}
 use Rattle.wc_check.specs.Standard.Broken.{broken_import, broken_func, broken_global, broken_export, broken_elem}
 use Rattle.wc_check.specs.Standard.Broken.{broken_data, start_rules, broken_in_spaces, broken_at_start, broken}
 use Rattle.wc_back.specs.Known.{KnownInstr, KnownBlock, KnownDesc, KnownImport, KnownFunc, KnownGlobal, KnownElem, KnownData}
@@ -111,16 +110,21 @@ module _ (m : Module) (locals : ℕ) where
   through d (op i next) h = (instr-known m locals d i h.0, through d next h.1)
   through d (region r t inside next) h =
       let one = placed deeper (d + 1) inside in
-      let two = placed deeper d next in
-      (begin-known m locals d t h.0, through (d + 1) inside (all-front Keeps one two h.1),
-      through d next (all-back Keeps one two h.1))
+      let two = placed deeper d next in (
+        begin-known m locals d t h.0,
+        through (d + 1) inside (all-front Keeps one two h.1),
+        through d next (all-back Keeps one two h.1),
+      )
   through d (choice t first second next) h =
       let one = placed deeper (d + 1) first in
       let two = placed deeper (d + 1) second in
       let three = placed deeper d next in
-      let rest = all-back Keeps one (two ++ three) h.1 in
-      (begin-known m locals d t h.0, through (d + 1) first (all-front Keeps one (two ++ three) h.1),
-      through (d + 1) second (all-front Keeps two three rest), through d next (all-back Keeps two three rest))
+      let rest = all-back Keeps one (two ++ three) h.1 in (
+        begin-known m locals d t h.0,
+        through (d + 1) first (all-front Keeps one (two ++ three) h.1),
+        through (d + 1) second (all-front Keeps two three rest),
+        through d next (all-back Keeps two three rest),
+      )
 
   body-known : (index : ℕ) (x : Code Instr BlockType) → broken_in_body (module_context m) locals index x ≡ []
       → Throughout (KnownInstr (length m.types)) (KnownBlock (length m.types)) x
@@ -167,10 +171,11 @@ module _ (m : Module) where
       desc-known (length m.types) tables mems i.desc (at-none (items.Import n) _ e)
 
   func-known : (n : ℕ) (f : Func) → broken_func m n f ≡ [] → (f.ty < length m.types) × Through (length m.types) f.body
-  func-known n f e =
-      (leb-false (length m.types) f.ty (rule-none whys.TypeIndex _ (at-none (items.Func n) _ (front-none _ _ e))),
-      body-known m (local_count m f) n f.body
-      (back-none (at (items.Func n) (rule whys.TypeIndex (nat_le (length m.types) f.ty))) _ e))
+  func-known n f e = (
+    leb-false (length m.types) f.ty (rule-none whys.TypeIndex _ (at-none (items.Func n) _ (front-none _ _ e))),
+    body-known m (local_count m f) n f.body
+        (back-none (at (items.Func n) (rule whys.TypeIndex (nat_le (length m.types) f.ty))) _ e),
+  )
 
   global-known : (n : ℕ) (g : Global) → broken_global m n g ≡ [] → Through (length m.types) g.init
   global-known n g e =

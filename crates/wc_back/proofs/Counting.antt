@@ -1,5 +1,5 @@
 -- A text has no more tokens than bytes, and the instructions of a body are some of its tokens.
-use Rattle.std.proofs.Common.{◌≡◌, ℕ, zero, suc, ◌+◌, ◌<◌, ◌≤◌, ◌^◌, true, List, [], ◌∷◌, ◌++◌, length, map, ap, ◌∙◌, arith}
+use Rattle.std.proofs.Common.{◌≡◌, ℕ, ◌<◌, ◌≤◌, ◌^◌, true, List, [], ◌∷◌, ◌++◌, length, map, ap, arith}
 use Rattle.std.proofs.Common.{ℤ, pos, negsuc, length-append}
 use Rattle.std.specs.List.{AllByRecursion, flat_map}
 use Rattle.std.specs.Fmt.{decimal, signed_decimal}
@@ -21,12 +21,12 @@ use Rattle.wc_print.specs.Printed.{Printed, opening, closing, word, number, inte
 use Rattle.wc_print.specs.Printed.{spelled, text}
 use Rattle.wc_print.specs.Printable.{is_word, IsSpelled, AreSpelled, IsPrintable}
 use Rattle.wc_print.specs.Layout.{layout}
-use Rattle.wc_printed.specs.Signs.{Sign, closes, ends, natural, string}
+use Rattle.wc_printed.specs.Signs.{Sign, closes, ends, string}
 use Rattle.wc_printed.specs.Instructions.{values_signs, type_use_signs, code_signs, naturals}
 use Rattle.wc_printed.specs.Fields.{type_signs, import_signs, globaltype_signs, func_signs, function_signs, table_signs}
 use Rattle.wc_printed.specs.Fields.{memory_signs, global_signs, export_signs, start_signs, place_signs, elem_signs}
 use Rattle.wc_printed.specs.Fields.{data_signs, field_signs, signs}
-use Rattle.wc_printed.proofs.Same.{Same, tokens_of, whole}
+use Rattle.wc_printed.proofs.Same.{tokens_of, whole}
 
 -- ---- no more tokens than bytes
 

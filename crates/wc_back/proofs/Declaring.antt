@@ -1,10 +1,9 @@
 -- The declarations of a printed text: no identifiers, imports first, one start function at most.
-use Rattle.std.proofs.Common.{◌≡◌, ℕ, suc, ◌+◌, ◌≤◌, Bool, true, false, List, [], ◌∷◌, ◌++◌, length, map, refl, ap, ◌∙◌}
+use Rattle.std.proofs.Common.{◌≡◌, ℕ, suc, ◌≤◌, Bool, true, false, List, [], ◌∷◌, ◌++◌, length, refl, ap, ◌∙◌}
 use Rattle.std.proofs.Common.{Option, Some, None, arith}
 use Rattle.std.proofs.lemmas.Option.{slice_get_past}
-use Rattle.std.specs.List.{AllByRecursion, flat_map, slice_get}
+use Rattle.std.specs.List.{AllByRecursion, flat_map}
 use Rattle.wc_ops.specs.declared.val_type.ValType.{ValType}
-use Rattle.wc_ast.specs.declared.func_type.FuncType.{FuncType}
 use Rattle.wc_ast.specs.declared.limits.Limits.{Limits}
 use Rattle.wc_ast.specs.declared.import.Desc.{Desc}
 use Rattle.wc_ast.specs.declared.import.Desc.TheVariants as descs
@@ -26,7 +25,7 @@ use Rattle.wc_surface.specs.declared.field.ImportDesc.{ImportDesc}
 use Rattle.wc_surface.specs.declared.field.ImportDesc.TheVariants as import
 use Rattle.wc_declared.specs.declared.kind.SpaceKind.{SpaceKind}
 use Rattle.wc_declared.specs.declared.kind.SpaceKind.TheVariants as kind
-use Rattle.wc_declared.specs.Standard.Spaces.{brings, declares, space, repeated, repeated_after, space_faults}
+use Rattle.wc_declared.specs.Standard.Spaces.{brings, declares, space, repeated_after, space_faults}
 use Rattle.wc_declared.specs.Standard.Order.{late_after, second_after}
 use Rattle.wc_declared.specs.Standard.Inner.{local_ids, token_beyond, too_many, inner_faults}
 use Rattle.wc_declared.specs.Standard.Stages.{declaration_faults}
@@ -163,24 +162,31 @@ none-late m =
     func-late : (n : ℕ) (x : Func) (fs : List Field) → NeverLate fs → NeverLate (func_field n x ∷ fs)
     func-late n x fs r true = r true
     func-late n x fs r false = r true
+
     table-late : (n : ℕ) (x : Limits) (fs : List Field) → NeverLate fs → NeverLate (table_field n x ∷ fs)
     table-late n x fs r true = r true
     table-late n x fs r false = r true
+
     memory-late : (n : ℕ) (x : Limits) (fs : List Field) → NeverLate fs → NeverLate (memory_field n x ∷ fs)
     memory-late n x fs r true = r true
     memory-late n x fs r false = r true
+
     global-late : (n : ℕ) (x : Global) (fs : List Field) → NeverLate fs → NeverLate (global_field n x ∷ fs)
     global-late n x fs r true = r true
     global-late n x fs r false = r true
+
     export-late : (n : ℕ) (x : Export) (fs : List Field) → NeverLate fs → NeverLate (export_field n x ∷ fs)
     export-late n x fs r true = r true
     export-late n x fs r false = r false
+
     start-late : (n i : ℕ) (fs : List Field) → NeverLate fs → NeverLate (start_field n i ∷ fs)
     start-late n i fs r true = r true
     start-late n i fs r false = r false
+
     elem-late : (n : ℕ) (x : Elem) (fs : List Field) → NeverLate fs → NeverLate (elem_field n x ∷ fs)
     elem-late n x fs r true = r true
     elem-late n x fs r false = r false
+
     data-late : (n : ℕ) (x : Data) (fs : List Field) → NeverLate fs → NeverLate (data_field n x ∷ fs)
     data-late n x fs r true = r true
     data-late n x fs r false = r false
@@ -206,13 +212,16 @@ one-start m =
     elem-second : (n : ℕ) (x : Elem) (fs : List Field) → NeverSecond fs → NeverSecond (elem_field n x ∷ fs)
     elem-second n x fs r true = r true
     elem-second n x fs r false = r false
+
     data-second : (n : ℕ) (x : Data) (fs : List Field) → NeverSecond fs → NeverSecond (data_field n x ∷ fs)
     data-second n x fs r true = r true
     data-second n x fs r false = r false
+
     segments : (n : ℕ) → NeverSecond (along elem_field elem_signs n m.elems (λ n.
         along data_field data_signs n m.datas (λ n. [])))
     segments n = over elem_field elem_signs NeverSecond elem-second m.elems _ (
         over data_field data_signs NeverSecond data-second m.datas _ (λ n seen. refl)) n
+
     start : (s : Option ℕ) (k : ℕ) → NotSecond (start_along k s (λ n. along elem_field elem_signs n m.elems (λ n.
         along data_field data_signs n m.datas (λ n. []))))
     start None k = segments k false
@@ -252,8 +261,10 @@ none-inside m h =
     import-by n x (descs.Table l) = refl
     import-by n x (descs.Memory l) = refl
     import-by n x (descs.Global g) = refl
+
     import-clean : (n : ℕ) (x : Import) (fs : List Field) → Clean fs → Clean (import_field n x ∷ fs)
     import-clean n x fs r = ap (λ (e : List (Fault NameWhy)). e ++ flat_map inner_faults fs) (import-by n x x.desc) ∙ r
+
     func-clean : (n : ℕ) (x : Func) (fs : List Field) → KnownFunc (length m.types) x → Clean fs
         → Clean (func_field n x ∷ fs)
     func-clean n x fs k r =

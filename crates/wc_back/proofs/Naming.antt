@@ -1,5 +1,5 @@
 -- The fields of a printed text denote the module, and no name in them has a fault.
-use Rattle.std.proofs.Common.{◌≡◌, ℕ, suc, ◌+◌, List, [], ◌∷◌, ◌++◌, length, map, refl, sym, ap, ◌∙◌, Option, Some, None}
+use Rattle.std.proofs.Common.{◌≡◌, ℕ, suc, List, [], ◌∷◌, ◌++◌, length, map, refl, sym, ap, ◌∙◌, Option, Some, None}
 use Rattle.std.specs.List.{AllByRecursion, flat_map}
 use Rattle.wc_ops.specs.declared.val_type.ValType.{ValType}
 use Rattle.wc_body.specs.declared.instr.BlockType.{BlockType}
@@ -17,7 +17,6 @@ use Rattle.wc_ast.specs.declared.segment.Elem.{Elem}
 use Rattle.wc_ast.specs.declared.segment.Data.{Data}
 use Rattle.wc_ast.specs.declared.module.Module.{Module}
 use Rattle.wc_surface.specs.Standard.Keys.{key_of}
-use Rattle.wc_surface.specs.declared.id.Index.{Index}
 use Rattle.wc_surface.specs.declared.local.Local.{Local}
 use Rattle.wc_surface.specs.declared.field.Field.{Field}
 use Rattle.wc_spaces.specs.declared.noted.Fault.{Fault}
@@ -27,24 +26,23 @@ use Rattle.wc_targets.specs.Standard.Contexts.{Declared}
 use Rattle.wc_declared.specs.declared.kind.SpaceKind.TheVariants as kind
 use Rattle.wc_declared.specs.Standard.Spaces.{space, texts}
 use Rattle.wc_declared.specs.Standard.Types.{types_of}
-use Rattle.wc_declared.specs.Standard.Uses.{named_index}
 use Rattle.wc_declared.specs.Standard.Stages.{declaration_faults, all_use_faults, or_else}
 use Rattle.wc_funcs.specs.Standard.Contexts.{context_of}
 use Rattle.wc_funcs.specs.Standard.Constants.{constant_of, constant_faults}
-use Rattle.wc_funcs.specs.Standard.Funcs.{func_context, func_of, func_faults}
+use Rattle.wc_funcs.specs.Standard.Funcs.{func_context}
 use Rattle.wc_names.specs.declared.counts.Counts.{Counts}
 use Rattle.wc_names.specs.Standard.Counts.{no_counts, counts_after}
 use Rattle.wc_names.specs.Standard.Counts.{along as counted}
-use Rattle.wc_names.specs.Standard.Indices.{declared_in, indices_of, unknown_index, unknown_of}
-use Rattle.wc_names.specs.Standard.Imports.{field_imports, imports_of}
-use Rattle.wc_names.specs.Standard.Funcs.{field_funcs, funcs_of, field_func_faults, all_func_faults}
-use Rattle.wc_names.specs.Standard.Ranges.{field_tables, field_memories, tables_of, memories_of}
-use Rattle.wc_names.specs.Standard.Globals.{field_globals, globals_of, global_faults, all_global_faults}
-use Rattle.wc_names.specs.Standard.Exports.{field_exports, exports_of, export_faults, all_export_faults}
-use Rattle.wc_names.specs.Standard.Start.{start_from, start_of, start_faults, all_start_faults}
-use Rattle.wc_names.specs.Standard.Segments.{field_elems, elems_of, elem_faults, all_elem_faults}
-use Rattle.wc_names.specs.Standard.Segments.{field_datas, datas_of, data_faults, all_data_faults}
-use Rattle.wc_names.specs.Standard.Denoted.{denoted, reference_faults, first_fault, Names}
+use Rattle.wc_names.specs.Standard.Indices.{declared_in, indices_of, unknown_of}
+use Rattle.wc_names.specs.Standard.Imports.{field_imports}
+use Rattle.wc_names.specs.Standard.Funcs.{field_funcs, field_func_faults}
+use Rattle.wc_names.specs.Standard.Ranges.{field_tables, field_memories}
+use Rattle.wc_names.specs.Standard.Globals.{field_globals, global_faults}
+use Rattle.wc_names.specs.Standard.Exports.{field_exports, export_faults}
+use Rattle.wc_names.specs.Standard.Start.{start_from, start_faults}
+use Rattle.wc_names.specs.Standard.Segments.{field_elems, elem_faults}
+use Rattle.wc_names.specs.Standard.Segments.{field_datas, data_faults}
+use Rattle.wc_names.specs.Standard.Denoted.{denoted, reference_faults, Names}
 use Rattle.wc_syntax.specs.declared.kind.Kind.TheVariants as syntax
 use Rattle.wc_syntax.specs.declared.role.Role.TheVariants as role
 use Rattle.wc_printed.specs.Signs.{Sign}

@@ -1,5 +1,5 @@
 -- The printed text of a module is a text of it.
-use Rattle.std.proofs.Common.{◌≡◌, ◌≤◌, List, [], length}
+use Rattle.std.proofs.Common.{◌≡◌, ◌≤◌, [], length}
 use Rattle.wc_ast.specs.declared.module.Module.{Module}
 use Rattle.wc_check.specs.Standard.Broken.{broken}
 use Rattle.wc_tokens.specs.Standard.Lexemes.{longest}

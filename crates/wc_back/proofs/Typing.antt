@@ -1,9 +1,8 @@
 -- The types of a printed text are those of its type fields: each type use is by an index, and nothing is written behind.
-use Rattle.std.proofs.Common.{◌≡◌, ℕ, suc, ◌+◌, ◌<◌, List, [], ◌∷◌, ◌++◌, length, map, refl, sym, ap, ◌∙◌}
-use Rattle.std.proofs.Common.{Option, Some, None, arith, append_assoc}
+use Rattle.std.proofs.Common.{◌≡◌, ℕ, suc, ◌<◌, List, [], ◌∷◌, ◌++◌, length, map, refl, ap, ◌∙◌}
+use Rattle.std.proofs.Common.{Option, Some}
 use Rattle.std.proofs.lemmas.List.{length-map}
 use Rattle.std.proofs.lemmas.Option.{slice_get-get_or}
-use Rattle.std.proofs.lemmas.Grind.{flat_map-append}
 use Rattle.std.specs.List.{AllByRecursion, flat_map, slice_get}
 use Rattle.wc_body.specs.declared.instr.BlockType.{BlockType}
 use Rattle.wc_body.specs.declared.instr.BlockType.TheVariants as block_types
@@ -27,7 +26,6 @@ use Rattle.wc_surface.specs.declared.id.Index.{Index}
 use Rattle.wc_surface.specs.declared.id.Index.TheVariants as index
 use Rattle.wc_surface.specs.declared.type_use.TypeUse.{TypeUse}
 use Rattle.wc_surface.specs.declared.type_use.User.{User}
-use Rattle.wc_surface.specs.declared.type_use.User.TheVariants as user
 use Rattle.wc_surface.specs.declared.type_use.ParamName.{ParamName}
 use Rattle.wc_surface.specs.declared.field.Field.{Field}
 use Rattle.wc_declared.specs.declared.kind.SpaceKind.TheVariants as kind
@@ -68,28 +66,34 @@ instr-uses k token (instrs.Simple o) h = tt
 instr-uses k token (instrs.Index o n) h = tt
 instr-uses k token (instrs.Mem o arg) h = tt
 instr-uses k token (instrs.BrTable default labels) h = tt
-instr-uses k token (instrs.CallIndirect n) h = (record {
-  token = suc (suc (suc token));
-  number = n;
-  below = h;
-  index_is = refl;
-  signature_is = refl;
-  names_are = refl;
-}, tt)
+instr-uses k token (instrs.CallIndirect n) h = (
+  record {
+    token = suc (suc (suc token));
+    number = n;
+    below = h;
+    index_is = refl;
+    signature_is = refl;
+    names_are = refl;
+  },
+  tt,
+)
 instr-uses k token (instrs.I32Const z) h = tt
 instr-uses k token (instrs.I64Const z) h = tt
 
 block-uses : (k token : ℕ) (t : BlockType) → KnownBlock k t → KnownUses k (block_uses token t)
 block-uses k token block_types.Empty h = tt
 block-uses k token (block_types.Value t) h = tt
-block-uses k token (block_types.Index n) h = (record {
-  token = suc (suc (suc token));
-  number = n;
-  below = h;
-  index_is = refl;
-  signature_is = refl;
-  names_are = refl;
-}, tt)
+block-uses k token (block_types.Index n) h = (
+  record {
+    token = suc (suc (suc token));
+    number = n;
+    below = h;
+    index_is = refl;
+    signature_is = refl;
+    names_are = refl;
+  },
+  tt,
+)
 
 else-uses : (k : ℕ) (two : Code Instr BlockType) (s : Spot) → KnownUses k s.uses → KnownUses k (behind_else two s).uses
 else-uses k empty s h = h
@@ -126,14 +130,17 @@ abbrev Uses : ℕ → List Field → Type 0
 Uses k fs = KnownUses k (all_uses fs)
 
 import-uses : (k n : ℕ) (x : Import) (d : Desc) → KnownDesc k d → KnownUses k (uses_of (import_field n (record x { desc = d })))
-import-uses k n x (descs.Func i) h = (record {
-  token = suc (suc (suc (suc (suc (suc (suc (suc n)))))));
-  number = i;
-  below = h;
-  index_is = refl;
-  signature_is = refl;
-  names_are = refl;
-}, tt)
+import-uses k n x (descs.Func i) h = (
+  record {
+    token = suc (suc (suc (suc (suc (suc (suc (suc n)))))));
+    number = i;
+    below = h;
+    index_is = refl;
+    signature_is = refl;
+    names_are = refl;
+  },
+  tt,
+)
 import-uses k n x (descs.Table l) h = tt
 import-uses k n x (descs.Memory l) h = tt
 import-uses k n x (descs.Global g) h = tt
@@ -144,14 +151,17 @@ module _ (k : ℕ) where
       all-append (KnownUse k) (uses_of (import_field n x)) (all_uses fs) (import-uses k n x x.desc h) r
 
   funcs-on : (n : ℕ) (x : Func) (fs : List Field) → KnownFunc k x → Uses k fs → Uses k (func_field n x ∷ fs)
-  funcs-on n x fs h r = all-append (KnownUse k) (uses_of (func_field n x)) (all_uses fs) (record {
-    token = suc (suc (suc (suc n)));
-    number = x.ty;
-    below = h.0;
-    index_is = refl;
-    signature_is = refl;
-    names_are = refl;
-  }, body-uses k _ x.body h.2) r
+  funcs-on n x fs h r = all-append (KnownUse k) (uses_of (func_field n x)) (all_uses fs) (
+    record {
+      token = suc (suc (suc (suc n)));
+      number = x.ty;
+      below = h.0;
+      index_is = refl;
+      signature_is = refl;
+      names_are = refl;
+    },
+    body-uses k _ x.body h.2,
+  ) r
 
   globals-on : (n : ℕ) (x : Global) (fs : List Field) → KnownGlobal k x → Uses k fs → Uses k (global_field n x ∷ fs)
   globals-on n x fs h r =

@@ -5,4 +5,6 @@ mod fitting;
 mod laws;
 
 pub use fitting::module_has_few_locals;
-pub use laws::{back, checked_is_known, printed_bodies, printed_declarations, printed_names, printed_types};
+pub use laws::{
+    back, checked_is_known, printed_bodies, printed_declarations, printed_names, printed_types,
+};
