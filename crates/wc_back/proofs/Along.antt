@@ -1,5 +1,5 @@
 -- What holds of the fields of a printed text, one behind the other.
-use Rattle.std.proofs.Common.{ℕ, List, [], ◌∷◌, ◌++◌, Option, Some, None}
+use Rattle.std.proofs.Common.{ℕ, List, [], ◌∷◌, Option, Some, None}
 use Rattle.std.specs.List.{AllByRecursion}
 use Rattle.wc_surface.specs.declared.field.Field.{Field}
 use Rattle.wc_printed.specs.Signs.{Sign}

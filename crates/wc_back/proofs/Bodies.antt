@@ -1,10 +1,10 @@
 -- The printed instructions of a body are its instructions, and no name in them has a fault.
-use Rattle.std.proofs.Common.{◌≡◌, ℕ, ◌<◌, ◌^◌, List, [], ◌∷◌, ◌++◌, length, map, refl, ap, ◌∙◌, Option, Some, None}
+use Rattle.std.proofs.Common.{◌≡◌, ℕ, List, [], ◌++◌, map, refl, ◌∙◌, Option}
 use Rattle.std.specs.List.{flat_map}
 use Rattle.std.proofs.lemmas.Grind.{flat_map-append}
 use Rattle.wc_body.specs.declared.instr.BlockType.{BlockType}
 use Rattle.wc_body.specs.declared.instr.Instr.{Instr}
-use Rattle.wc_body.specs.Standard.Nested.{Region, Code, empty, op, region, choice, Mark, plain, begin, begin_if, close}
+use Rattle.wc_body.specs.Standard.Nested.{Region, Code, empty, op, region, choice, plain, begin, begin_if, close}
 use Rattle.wc_body.specs.Standard.Throughout.{Throughout}
 use Rattle.wc_body.specs.Standard.Placed.{placed, mapped}
 use Rattle.wc_surface.specs.declared.head.TextBody.{TextBody}
@@ -19,7 +19,7 @@ use Rattle.wc_targets.specs.Standard.Heads.{enter, resolved_head}
 use Rattle.wc_targets.specs.Standard.Bodies.{resolved, mark_faults, body_faults}
 use Rattle.wc_declared.specs.Standard.Uses.{use_index}
 use Rattle.wc_drafts.specs.Standard.Words.{place_behind}
-use Rattle.wc_told.specs.Bodies.{Spot, start, use_at, behind, behind_else, behind_code, text_instr, text_code, text_body}
+use Rattle.wc_told.specs.Bodies.{Spot, start, use_at, behind, behind_else, behind_code, text_code, text_body}
 use Rattle.wc_back.specs.Known.{KnownInstr, KnownBlock, KnownCode}
 use Rattle.wc_back.proofs.Spots.{Reached, HasRoom, at-end, before-close, before-else, before-code, has-room}
 use Rattle.wc_back.proofs.Instructions.{instr-back, instr-clean, head-back, head-clean}
@@ -71,11 +71,11 @@ module _ (c : Context) (b : TextBody) (index : TypeUse → ℕ) (same : (u : Use
       (code-back one within inner h.1 r2) (code-back two turned inner h.2 r3)
       (code-back next (behind ended close) ls h.3 r)
 
-pub body-back : (c : Context) (ids : List (Option (List ℕ))) (types : List (List ℕ)) (token : ℕ) (x : Code Instr BlockType)
-    → KnownCode (length types) x → c.uses ≡ map (use_index ids types) (text_body token x).uses
+pub body-back : (c : Context) (ids : List (Option (List ℕ))) (types : List (List ℕ)) (n token : ℕ)
+    (x : Code Instr BlockType) → KnownCode n x → c.uses ≡ map (use_index ids types) (text_body token x).uses
     → resolved c (text_body token x) ≡ x
-body-back c ids types token x h e =
-    code-back c (text_body token x) (use_index ids types) (λ u t n. refl) e (has-room token x h.1) (length types) x
+body-back c ids types n token x h e =
+    code-back c (text_body token x) (use_index ids types) (λ u t n. refl) e (has-room token x h.1) n x
     (start token) [] h.0 (at-end token x)
 
 -- ---- no faults

@@ -1,10 +1,9 @@
 -- The declarations of a printed text: no identifiers, imports first, one start function at most.
-use Rattle.std.proofs.Common.{◌≡◌, ℕ, suc, ◌+◌, ◌≤◌, Bool, true, false, List, [], ◌∷◌, ◌++◌, length, map, refl, ap, ◌∙◌}
+use Rattle.std.proofs.Common.{◌≡◌, ℕ, suc, ◌≤◌, Bool, true, false, List, [], ◌∷◌, ◌++◌, length, refl, ap, ◌∙◌}
 use Rattle.std.proofs.Common.{Option, Some, None, arith}
 use Rattle.std.proofs.lemmas.Option.{slice_get_past}
-use Rattle.std.specs.List.{AllByRecursion, flat_map, slice_get}
+use Rattle.std.specs.List.{AllByRecursion, flat_map}
 use Rattle.wc_ops.specs.declared.val_type.ValType.{ValType}
-use Rattle.wc_ast.specs.declared.func_type.FuncType.{FuncType}
 use Rattle.wc_ast.specs.declared.limits.Limits.{Limits}
 use Rattle.wc_ast.specs.declared.import.Desc.{Desc}
 use Rattle.wc_ast.specs.declared.import.Desc.TheVariants as descs
@@ -26,7 +25,7 @@ use Rattle.wc_surface.specs.declared.field.ImportDesc.{ImportDesc}
 use Rattle.wc_surface.specs.declared.field.ImportDesc.TheVariants as import
 use Rattle.wc_declared.specs.declared.kind.SpaceKind.{SpaceKind}
 use Rattle.wc_declared.specs.declared.kind.SpaceKind.TheVariants as kind
-use Rattle.wc_declared.specs.Standard.Spaces.{brings, declares, space, repeated, repeated_after, space_faults}
+use Rattle.wc_declared.specs.Standard.Spaces.{brings, declares, space, repeated_after, space_faults}
 use Rattle.wc_declared.specs.Standard.Order.{late_after, second_after}
 use Rattle.wc_declared.specs.Standard.Inner.{local_ids, token_beyond, too_many, inner_faults}
 use Rattle.wc_declared.specs.Standard.Stages.{declaration_faults}

@@ -1,7 +1,7 @@
 -- Each printed instruction and each printed head is what was printed, and its names have no fault.
 use Rattle.std.proofs.Common.{◌≡◌, ℕ, zero, suc, ◌+◌, ◌-◌, ◌%◌, ◌^◌, ◌<◌, ◌≤◌, ◌==◌, Bool, true, false, List, [], ◌∷◌, ◌++◌}
 use Rattle.std.proofs.Common.{length, map, take, drop, get_or, refl, sym, ap, ◌∙◌, arith, length-append, append_assoc}
-use Rattle.std.proofs.Common.{Option, Some, None}
+use Rattle.std.proofs.Common.{Some, None}
 use Rattle.std.specs.Prelude.{if◌then◌else◌}
 use Rattle.std.specs.Option.{unwrap_or}
 use Rattle.std.specs.List.{flat_map, slice_get}
@@ -17,19 +17,14 @@ use Rattle.wc_body.specs.declared.instr.BlockType.{BlockType}
 use Rattle.wc_body.specs.declared.instr.BlockType.TheVariants as block_types
 use Rattle.wc_body.specs.declared.instr.Instr.{Instr}
 use Rattle.wc_body.specs.declared.instr.Instr.TheVariants as instrs
-use Rattle.wc_body.specs.declared.instr.MemArg.{MemArg}
 use Rattle.wc_body.specs.Standard.Nested.{Mark, plain}
 use Rattle.wc_surface.specs.declared.head.Head.{Head}
 use Rattle.wc_surface.specs.declared.head.TextBody.{TextBody}
 use Rattle.wc_surface.specs.declared.instr.Operand.{Operand}
-use Rattle.wc_surface.specs.declared.instr.Operand.TheVariants as operand
-use Rattle.wc_surface.specs.declared.instr.TextInstr.TheVariants as written
 use Rattle.wc_surface.specs.declared.type_use.TypeUse.{TypeUse}
 use Rattle.wc_surface.specs.declared.type_use.User.{User}
 use Rattle.wc_surface.specs.declared.type_use.User.TheVariants as user
 use Rattle.wc_surface.specs.Standard.Identifiers.{Identifier}
-use Rattle.wc_spaces.specs.declared.noted.Fault.{Fault}
-use Rattle.wc_targets.specs.declared.why.NameWhy.{NameWhy}
 use Rattle.wc_targets.specs.Standard.Contexts.{Declared, Context}
 use Rattle.wc_targets.specs.Standard.Operands.{index_in, index_faults}
 use Rattle.wc_targets.specs.Standard.Instructions.{type_at, table, labels_at, resolved_instr, instr_faults}

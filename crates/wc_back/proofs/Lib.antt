@@ -4,3 +4,7 @@ pub mod Typing
 pub mod Spots
 pub mod Instructions
 pub mod Bodies
+pub mod Counting
+pub mod Checked
+pub mod Naming
+pub mod Reading

@@ -1,9 +1,8 @@
 -- What stands in a body up to a place among its instructions.
-use Rattle.std.proofs.Common.{◌≡◌, ℕ, ◌+◌, ◌<◌, ◌≤◌, ◌^◌, List, [], ◌∷◌, ◌++◌, length, refl, sym, ap, ◌∙◌, arith}
+use Rattle.std.proofs.Common.{◌≡◌, ℕ, ◌+◌, ◌<◌, ◌≤◌, ◌^◌, List, [], ◌∷◌, ◌++◌, length, refl, sym, ◌∙◌, arith}
 use Rattle.std.proofs.Common.{append_assoc, length-append}
 use Rattle.std.proofs.lemmas.List.{append-nil, length-map}
-use Rattle.std.specs.Prelude.{Option, Some, None}
-use Rattle.std.specs.List.{flat_map}
+use Rattle.std.specs.Prelude.{None}
 use Rattle.wc_body.specs.declared.instr.BlockType.{BlockType}
 use Rattle.wc_body.specs.declared.instr.BlockType.TheVariants as block_types
 use Rattle.wc_body.specs.declared.instr.Instr.{Instr}
@@ -13,8 +12,7 @@ use Rattle.wc_surface.specs.declared.head.Head.{Head}
 use Rattle.wc_surface.specs.declared.head.TextBody.{TextBody}
 use Rattle.wc_surface.specs.declared.instr.Operand.{Operand}
 use Rattle.wc_surface.specs.declared.type_use.TypeUse.{TypeUse}
-use Rattle.wc_printed.specs.Signs.{Sign}
-use Rattle.wc_printed.specs.Instructions.{mark_signs, code_signs, naturals}
+use Rattle.wc_printed.specs.Instructions.{mark_signs, code_signs}
 use Rattle.wc_printed.proofs.Codes.{tree, flat-same}
 use Rattle.wc_drafts.specs.Standard.Heads.{head_of}
 use Rattle.wc_told.specs.Bodies.{Spot, start, instr_uses, instr_labels, block_uses, head_type, behind_head, behind, behind_else}

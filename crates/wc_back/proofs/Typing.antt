@@ -1,9 +1,8 @@
 -- The types of a printed text are those of its type fields: each type use is by an index, and nothing is written behind.
-use Rattle.std.proofs.Common.{◌≡◌, ℕ, suc, ◌+◌, ◌<◌, List, [], ◌∷◌, ◌++◌, length, map, refl, sym, ap, ◌∙◌}
-use Rattle.std.proofs.Common.{Option, Some, None, arith, append_assoc}
+use Rattle.std.proofs.Common.{◌≡◌, ℕ, suc, ◌<◌, List, [], ◌∷◌, ◌++◌, length, map, refl, ap, ◌∙◌}
+use Rattle.std.proofs.Common.{Option, Some}
 use Rattle.std.proofs.lemmas.List.{length-map}
 use Rattle.std.proofs.lemmas.Option.{slice_get-get_or}
-use Rattle.std.proofs.lemmas.Grind.{flat_map-append}
 use Rattle.std.specs.List.{AllByRecursion, flat_map, slice_get}
 use Rattle.wc_body.specs.declared.instr.BlockType.{BlockType}
 use Rattle.wc_body.specs.declared.instr.BlockType.TheVariants as block_types
@@ -27,7 +26,6 @@ use Rattle.wc_surface.specs.declared.id.Index.{Index}
 use Rattle.wc_surface.specs.declared.id.Index.TheVariants as index
 use Rattle.wc_surface.specs.declared.type_use.TypeUse.{TypeUse}
 use Rattle.wc_surface.specs.declared.type_use.User.{User}
-use Rattle.wc_surface.specs.declared.type_use.User.TheVariants as user
 use Rattle.wc_surface.specs.declared.type_use.ParamName.{ParamName}
 use Rattle.wc_surface.specs.declared.field.Field.{Field}
 use Rattle.wc_declared.specs.declared.kind.SpaceKind.TheVariants as kind

@@ -68,3 +68,7 @@ pub record Known (m : Module) : Type 0 where
   pub globals : AllByRecursion (KnownGlobal (length m.types)) m.globals
   pub elems : AllByRecursion (KnownElem (length m.types)) m.elems
   pub datas : AllByRecursion (KnownData (length m.types)) m.datas
+
+-- no function declares more locals than may be, as in every module that a program holds (5.5.13)
+abbrev pub HasFewLocals : Module → Type 0
+HasFewLocals m = AllByRecursion (λ f. length f.locals ≤ locals_limit) m.funcs

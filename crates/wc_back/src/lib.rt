@@ -1,6 +1,10 @@
 //! The printed text of a module, with its names resolved.
 #![tactic(auto)]
 
+mod fitting;
 mod laws;
 
-pub use laws::{printed_bodies, printed_declarations, printed_types};
+pub use fitting::module_has_few_locals;
+pub use laws::{
+    back, checked_is_known, printed_bodies, printed_declarations, printed_names, printed_types,
+};
