@@ -1,4 +1,4 @@
--- How many parameters and locals a function of a text may have.
+-- How many parameters and locals a function of a text may have (Core 1.0, 6.6.5; the limit of locals is our own).
 use Rattle.std.specs.Prelude.{◌+◌, ◌<◌, ◌≤◌, ◌^◌, List, length}
 use Rattle.std.specs.List.{All}
 use Rattle.wc_ast.specs.Standard.LocalGroups.{locals_limit}
