@@ -6,5 +6,6 @@ pub mod Instructions
 pub mod Bodies
 pub mod Counting
 pub mod Checked
+pub mod Gathering
 pub mod Naming
 pub mod Reading
