@@ -1,5 +1,6 @@
 mod HeadLemmas
 pub mod SizeLemmas
+mod GrowthLemmas
 mod Meanings
 mod OpenLemmas
 mod InstrLemmas

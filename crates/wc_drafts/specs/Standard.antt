@@ -1,4 +1,5 @@
 -- What contracts speak of: what one more kept token adds to what was said.
+pub mod Tokens
 pub mod Words
 pub mod Uses
 pub mod Heads
@@ -8,4 +9,5 @@ pub mod Immediates
 pub mod Taking
 pub mod Ending
 pub mod Sizes
+pub mod Growing
 pub mod Derived

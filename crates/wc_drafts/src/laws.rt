@@ -15,8 +15,9 @@ ghost use Rattle.wc_drafts.specs.declared.use_draft.UseDraft.{UseDraft};
 ghost use Rattle.wc_drafts.specs.declared.word.Word.{Word};
 ghost use Rattle.wc_drafts.specs.Standard.Uses.{take_use};
 ghost use Rattle.wc_drafts.specs.Standard.Taking.{take};
-ghost use Rattle.wc_drafts.specs.Standard.Ending.{nothing_said, ended};
+ghost use Rattle.wc_drafts.specs.Standard.Ending.{nothing_said, body_of, ended};
 ghost use Rattle.wc_drafts.specs.Standard.Sizes.{said_size};
+ghost use Rattle.wc_drafts.specs.Standard.Growing.{Grows};
 ghost use Rattle.wc_drafts.specs.Standard.Derived.{AreWords, take_all, Leaves};
 
 /// One more kept token adds no more than one parameter to a type use, and no more than one to the type uses and
@@ -26,6 +27,13 @@ pub fn one_token_adds_one()
     ensures body { (d : BodyDraft) (r : Role) (w : Word) → said_size (take d r w) ≤ said_size d + 1 }
     ensures first { said_size nothing_said ≡ 0 }
     ensures end { (d : BodyDraft) → body_size (ended d) ≤ said_size d }
+{}
+
+/// One more kept token, and the end, leave all that was said: the heads, type uses, identifiers and labels of a body only
+/// grow at their ends. Of a head, the identifiers behind `else` and `end` come later.
+pub fn what_was_said_stays()
+    ensures token { (d : BodyDraft) (r : Role) (w : Word) → Grows (body_of d) (body_of (take d r w)) }
+    ensures end { (d : BodyDraft) → Grows (body_of d) (ended d) }
 {}
 
 /// Behind the instructions of a derivation stands open, and waits, what stood open and waited before them: so behind a

@@ -1,15 +1,16 @@
 //! Kept tokens, and what each says by itself.
 
-ghost use Rattle.std.specs.Prelude.{◌≡◌, OnOk, IfOk, List as Seq};
+ghost use Rattle.std.specs.Prelude.{◌≡◌, OnOk, IfOk};
 ghost use Rattle.wc_drafts.specs.Standard.Words.{identifier_of, number_in, index_of, operand_of, ids_with};
 
 use crate::row::Row;
 use std::alloc::AllocError;
+use std::marker::Model;
 use wc_surface::{Id, Index, Operand};
 use wc_words::{Symbol, Value};
 
-/// A kept token.
-#[derive(Clone, Copy, Debug)]
+/// A kept token. A contract sees its number, its kind and its value, and its text as bytes.
+#[derive(Debug, Drop)]
 pub struct Word<'a> {
     /// Its number among all tokens of the text.
     pub token: u32,
@@ -19,17 +20,25 @@ pub struct Word<'a> {
     pub text: &'a str,
 }
 
-/// The token as an identifier (Core 1.0, 6.3.5).
+impl<'a> Model for Word<'a> {
+    ghost use Rattle.wc_drafts.specs.Standard.Tokens.{KeptToken, kept_token};
+
+    ghost Value = { KeptToken };
+
+    ghost view = { λ word. kept_token word.token word.symbol word.text.now };
+}
+
+/// The token as an identifier (Core 1.0, 6.3.5). It takes no memory.
 #[inline(always)]
-pub(crate) fn identifier_of<'a>(word: &Word<'a>) -> Id<'a>
+pub fn identifier_of<'a>(word: &Word<'a>) -> Id<'a>
     ensures { result ≡ identifier_of word.now }
 {
     Id::new(word.token, word.text)
 }
 
-/// The natural number of 32 bits that a value is.
+/// The natural number of 32 bits that a value is; none where it is no number, or a greater one (Core 1.0, 6.3.1).
 #[inline(always)]
-pub(crate) fn number_in(value: Value) -> Option<u32>
+pub fn number_in(value: Value) -> Option<u32>
     ensures { result ≡ number_in value }
 {
     match value {
@@ -38,8 +47,8 @@ pub(crate) fn number_in(value: Value) -> Option<u32>
     }
 }
 
-/// An index: a number, or else an identifier (Core 1.0, 6.6.1).
-pub(crate) fn index_of<'a>(word: &Word<'a>) -> Index<'a>
+/// The token as an index: a number of 32 bits, or else an identifier (Core 1.0, 6.6.1). It takes no memory.
+pub fn index_of<'a>(word: &Word<'a>) -> Index<'a>
     ensures { result ≡ index_of word.now }
 {
     match number_in(word.symbol.value) {

@@ -11,9 +11,10 @@ use Rattle.wc_syntax.specs.declared.place.Action.{Action}
 use Rattle.wc_syntax.specs.Phrases.{Terminal, Phrase}
 use Rattle.wc_syntax.specs.Kinds.{all_terminals}
 use Rattle.wc_syntax.specs.Table.{leads_to, is_end, resume}
-use Rattle.wc_syntax.proofs.Edges.{Edges, deep, edges}
+use Rattle.wc_syntax.proofs.Edges.{Edges, edges}
 use Rattle.wc_syntax.proofs.Places.{edges-all, pick, the-edges, left, front, over, is-open, fuel, means, Alt, alt}
 use Rattle.wc_syntax.proofs.Validity.{valid, is-block, fits-in, leaves}
+use Rattle.wc_syntax.proofs.PlaceList.{all-places, over-frame}
 
 abbrev pub tag : Option Role → List (List Phrase) → List Alt
 tag o [] = []
@@ -89,8 +90,8 @@ trues = map (λ t. true) all_terminals
 abbrev pub ended-edges : ℕ → Place → Frame → Edges
 ended-edges d p f = edges (the-edges (edges-all fuel (means d p f))) (is_end p f)
 
--- at each kind of token the table says what the grammar has
-pub record Tabled (d : ℕ) (p : Place) (f : Frame) : Type 0 where
-  pub agrees : cond (valid p f) (all-picks d p f) [] ≡ cond (valid p f) (all-said d p f) []
-  pub ends : cond (valid p f) (all-edges d p f) deep ≡ cond (valid p f) (ended-edges d p f) deep
-  pub all-lead : cond (valid p f) (all-sound d p f) trues ≡ trues
+-- at each place over the frame the table says of each kind of token what the grammar has
+pub record Tabled (d : ℕ) (f : Frame) : Type 0 where
+  pub agrees : map (λ p. all-picks d p f) (over-frame f all-places) ≡ map (λ p. all-said d p f) (over-frame f all-places)
+  pub ends : map (λ p. all-edges d p f) (over-frame f all-places) ≡ map (λ p. ended-edges d p f) (over-frame f all-places)
+  pub all-lead : map (λ p. all-sound d p f) (over-frame f all-places) ≡ map (λ p. trues) (over-frame f all-places)

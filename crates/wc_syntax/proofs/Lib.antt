@@ -3,13 +3,8 @@ pub mod Shorter
 pub mod Edges
 pub mod Places
 pub mod Validity
+pub mod PlaceList
 pub mod Agreement
-pub mod TabledText
-pub mod TabledFields
-pub mod TabledSegments
-pub mod TabledOffsets
-pub mod TabledBlocks
-pub mod TabledFolded
 pub mod Tabling
 pub mod Machine
 pub mod States

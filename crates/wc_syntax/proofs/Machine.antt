@@ -11,11 +11,12 @@ use Rattle.wc_syntax.specs.Deriving.{Item, terminal_of, Event}
 use Rattle.wc_syntax.specs.Kinds.{code_of, same, all_terminals}
 use Rattle.wc_syntax.specs.Table.{leads_to, is_end}
 use Rattle.wc_syntax.proofs.Run.{Mode, Run}
-use Rattle.wc_syntax.proofs.Edges.{deep, Edge, edge, Edges, edges, edges-of, keep, AlongAny, edges-out, edges-in}
+use Rattle.wc_syntax.proofs.Edges.{Edge, edge, Edges, edges, edges-of, keep, AlongAny, edges-out, edges-in}
 use Rattle.wc_syntax.proofs.Edges.{out-left, out-right, in-split, Out as OutAlong, In as InAlong}
 use Rattle.wc_syntax.proofs.Places.{edges-all, Alt, alt, pick, the-edges, over, means, fuel}
 use Rattle.wc_syntax.proofs.Validity.{valid}
-use Rattle.wc_syntax.proofs.Agreement.{tag, said, sound, limit-reached, picks}
+use Rattle.wc_syntax.proofs.PlaceList.{at-place}
+use Rattle.wc_syntax.proofs.Agreement.{tag, said, sound, limit-reached, all-picks, all-said, all-edges, ended-edges, all-sound, trues}
 use Rattle.wc_syntax.proofs.Tabling.{tabled}
 
 -- ---- kinds
@@ -132,22 +133,18 @@ over-in m t (s ∷ ss) k us es (inr h) = inr (over-in m t ss k us es h)
 nothing-reads : (m : Mode) (i : Item) (us : List Item) (es : List Event) → Run m [] (i ∷ us) es → ⊥
 nothing-reads m i us es r = elim r [ ]
 
-by-valid : {A : Type 0} (z : Bool) (x y a b : A) → z ≡ true → cond z x a ≡ cond z y b → x ≡ y
-by-valid true x y a b v e = e
-by-valid false x y a b v e = absurd cc
-
 agreed : (d : ℕ) (p : Place) (b : Frame) (k : Terminal) → valid p b ≡ true → pick k (the-edges (edges-all fuel (means d p b))) ≡ said d b (leads_to p b (limit-reached d) k)
-agreed d p b k v = at-kind (λ c. pick c (the-edges (edges-all fuel (means d p b)))) (λ c. said d b (leads_to p b (limit-reached d) c)) (by-valid (valid p b) (picks all_terminals (edges-all fuel (means d p b))) (map (λ c. said d b (leads_to p b (limit-reached d) c)) all_terminals) [] [] v (tabled d p b).agrees) k
+agreed d p b k v =
+    at-kind (λ c. pick c (the-edges (edges-all fuel (means d p b)))) (λ c. said d b (leads_to p b (limit-reached d) c))
+    (at-place (λ q. all-picks d q b) (λ q. all-said d q b) b (tabled d b).agrees p v) k
 
 pub leads : (d : ℕ) (p : Place) (b : Frame) (k : Terminal) → valid p b ≡ true → sound d b (leads_to p b (limit-reached d) k) ≡ true
-leads d p b k v = at-kind (λ c. sound d b (leads_to p b (limit-reached d) c)) (λ c. true) (by-sound (valid p b) v (tabled d p b).all-lead) k
-  where
-    by-sound : (z : Bool) → z ≡ true → cond z (map (λ c. sound d b (leads_to p b (limit-reached d) c)) all_terminals) (map (λ c. true) all_terminals) ≡ map (λ c. true) all_terminals → map (λ c. sound d b (leads_to p b (limit-reached d) c)) all_terminals ≡ map (λ c. true) all_terminals
-    by-sound true v e = e
-    by-sound false v e = absurd cc
+leads d p b k v =
+    at-kind (λ c. sound d b (leads_to p b (limit-reached d) c)) (λ c. true)
+    (at-place (λ q. all-sound d q b) (λ q. trues) b (tabled d b).all-lead p v) k
 
 pub ends-so : (d : ℕ) (p : Place) (b : Frame) → valid p b ≡ true → edges-all fuel (means d p b) ≡ edges (the-edges (edges-all fuel (means d p b))) (is_end p b)
-ends-so d p b v = by-valid (valid p b) (edges-all fuel (means d p b)) (edges (the-edges (edges-all fuel (means d p b))) (is_end p b)) deep deep v (tabled d p b).ends
+ends-so d p b v = at-place (λ q. all-edges d q b) (λ q. ended-edges d q b) b (tabled d b).ends p v
 
 pub step-out : (d : ℕ) (p : Place) (b : Frame) → valid p b ≡ true → (m : Mode) (k : List Phrase) (i : Item) (us : List Item) (es : List Event) → (is_end p b ≡ true → k ≡ []) → Reads m (means d p b) k (i ∷ us) es → Alts m (said d b (leads_to p b (limit-reached d) (terminal_of i))) k i us es
 step-out d p b v m k i us es bottom r =

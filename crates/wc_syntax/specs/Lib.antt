@@ -5,7 +5,6 @@ pub mod Fields
 pub mod Grammar
 pub mod Deriving
 pub mod Reasons
-pub mod Order
 pub mod Kinds
 pub mod Table
 pub mod Instead

@@ -48,12 +48,6 @@ const WHERE_AN_INSTRUCTION_MAY_STAND: &str = r#"
 6 : ( func call_indirect ! 0 )
 "#;
 
-#[test]
-fn where_an_instruction_may_stand(rt: HostRuntime) -> Result<(), Fail> {
-    assert_eq!(rt; first_wrong(&rt, WHERE_AN_INSTRUCTION_MAY_STAND)?, None);
-    Ok(())
-}
-
 /// It is unexpected where none may.
 const WHERE_NONE_MAY: &str = r#"
 1 : ( func ( import "a" "b" ) ! nop )
@@ -68,12 +62,6 @@ const WHERE_NONE_MAY: &str = r#"
 1 : ( func ( if ! nop ) )
 1 : ( func ( param $x i32 ! i64 ) )
 "#;
-
-#[test]
-fn where_no_instruction_may_stand(rt: HostRuntime) -> Result<(), Fail> {
-    assert_eq!(rt; first_wrong(&rt, WHERE_NONE_MAY)?, None);
-    Ok(())
-}
 
 /// Numbers: their range, and powers of two, count only where the number may stand.
 const NUMBERS: &str = r#"
@@ -96,12 +84,6 @@ const NUMBERS: &str = r#"
 4 : ( func ( i32.load ! align=3 ( nop ) ) )
 "#;
 
-#[test]
-fn numbers(rt: HostRuntime) -> Result<(), Fail> {
-    assert_eq!(rt; first_wrong(&rt, NUMBERS)?, None);
-    Ok(())
-}
-
 /// Types and names.
 const TYPES_AND_NAMES: &str = r#"
 5 : ( func ( param ! f32 ) )
@@ -113,12 +95,6 @@ const TYPES_AND_NAMES: &str = r#"
 8 : ( func ( export ! "\ff" ) )
 1 : ( start ! "\ff" )
 "#;
-
-#[test]
-fn types_and_names(rt: HostRuntime) -> Result<(), Fail> {
-    assert_eq!(rt; first_wrong(&rt, TYPES_AND_NAMES)?, None);
-    Ok(())
-}
 
 /// Optional parts that stand twice, or in another order.
 const ORDER: &str = r#"
@@ -138,8 +114,19 @@ const ORDER: &str = r#"
 1 : ( elem ( offset ) func ! func )
 "#;
 
+/// All of these.
+const EXAMPLES: [&str; 5] = [
+    WHERE_AN_INSTRUCTION_MAY_STAND,
+    WHERE_NONE_MAY,
+    NUMBERS,
+    TYPES_AND_NAMES,
+    ORDER,
+];
+
 #[test]
-fn order(rt: HostRuntime) -> Result<(), Fail> {
-    assert_eq!(rt; first_wrong(&rt, ORDER)?, None);
+fn examples_are_refused(rt: HostRuntime) -> Result<(), Fail> {
+    for lines in &EXAMPLES {
+        assert_eq!(rt; first_wrong(&rt, lines)?, None);
+    }
     Ok(())
 }

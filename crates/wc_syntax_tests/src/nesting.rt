@@ -28,89 +28,67 @@ fn nested(
     Ok(kinds)
 }
 
-/// The fault of that function.
-fn fault_inside(
-    rt: &HostRuntime,
-    openings: &str,
-    times: usize,
-    inside: &str,
-) -> Result<(usize, &'static str), AllocError> {
-    fault(rt, LIMIT, &nested(rt, openings, times, inside)?)
+/// Openings and how often they stand, the words inside, and the number of the fault and its reason.
+type Row = (&'static str, usize, &'static str, usize, &'static str);
+
+const ROWS: [Row; 15] = [
+    // Plain blocks.
+    ("block", LIMIT, "nop end", 2 + LIMIT + 2, "2"),
+    ("block", LIMIT, "block", 2 + LIMIT, "7"),
+    ("if", LIMIT, "if", 2 + LIMIT, "7"),
+    // Folded instructions.
+    ("( nop", LIMIT, ") )", 2 + 2 * LIMIT + 2, "2"),
+    ("( nop", LIMIT, "( nop", 2 + 2 * LIMIT + 1, "7"),
+    ("( block", LIMIT, "nop", 2 + 2 * LIMIT + 1, "2"),
+    ("( block", LIMIT, "( nop", 2 + 2 * LIMIT + 1, "7"),
+    ("( if", LIMIT, "( if", 2 + 2 * LIMIT + 1, "7"),
+    // Words inside the deepest.
+    ("( block", LIMIT, "( get_local", 2 + 2 * LIMIT + 1, "6"),
+    ("( block", LIMIT, "( f64.add", 2 + 2 * LIMIT + 1, "5"),
+    ("( block", LIMIT, "get_local", 2 + 2 * LIMIT, "6"),
+    // In any mix.
+    (
+        "block ( block",
+        LIMIT / 2,
+        "nop )",
+        2 + 3 * (LIMIT / 2) + 2,
+        "2",
+    ),
+    (
+        "block ( block",
+        LIMIT / 2,
+        "block",
+        2 + 3 * (LIMIT / 2),
+        "7",
+    ),
+    (
+        "block ( block",
+        LIMIT / 2,
+        "( nop",
+        2 + 3 * (LIMIT / 2) + 1,
+        "7",
+    ),
+    (
+        "if ( nop ) ( if ( then",
+        LIMIT / 2,
+        "( if",
+        2 + 8 * (LIMIT / 2) + 1,
+        "7",
+    ),
+];
+
+/// Whether the fault is the one of its row.
+fn is_right(rt: &HostRuntime, row: &Row) -> Result<bool, AllocError> {
+    let (openings, times, inside, token, why) = row;
+    let kinds = nested(rt, openings, *times, inside)?;
+    let (found, reason) = fault(rt, LIMIT, &kinds)?;
+    Ok(found == *token && reason == *why)
 }
 
 #[test]
-fn plain_blocks(rt: HostRuntime) -> Result<(), Fail> {
-    assert_eq!(rt;
-        fault_inside(&rt, "block", LIMIT, "nop end")?,
-        (2 + LIMIT + 2, "2")
-    );
-    assert_eq!(rt;
-        fault_inside(&rt, "block", LIMIT, "block")?,
-        (2 + LIMIT, "7")
-    );
-    assert_eq!(rt; fault_inside(&rt, "if", LIMIT, "if")?, (2 + LIMIT, "7"));
-    Ok(())
-}
-
-#[test]
-fn folded_instructions(rt: HostRuntime) -> Result<(), Fail> {
-    assert_eq!(rt;
-        fault_inside(&rt, "( nop", LIMIT, ") )")?,
-        (2 + 2 * LIMIT + 2, "2")
-    );
-    assert_eq!(rt;
-        fault_inside(&rt, "( nop", LIMIT, "( nop")?,
-        (2 + 2 * LIMIT + 1, "7")
-    );
-    assert_eq!(rt;
-        fault_inside(&rt, "( block", LIMIT, "nop")?,
-        (2 + 2 * LIMIT + 1, "2")
-    );
-    assert_eq!(rt;
-        fault_inside(&rt, "( block", LIMIT, "( nop")?,
-        (2 + 2 * LIMIT + 1, "7")
-    );
-    assert_eq!(rt;
-        fault_inside(&rt, "( if", LIMIT, "( if")?,
-        (2 + 2 * LIMIT + 1, "7")
-    );
-    Ok(())
-}
-
-#[test]
-fn words_inside_the_deepest(rt: HostRuntime) -> Result<(), Fail> {
-    assert_eq!(rt;
-        fault_inside(&rt, "( block", LIMIT, "( get_local")?,
-        (2 + 2 * LIMIT + 1, "6")
-    );
-    assert_eq!(rt;
-        fault_inside(&rt, "( block", LIMIT, "( f64.add")?,
-        (2 + 2 * LIMIT + 1, "5")
-    );
-    assert_eq!(rt;
-        fault_inside(&rt, "( block", LIMIT, "get_local")?,
-        (2 + 2 * LIMIT, "6")
-    );
-    Ok(())
-}
-
-#[test]
-fn in_any_mix(rt: HostRuntime) -> Result<(), Fail> {
-    assert_eq!(rt;
-        fault_inside(&rt, "block ( block", LIMIT / 2, "nop )")?,
-        (2 + 3 * (LIMIT / 2) + 2, "2")
-    );
-    assert_eq!(rt;
-        fault_inside(&rt, "block ( block", LIMIT / 2, "block")?,
-        (2 + 3 * (LIMIT / 2), "7")
-    );
-    assert_eq!(rt;
-        fault_inside(&rt, "block ( block", LIMIT / 2, "( nop")?,
-        (2 + 3 * (LIMIT / 2) + 1, "7")
-    );
-    assert_eq!(rt;
-        fault_inside(&rt, "if ( nop ) ( if ( then", LIMIT / 2, "( if")?,
-        (2 + 8 * (LIMIT / 2) + 1, "7")
-    );
+fn one_more_than_the_deepest(rt: HostRuntime) -> Result<(), Fail> {
+    for row in &ROWS {
+        assert!(rt; is_right(&rt, row)?);
+    }
     Ok(())
 }

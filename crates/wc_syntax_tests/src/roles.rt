@@ -21,53 +21,47 @@ fn roles_of(rt: &HostRuntime, text: &str) -> Result<Vec<(usize, Role)>, AllocErr
     }
 }
 
+const FOLDED_IF: [(usize, Role); 12] = [
+    (1, Field),
+    (3, HeldBegin),
+    (4, Label),
+    (6, HeldPlain),
+    (7, HeldEnd),
+    (9, Then),
+    (10, Plain),
+    (11, Index),
+    (14, Else),
+    (15, Plain),
+    (17, End),
+    (18, FieldEnd),
+];
+
 #[test]
 fn folded_if(rt: HostRuntime) -> Result<(), Fail> {
     let roles = roles_of(&rt, "( func ( if $a ( nop ) ( then br 0 ) ( else nop ) ) )")?;
-    assert_eq!(rt;
-        roles.as_slice(),
-        [
-            (1, Field),
-            (3, HeldBegin),
-            (4, Label),
-            (6, HeldPlain),
-            (7, HeldEnd),
-            (9, Then),
-            (10, Plain),
-            (11, Index),
-            (14, Else),
-            (15, Plain),
-            (17, End),
-            (18, FieldEnd),
-        ]
-        .as_slice()
-    );
+    assert!(rt; roles.as_slice() == FOLDED_IF.as_slice());
     Ok(())
 }
 
+const SEGMENTS: [(usize, Role); 12] = [
+    (1, Field),
+    (2, FieldId),
+    (5, Segment),
+    (6, Element),
+    (8, FieldEnd),
+    (10, Field),
+    (11, Target),
+    (13, HeldPlain),
+    (14, Literal),
+    (15, HeldEnd),
+    (16, Bytes),
+    (17, FieldEnd),
+];
+
 #[test]
 fn segments(rt: HostRuntime) -> Result<(), Fail> {
-    let roles = roles_of(
-        &rt,
-        "( table $a funcref ( elem 0 ) ) ( data 0 ( i32.const 0 ) \"a\" )",
-    )?;
-    assert_eq!(rt;
-        roles.as_slice(),
-        [
-            (1, Field),
-            (2, FieldId),
-            (5, Segment),
-            (6, Element),
-            (8, FieldEnd),
-            (10, Field),
-            (11, Target),
-            (13, HeldPlain),
-            (14, Literal),
-            (15, HeldEnd),
-            (16, Bytes),
-            (17, FieldEnd),
-        ]
-        .as_slice()
-    );
+    let text = "( table $a funcref ( elem 0 ) ) ( data 0 ( i32.const 0 ) \"a\" )";
+    let roles = roles_of(&rt, text)?;
+    assert!(rt; roles.as_slice() == SEGMENTS.as_slice());
     Ok(())
 }

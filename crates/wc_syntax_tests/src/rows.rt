@@ -17,44 +17,13 @@ fn first_wrong(rt: &HostRuntime, rows: &'static str) -> Result<Option<&'static s
     Ok(None)
 }
 
-#[test]
-fn words_in_texts_and_types(rt: HostRuntime) -> Result<(), Fail> {
-    assert_eq!(rt; first_wrong(&rt, TEXTS)?, None);
-    Ok(())
-}
+/// The rows of each part of the grammar.
+const PARTS: [&str; 7] = [TEXTS, IMPORTS, TABLES, SEGMENTS, HEADS, PLAIN, FOLDED];
 
 #[test]
-fn words_in_imports(rt: HostRuntime) -> Result<(), Fail> {
-    assert_eq!(rt; first_wrong(&rt, IMPORTS)?, None);
-    Ok(())
-}
-
-#[test]
-fn words_in_tables_and_memories(rt: HostRuntime) -> Result<(), Fail> {
-    assert_eq!(rt; first_wrong(&rt, TABLES)?, None);
-    Ok(())
-}
-
-#[test]
-fn words_in_globals_exports_and_segments(rt: HostRuntime) -> Result<(), Fail> {
-    assert_eq!(rt; first_wrong(&rt, SEGMENTS)?, None);
-    Ok(())
-}
-
-#[test]
-fn words_in_heads_of_functions(rt: HostRuntime) -> Result<(), Fail> {
-    assert_eq!(rt; first_wrong(&rt, HEADS)?, None);
-    Ok(())
-}
-
-#[test]
-fn words_in_plain_instructions(rt: HostRuntime) -> Result<(), Fail> {
-    assert_eq!(rt; first_wrong(&rt, PLAIN)?, None);
-    Ok(())
-}
-
-#[test]
-fn words_in_folded_instructions(rt: HostRuntime) -> Result<(), Fail> {
-    assert_eq!(rt; first_wrong(&rt, FOLDED)?, None);
+fn words_behind_fronts(rt: HostRuntime) -> Result<(), Fail> {
+    for rows in &PARTS {
+        assert_eq!(rt; first_wrong(&rt, rows)?, None);
+    }
     Ok(())
 }

@@ -44,12 +44,6 @@ const FIELDS: &str = r#"
 ( data ( offset ) ) ( data 0 ( offset nop ) "a" ) ( data $a ( nop ) "\ff" )
 "#;
 
-#[test]
-fn fields(rt: HostRuntime) -> Result<(), Fail> {
-    assert_eq!(rt; first_wrong(&rt, FIELDS)?, None);
-    Ok(())
-}
-
 const FUNCTIONS: &str = r#"
 ( func )
 ( func $a ( export "a" ) ( import "a" "b" ) )
@@ -83,7 +77,9 @@ const FUNCTIONS: &str = r#"
 "#;
 
 #[test]
-fn functions(rt: HostRuntime) -> Result<(), Fail> {
-    assert_eq!(rt; first_wrong(&rt, FUNCTIONS)?, None);
+fn sentences_are_texts(rt: HostRuntime) -> Result<(), Fail> {
+    for lines in &[FIELDS, FUNCTIONS] {
+        assert_eq!(rt; first_wrong(&rt, lines)?, None);
+    }
     Ok(())
 }

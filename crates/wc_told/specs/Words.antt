@@ -8,7 +8,7 @@ use Rattle.wc_drafts.specs.Standard.Taking.{take}
 -- a kept token, whose bytes stand at an address
 abbrev pub word_of : (ℕ → ℕ × ℕ) → Said → Word
 word_of addresses s =
-    record { token = s.at; symbol = s.symbol; text = record { ref_ptr = addresses s.at; now = s.text } }
+    record { token = s.at; symbol = s.symbol; text = s.text }
 
 -- one after the other
 abbrev pub taken : (ℕ → ℕ × ℕ) → BodyDraft → List Said → BodyDraft

@@ -8,5 +8,8 @@ pub mod StringLemmas
 pub mod SameNumbers
 pub mod SameNames
 pub mod SameSymbols
+pub mod SomeNumbers
+pub mod SomeNames
+pub mod SomeSymbols
 pub mod RangeLemmas
 pub mod Forms

@@ -23,14 +23,14 @@ use Rattle.wc_words.specs.Names.{op_kind, keyword, KeywordIs, word, i32, i64, f3
 use Rattle.wc_words.specs.Names.{float}
 
 -- a keyword or the name of a type, with what it is
-record Entry : Type 0 where
-  text : List ℕ
-  is : Symbol
+pub record Entry : Type 0 where
+  pub text : List ℕ
+  pub is : Symbol
 
-abbrev as_entry : List ℕ → Symbol → Entry
+abbrev pub as_entry : List ℕ → Symbol → Entry
 as_entry t s = record { text = t; is = s }
 
-abbrev keywords : List Entry
+abbrev pub keywords : List Entry
 keywords =
     as_entry (codes "then") (bare kind.ThenWord) ∷ as_entry (codes "else") (bare kind.ElseWord) ∷
     as_entry (codes "end") (bare kind.EndWord) ∷ as_entry (codes "module") (bare kind.ModuleWord) ∷
@@ -46,16 +46,16 @@ keywords =
     as_entry (codes "i64") (valued kind.ValType (ValType type.I64)) ∷
     as_entry (codes "f32") (bare kind.FloatType) ∷ as_entry (codes "f64") (bare kind.FloatType) ∷ []
 
-abbrev find_keyword : List Entry → List ℕ → Option Symbol
+abbrev pub find_keyword : List Entry → List ℕ → Option Symbol
 find_keyword [] t = None
 find_keyword (x ∷ xs) t = if bytes_eq x.text t then Some x.is else find_keyword xs t
 
-abbrev find_op : List Op → List ℕ → Option Op
+abbrev pub find_op : List Op → List ℕ → Option Op
 find_op [] t = None
 find_op (o ∷ os) t = if bytes_eq (row o).name t then Some o else find_op os t
 
 -- what is known of a text that is a keyword
-abbrev IsKeyword : List ℕ → Symbol → Type 0
+abbrev pub IsKeyword : List ℕ → Symbol → Type 0
 IsKeyword text s =
     (find_keyword keywords text ≡ Some s) × (find_op all_ops text ≡ None) × (is_float_name text ≡ false)
 
@@ -86,7 +86,7 @@ keyword-is kind.MutWord = (refl, refl, refl)
 keyword-is kind.FuncrefWord = (refl, refl, refl)
 keyword-is _ = tt
 
-KeywordIs-found : {text : List ℕ} {s : Symbol} → KeywordIs text s → IsKeyword text s
+pub KeywordIs-found : {text : List ℕ} {s : Symbol} → KeywordIs text s → IsKeyword text s
 KeywordIs-found (word k e) = subst (IfKeyword k) e (keyword-is k)
 KeywordIs-found i32 = (refl, refl, refl)
 KeywordIs-found i64 = (refl, refl, refl)
@@ -94,7 +94,7 @@ KeywordIs-found f32 = (refl, refl, refl)
 KeywordIs-found f64 = (refl, refl, refl)
 
 -- what is known of an instruction's name
-abbrev IsOp : List ℕ → Op → Type 0
+abbrev pub IsOp : List ℕ → Op → Type 0
 IsOp text o = (find_op all_ops text ≡ Some o) × (is_float_name text ≡ false)
 
 simple-is : (o : SimpleOp) → IsOp (row (op.Simple o)).name (op.Simple o)
@@ -121,7 +121,7 @@ op-is op.Block = (refl, refl)
 op-is op.Loop = (refl, refl)
 op-is op.If = (refl, refl)
 
-op-found : (text : List ℕ) (o : Op) → (row o).name ≡ text → IsOp text o
+pub op-found : (text : List ℕ) (o : Op) → (row o).name ≡ text → IsOp text o
 op-found text o e = subst (λ (t : List ℕ). IsOp t o) e (op-is o)
 
 pub NameIs-same : {text : List ℕ} {s o : Symbol} → NameIs text s → NameIs text o → s ≡ o

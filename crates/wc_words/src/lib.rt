@@ -13,6 +13,6 @@ mod token;
 mod utf8;
 mod word;
 
-pub use law::{literals_have_bits, one_symbol};
+pub use law::{literals_have_bits, one_symbol, some_symbol};
 pub use symbol::{Symbol, Value};
 pub use token::symbol_of;

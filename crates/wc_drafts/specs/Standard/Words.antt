@@ -15,7 +15,7 @@ place_behind xs = length xs % 2 ^ 32
 
 -- the token as an identifier (6.3.5)
 abbrev pub identifier_of : Word → Identifier
-identifier_of w = identifier w.token w.text.now
+identifier_of w = identifier w.token w.text
 
 -- the natural number of 32 bits that is the value
 abbrev pub number_in : Value → Option ℕ

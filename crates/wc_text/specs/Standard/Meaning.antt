@@ -35,7 +35,7 @@ pub record IsItem (ts : List Lexeme) (e : Event) (i : Item) : Type 0 where
   pub stands : drop i.word.token ts ≡ lexeme ∷ rest
   pub event : e ≡ kept i.role (at i.word.token (word i.word.symbol.kind))
   pub symbol : TokenIs lexeme.kind lexeme.text i.word.symbol
-  pub text : i.word.text.now ≡ lexeme.text
+  pub text : i.word.text ≡ lexeme.text
   pub bytes : StandsFor lexeme.kind lexeme.text i.bytes
 
 -- `Syn ts fields`: the tokens are a text, and these are the fields that it says
