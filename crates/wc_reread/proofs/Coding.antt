@@ -19,7 +19,7 @@ use Rattle.wc_printed.specs.Kept.{Said, said_as, said_before, said_from}
 use Rattle.wc_drafts.specs.declared.word.Word.{Word}
 use Rattle.wc_drafts.specs.declared.body_draft.BodyDraft.{BodyDraft}
 use Rattle.wc_drafts.specs.Standard.Taking.{take}
-use Rattle.wc_text.specs.declared.field_draft.FieldDraft.{FieldDraft}
+use Rattle.wc_fields.specs.declared.field_draft.FieldDraft.{FieldDraft}
 use Rattle.wc_text.specs.Standard.Texts.{Item, take_by, take_items}
 use Rattle.wc_text.specs.declared.text_draft.TextDraft.{TextDraft}
 use Rattle.wc_told.specs.Words.{word_of, taken}
@@ -49,7 +49,7 @@ IsCode s = part_of_code s.role ≡ true
 
 -- a field with these instructions so far
 abbrev pub coded : FieldDraft → Bool → BodyDraft → FieldDraft
-coded d h b = record d { has_code = h; body = b }
+coded d h b = record d { code = record { begun = h; body = b } }
 
 one : (fs : List Field) (d : FieldDraft) (b : BodyDraft) (r : Role) (w : Word) (bytes : List ℕ) → of_code r ≡ true
     → take_by r w bytes (state fs (coded d true b)) ≡ state fs (coded d true (take b r w))

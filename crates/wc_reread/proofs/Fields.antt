@@ -27,10 +27,11 @@ use Rattle.wc_printed.specs.Fields.{global_signs, elem_signs, data_signs, table_
 use Rattle.wc_printed.specs.Kept.{said_as, said_from}
 use Rattle.wc_printed.specs.Fitting.{FitsLimits, FitsOptional, FitsDesc, FitsImport, FitsExport, FitsFunc, FitsGlobal}
 use Rattle.wc_printed.specs.Fitting.{FitsElem, FitsData}
+use Rattle.wc_drafts.specs.declared.word.Word.{Word}
 use Rattle.wc_drafts.specs.Standard.Words.{index_by, number_in}
 use Rattle.wc_drafts.specs.Standard.Uses.{started_use}
-use Rattle.wc_text.specs.declared.field_draft.FieldDraft.{FieldDraft}
-use Rattle.wc_text.specs.Standard.Fields.{started, name_of, with_min, with_max}
+use Rattle.wc_fields.specs.declared.field_draft.FieldDraft.{FieldDraft}
+use Rattle.wc_fields.specs.Standard.Fields.{started, unnamed, first_limits, name_of, with_min, with_max}
 use Rattle.wc_told.specs.Words.{word_of, taken}
 use Rattle.wc_told.proofs.Marks.{number}
 use Rattle.wc_reread.specs.Surface.{use_by, locals_along, indices_along, type_field, import_field, func_field, table_field}
@@ -57,6 +58,22 @@ name-is bytes u = name-by bytes (is_utf8 bytes) refl (is_utf8-from_IsUtf8 bytes 
 regroup : (a b c d : List Sign) → (a ++ (b ++ c)) ++ d ≡ a ++ (b ++ (c ++ d))
 regroup a b c d = simp append_assoc refl
 
+-- a field with these limits, and one with this type of a global
+abbrev with_limits : FieldDraft → ℕ → Option ℕ → FieldDraft
+with_limits d a m = record d { limits = record { min = a; max = m } }
+
+abbrev with_global : FieldDraft → ValType → Bool → FieldDraft
+with_global d t mutable = record d { global = record { ty = t; mutable = mutable } }
+
+-- an import of these names
+abbrev imported : ℕ → List ℕ → List ℕ → FieldDraft
+imported n asked item =
+    record (started kind.ImportWord n) { names = record (unnamed (Some n)) { «module» = asked; item = item } }
+
+-- a segment of this table or memory
+abbrev aimed : FieldDraft → Option ℕ → Word → FieldDraft
+aimed d o w = record d { contents = record d.contents { target = Some (index_by o w) } }
+
 module _ (addresses : ℕ → ℕ × ℕ) where
   pub types : Reads addresses (λ (t : FuncType). Unit {0}) type_signs type_field
   types fs n t h =
@@ -70,31 +87,32 @@ module _ (addresses : ℕ → ℕ × ℕ) where
       ∙ on addresses (state fs (typed d t.params [])) (state fs (typed d t.params t.results)) (length ps + at) rs
       (closes ∷ ends ∷ []) (all-results addresses fs d (length ps + at) t.params t.results))
 
-  most : (fs : List Field) (d : FieldDraft) (n : ℕ) (m : Option ℕ) → FitsOptional m
-      → read addresses (state fs (record d { max = None })) n (max_signs m) ≡ state fs (record d { max = m })
-  most fs d n None h = refl
-  most fs d n (Some k) h = ap (λ (x : Option ℕ). state fs (with_max x (record d { max = None }))) (number k h)
+  most : (fs : List Field) (d : FieldDraft) (n a : ℕ) (m : Option ℕ) → FitsOptional m
+      → read addresses (state fs (with_limits d a None)) n (max_signs m) ≡ state fs (with_limits d a m)
+  most fs d n a None h = refl
+  most fs d n a (Some k) h =
+      ap (λ (x : Option ℕ). state fs (record d { limits = with_max x (record { min = a; max = None }) })) (number k h)
 
   pub limits : (fs : List Field) (d : FieldDraft) (n : ℕ) (l : Limits) → FitsLimits l
-      → read addresses (state fs (record d { max = None })) n (limits_signs l)
-      ≡ state fs (record d { min = l.min; max = l.max })
+      → read addresses (state fs (with_limits d 0 None)) n (limits_signs l) ≡ state fs (with_limits d l.min l.max)
   limits fs d n l h =
-      ap (λ (x : Option ℕ). read addresses (state fs (with_min x (record d { max = None }))) (suc n) (max_signs l.max)) (number l.min h.0)
-      ∙ most fs (record d { min = l.min }) (suc n) l.max h.1
+      ap (λ (x : Option ℕ). read addresses (state fs (record d { limits = with_min x first_limits })) (suc n)
+      (max_signs l.max)) (number l.min h.0)
+      ∙ most fs d (suc n) l.min l.max h.1
 
   pub tables : Reads addresses FitsLimits table_signs table_field
   tables fs n l h =
       let d = started kind.TableWord (suc n) in
       let at = suc (suc n) in
       ap (read addresses (state fs d) at) (append_assoc (limits_signs l) (key kind.FuncrefWord ∷ []) (ends ∷ []))
-      ∙ on addresses (state fs d) (state fs (record d { min = l.min; max = l.max })) at (limits_signs l)
+      ∙ on addresses (state fs d) (state fs (with_limits d l.min l.max)) at (limits_signs l)
       (key kind.FuncrefWord ∷ ends ∷ []) (limits fs d at l h)
 
   pub memories : Reads addresses FitsLimits memory_signs memory_field
   memories fs n l h =
       let d = started kind.MemoryWord (suc n) in
       let at = suc (suc n) in
-      on addresses (state fs d) (state fs (record d { min = l.min; max = l.max })) at (limits_signs l) (ends ∷ []) (limits fs d at l h)
+      on addresses (state fs d) (state fs (with_limits d l.min l.max)) at (limits_signs l) (ends ∷ []) (limits fs d at l h)
 
   pub starts : (fs : List Field) (n i : ℕ) → Fits32 i
       → read addresses (fresh fs) n (start_signs (Some i)) ≡ fresh (fs ++ start_field n i ∷ [])
@@ -103,20 +121,20 @@ module _ (addresses : ℕ → ℕ × ℕ) where
       ap (λ (x : Option ℕ). fresh (fs ++ field.Start (record { token = suc n; index = index_by x w }) ∷ [])) (number i h)
 
   global-type : (fs : List Field) (d : FieldDraft) (n : ℕ) (mutable : Bool) (t : ValType)
-      → read addresses (state fs (record d { mutable = false })) n (globaltype_signs mutable t)
-      ≡ state fs (record d { mutable = mutable; value_type = t })
+      → read addresses (state fs (record d { global = record d.global { mutable = false } })) n (globaltype_signs mutable t)
+      ≡ state fs (with_global d t mutable)
   global-type fs d n false t = refl
   global-type fs d n true t = refl
 
   -- what an import brings
   brings : (fs : List Field) (n : ℕ) (i : Import) → FitsImport i
-      → read addresses (state fs (record (started kind.ImportWord (suc n)) { «module» = i.«module»; item = i.name }))
+      → read addresses (state fs (imported (suc n) i.«module» i.name))
       (suc (suc (suc (suc (suc n))))) (desc_signs i.desc ++ (closes ∷ ends ∷ []))
       ≡ fresh (fs ++ import_field n i ∷ [])
   brings fs n i h = by-desc i.desc h.2
     where
       by-desc : (t : Desc) → FitsDesc t
-          → read addresses (state fs (record (started kind.ImportWord (suc n)) { «module» = i.«module»; item = i.name }))
+          → read addresses (state fs (imported (suc n) i.«module» i.name))
           (suc (suc (suc (suc (suc n))))) (desc_signs t ++ (closes ∷ ends ∷ []))
           ≡ fresh (fs ++ import_field n (record i { desc = t }) ∷ [])
       by-desc (descs.Func index) k =
@@ -134,46 +152,28 @@ module _ (addresses : ℕ → ℕ × ℕ) where
             });
           }) ∷ [])) (number index k)
       by-desc (descs.Table l) k =
-          let d = record (started kind.ImportWord (suc n)) {
-            «module» = i.«module»;
-            item = i.name;
-            description = export_kinds.Table;
-          } in
+          let d = record (imported (suc n) i.«module» i.name) { description = export_kinds.Table } in
           let at = suc (suc (suc (suc (suc (suc n))))) in
           ap (read addresses (state fs d) at) (append_assoc (limits_signs l) (key kind.FuncrefWord ∷ []) (closes ∷ ends ∷ []))
-          ∙ on addresses (state fs d) (state fs (record d { min = l.min; max = l.max })) at (limits_signs l)
+          ∙ on addresses (state fs d) (state fs (with_limits d l.min l.max)) at (limits_signs l)
           (key kind.FuncrefWord ∷ closes ∷ ends ∷ []) (limits fs d at l k)
       by-desc (descs.Memory l) k =
-          let d = record (started kind.ImportWord (suc n)) {
-            «module» = i.«module»;
-            item = i.name;
-            description = export_kinds.Memory;
-          } in
+          let d = record (imported (suc n) i.«module» i.name) { description = export_kinds.Memory } in
           let at = suc (suc (suc (suc (suc (suc n))))) in
-          on addresses (state fs d) (state fs (record d { min = l.min; max = l.max })) at (limits_signs l)
+          on addresses (state fs d) (state fs (with_limits d l.min l.max)) at (limits_signs l)
           (closes ∷ ends ∷ []) (limits fs d at l k)
       by-desc (descs.Global g) k =
-          let d = record (started kind.ImportWord (suc n)) {
-            «module» = i.«module»;
-            item = i.name;
-            description = export_kinds.Global;
-          } in
+          let d = record (imported (suc n) i.«module» i.name) { description = export_kinds.Global } in
           let at = suc (suc (suc (suc (suc (suc n))))) in
-          on addresses (state fs d) (state fs (record d { mutable = g.mutable; value_type = g.ty })) at
+          on addresses (state fs d) (state fs (with_global d g.ty g.mutable)) at
           (globaltype_signs g.mutable g.ty) (closes ∷ ends ∷ []) (global-type fs d at g.mutable g.ty)
 
   pub imports : Reads addresses FitsImport import_signs import_field
   imports fs n i h =
       let at = suc (suc (suc (suc (suc n)))) in
       let rest = desc_signs i.desc ++ (closes ∷ ends ∷ []) in
-      ap (λ (x : List ℕ). read addresses (state fs (record (started kind.ImportWord (suc n)) {
-        «module» = x;
-        item = name_of i.name;
-      })) at rest) (name-is i.«module» h.0)
-      ∙ (ap (λ (x : List ℕ). read addresses (state fs (record (started kind.ImportWord (suc n)) {
-        «module» = i.«module»;
-        item = x;
-      })) at rest) (name-is i.name h.1)
+      ap (λ (x : List ℕ). read addresses (state fs (imported (suc n) x (name_of i.name))) at rest) (name-is i.«module» h.0)
+      ∙ (ap (λ (x : List ℕ). read addresses (state fs (imported (suc n) i.«module» x)) at rest) (name-is i.name h.1)
       ∙ brings fs n i h)
 
   abbrev lent : List Field → ℕ → ExportKind → ℕ → List ℕ → Option ℕ → TextDraft
@@ -200,7 +200,7 @@ module _ (addresses : ℕ → ℕ × ℕ) where
   pub globals : Reads addresses FitsGlobal global_signs global_field
   globals fs n g h =
       let d = started kind.GlobalWord (suc n) in
-      let e = record d { mutable = g.ty.mutable; value_type = g.ty.ty } in
+      let e = with_global d g.ty.ty g.ty.mutable in
       let at = suc (suc n) in
       let ts = globaltype_signs g.ty.mutable g.ty.ty in
       let cs = code_signs g.init in
@@ -245,14 +245,14 @@ module _ (addresses : ℕ → ℕ × ℕ) where
   elems fs n t h =
       let d = started kind.ElemWord (suc n) in
       let w = word_of addresses (said_as role.Target (suc (suc n)) (natural role.Target t.table)) in
-      let e = record d { target = Some (index_by (Some t.table) w) } in
+      let e = aimed d (Some t.table) w in
       let at = suc (suc (suc (suc (suc n)))) in
       let cs = code_signs t.offset in
       let ns = naturals role.Element t.funcs in
       let code = taken addresses nothing_said (said_from at cs) in
       let g = coded e (begun t.offset) code in
       let after = suc (length cs + at) in
-      ap (λ (o : Option ℕ). read addresses (state fs (record d { target = Some (index_by o w) })) at
+      ap (λ (o : Option ℕ). read addresses (state fs (aimed d o w)) at
       ((cs ++ (closes ∷ [])) ++ (ns ++ (ends ∷ [])))) (number t.table h.0)
       ∙ (ap (read addresses (state fs e) at) (append_assoc cs (closes ∷ []) (ns ++ (ends ∷ [])))
       ∙ (on addresses (state fs e) (state fs g) at cs (closes ∷ (ns ++ (ends ∷ []))) (body addresses fs e at nothing_said t.offset)
@@ -268,12 +268,12 @@ module _ (addresses : ℕ → ℕ × ℕ) where
   datas fs n t h =
       let d = started kind.DataWord (suc n) in
       let w = word_of addresses (said_as role.Target (suc (suc n)) (natural role.Target t.memory)) in
-      let e = record d { target = Some (index_by (Some t.memory) w) } in
+      let e = aimed d (Some t.memory) w in
       let at = suc (suc (suc (suc (suc n)))) in
       let cs = code_signs t.offset in
       let rest = string role.Bytes t.bytes ∷ ends ∷ [] in
       let g = coded e (begun t.offset) (taken addresses nothing_said (said_from at cs)) in
-      ap (λ (o : Option ℕ). read addresses (state fs (record d { target = Some (index_by o w) })) at
+      ap (λ (o : Option ℕ). read addresses (state fs (aimed d o w)) at
       ((cs ++ (closes ∷ [])) ++ rest)) (number t.memory h.0)
       ∙ (ap (read addresses (state fs e) at) (append_assoc cs (closes ∷ []) rest)
       ∙ (on addresses (state fs e) (state fs g) at cs (closes ∷ rest) (body addresses fs e at nothing_said t.offset)

@@ -15,7 +15,7 @@ use Rattle.wc_printed.specs.Signs.{closes, type_sign, natural}
 use Rattle.wc_printed.specs.Instructions.{values_signs, naturals}
 use Rattle.wc_printed.specs.Kept.{said_as}
 use Rattle.wc_drafts.specs.Standard.Words.{index_by}
-use Rattle.wc_text.specs.declared.field_draft.FieldDraft.{FieldDraft}
+use Rattle.wc_fields.specs.declared.field_draft.FieldDraft.{FieldDraft}
 use Rattle.wc_told.specs.Words.{word_of}
 use Rattle.wc_told.proofs.Marks.{number}
 use Rattle.wc_reread.specs.Surface.{locals_along, indices_along}
@@ -24,14 +24,14 @@ use Rattle.wc_reread.proofs.Reading.{state, read, on}
 -- the field's own use has these parameters and results
 abbrev pub typed : FieldDraft → List ValType → List ValType → FieldDraft
 typed d ps rs =
-    record d { has_code = false; ty = record d.ty { params = ps; pending = None; names = []; results = rs } }
+    record d { code = record d.code { begun = false }; ty = record d.ty { params = ps; pending = None; names = []; results = rs } }
 
 -- these locals
 abbrev pub with_locals : FieldDraft → List Local → FieldDraft
-with_locals d ls = record d { local_id = None; locals = ls }
+with_locals d ls = record d { locals = record { id = None; locals = ls } }
 
 abbrev pub with_elements : FieldDraft → List Index → FieldDraft
-with_elements d is = record d { elements = is }
+with_elements d is = record d { contents = record d.contents { elements = is } }
 
 module _ (addresses : ℕ → ℕ × ℕ) (fs : List Field) (d : FieldDraft) where
   params : (n : ℕ) (ps rs ts : List ValType)

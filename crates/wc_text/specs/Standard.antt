@@ -1,4 +1,4 @@
-pub mod Fields
-pub mod Finished
 pub mod Texts
 pub mod Meaning
+pub mod Faults
+pub mod Refused

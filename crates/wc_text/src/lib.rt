@@ -1,9 +1,10 @@
-//! What a text says: its fields, kept token by kept token (Core 1.0, 6.6). The definitions stand here; the parser that
-//! answers them is not built yet.
+//! What a text says: a text that is being said, kept token by kept token (Core 1.0, 6.6.13). The loop over the
+//! tokens is not built yet.
 #![tactic(auto)]
 
-mod field_draft;
+mod fault;
+mod string;
 mod text_draft;
 
-pub use field_draft::FieldDraft;
+pub use fault::SynFault;
 pub use text_draft::TextDraft;

@@ -1,12 +1,71 @@
-//! Texts.
+//! Texts that are being said.
 
-use crate::field_draft::FieldDraft;
+ghost use Rattle.std.specs.Prelude.{◌≡◌, OnOk};
+ghost use Rattle.wc_text.specs.Standard.Texts.{nothing, take_by};
+
+use std::alloc::{AllocError, Global};
+use std::mem::replace;
 use wc_ast::List;
+use wc_drafts::Word;
+use wc_fields::FieldDraft;
 use wc_surface::Field;
+use wc_syntax::{Kind, Role};
 
 /// A text that is being said (Core 1.0, 6.6.13). `take_by` says what each kept token adds.
 #[derive(Debug, Drop)]
 pub struct TextDraft<'a> {
     pub(crate) fields: List<Field<'a>>,
     pub(crate) field: FieldDraft<'a>,
+}
+
+impl<'a> TextDraft<'a> {
+    /// No field so far. It takes no memory.
+    pub(crate) fn new(alloc: Global) -> TextDraft<'a>
+        ensures { result ≡ nothing }
+    {
+        TextDraft {
+            fields: List::new(alloc),
+            field: FieldDraft::new(alloc, Kind::OtherWord, 0),
+        }
+    }
+
+    /// One more kept token, and what it stands for where it is a string. The error is want of memory.
+    #[inline(always)]
+    pub(crate) fn take(
+        &mut self,
+        alloc: Global,
+        role: Role,
+        word: &Word<'a>,
+        bytes: Vec<u8>,
+    ) -> Result<(), AllocError>
+        ensures { OnOk result (self.new ≡ take_by role word.now bytes.items self.old) }
+    {
+        match role {
+            Role::Field => {
+                self.field = FieldDraft::new(alloc, word.symbol.kind, word.token);
+                Ok(())
+            }
+            Role::FieldEnd => self.end_field(alloc),
+            Role::ExportName | Role::ModuleName | Role::ItemName | Role::Bytes => {
+                self.field.take_string(alloc, role, bytes)
+            }
+            _ => self.field.take_word(role, word),
+        }
+    }
+}
+
+impl<'a> TextDraft<'a> {
+    ghost use Rattle.wc_text.specs.Standard.Texts.{with_field};
+
+    /// The field ends. The error is want of memory.
+    fn end_field(&mut self, alloc: Global) -> Result<(), AllocError>
+        ensures { OnOk result (self.new ≡ with_field self.old) }
+    {
+        let field = replace(
+            &mut self.field,
+            FieldDraft::new(alloc, Kind::OtherWord, 0),
+        );
+        self.fields.push(field.finish()?)?;
+        Ok(())
+    }
 }

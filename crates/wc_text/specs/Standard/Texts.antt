@@ -6,8 +6,8 @@ use Rattle.wc_syntax.specs.declared.role.Role.TheVariants as role
 use Rattle.wc_surface.specs.declared.field.Field.{Field}
 use Rattle.wc_drafts.specs.declared.word.Word.{Word}
 use Rattle.wc_text.specs.declared.text_draft.TextDraft.{TextDraft}
-use Rattle.wc_text.specs.Standard.Fields.{started, take_string, take_word}
-use Rattle.wc_text.specs.Standard.Finished.{finished}
+use Rattle.wc_fields.specs.Standard.Fields.{started, take_string, take_word}
+use Rattle.wc_fields.specs.Standard.Finished.{finished}
 
 -- a kept token: what it is to the value, the token, and what a string stands for (nothing, where it is no string)
 pub record Item : Type 0 where
@@ -19,11 +19,14 @@ pub record Item : Type 0 where
 abbrev pub nothing : TextDraft
 nothing = record { fields = []; field = started OtherWord 0 }
 
+-- the field ends
+abbrev pub with_field : TextDraft → TextDraft
+with_field d = record { fields = d.fields ++ finished d.field ∷ []; field = started OtherWord 0 }
+
 -- a field begins, ends, or has one more part
 abbrev pub take_by : Role → Word → List ℕ → TextDraft → TextDraft
 take_by role.Field w bytes d = record d { field = started w.symbol.kind w.token }
-take_by role.FieldEnd w bytes d =
-    record { fields = d.fields ++ finished d.field ∷ []; field = started OtherWord 0 }
+take_by role.FieldEnd w bytes d = with_field d
 take_by role.ExportName w bytes d = record d { field = take_string d.field role.ExportName bytes }
 take_by role.ModuleName w bytes d = record d { field = take_string d.field role.ModuleName bytes }
 take_by role.ItemName w bytes d = record d { field = take_string d.field role.ItemName bytes }

@@ -1,0 +1,36 @@
+//! Instructions of a field that are being said.
+
+ghost use Rattle.std.specs.Prelude.{◌≡◌, OnOk};
+ghost use Rattle.wc_fields.specs.Standard.Fields.{no_code, take_code};
+
+use std::alloc::{AllocError, Global};
+use wc_drafts::{BodyDraft, Word};
+use wc_syntax::Role;
+
+/// Whether an instruction has begun, and the instructions so far (Core 1.0, 6.5).
+#[derive(Debug, Drop)]
+pub struct CodeDraft<'a> {
+    pub(crate) begun: bool,
+    pub(crate) body: BodyDraft<'a>,
+}
+
+impl<'a> CodeDraft<'a> {
+    /// No instruction so far. It takes no memory.
+    pub(crate) fn new(alloc: Global) -> CodeDraft<'a>
+        ensures { result ≡ no_code }
+    {
+        CodeDraft {
+            begun: false,
+            body: BodyDraft::new(alloc),
+        }
+    }
+
+    /// One more kept token of an instruction. The error is want of memory.
+    #[inline(always)]
+    pub(crate) fn take(&mut self, role: Role, word: &Word<'a>) -> Result<(), AllocError>
+        ensures { OnOk result (self.new ≡ take_code self.old role word.now) }
+    {
+        self.begun = true;
+        self.body.take(role, word)
+    }
+}

@@ -1,0 +1,13 @@
+//! What one field of a text says, kept token by kept token (Core 1.0, 6.6.2 to 6.6.12).
+#![tactic(auto)]
+
+mod code_draft;
+mod contents;
+mod field_draft;
+mod finish;
+mod locals_draft;
+mod name;
+mod names;
+mod parts;
+
+pub use field_draft::FieldDraft;

@@ -1,0 +1,9 @@
+-- A refusal of the grammar as a fault of the text.
+use Rattle.wc_syntax.specs.declared.refusal.Refusal.{Refusal}
+use Rattle.wc_syntax.specs.declared.refusal.Refusal.TheVariants as refusal
+use Rattle.wc_text.specs.declared.fault.SynFault.{SynFault}
+use Rattle.wc_text.specs.declared.fault.SynFault.TheVariants.{Bad, Memory}
+
+abbrev pub of_refusal : Refusal → SynFault
+of_refusal (refusal.Bad token why) = Bad token why
+of_refusal refusal.Memory = Memory
