@@ -1,5 +1,5 @@
 -- The field that was said (Core 1.0, 6.6.2 to 6.6.13).
-use Rattle.std.specs.Prelude.{ℕ, List, Bool, true, false, Option, Some, None}
+use Rattle.std.specs.Prelude.{ℕ, Bool, true, false, Option, Some, None}
 use Rattle.wc_ast.specs.declared.limits.Limits.{Limits}
 use Rattle.wc_ast.specs.declared.limits.GlobalType.{GlobalType}
 use Rattle.wc_ast.specs.declared.export.ExportKind.{ExportKind}
