@@ -18,10 +18,10 @@ use Rattle.wc_canon.specs.declared.fault.Refusal.{Refusal}
 use Rattle.wc_canon.specs.declared.fault.Refusal.TheVariants.{Binary, Check, Oversize, Memory as NoMemory}
 use Rattle.wc_canon.specs.declared.fault.RunFault.{RunFault}
 use Rattle.wc_canon.specs.Inner.Faults.{decoding_fault, checking_refusal, encoding_refusal, refusing_fault}
-use Rattle.wc_canon.specs.Input.{KeepsRules, BreaksFirst, Means, HasAnswer, HasFault, IsRefused}
-use Rattle.wc_canon.specs.Run.{IsAnswerOf, RefusesNear}
-use Rattle.wc_canon.specs.Inner.Steps.{IsModuleFault, Judges}
-use Rattle.wc_canon.proofs.Laws.{has-answer, has-binary-fault, has-broken-rule, answer-canonical}
+use Rattle.wc_canon.specs.Input.{KeepsRules, BreaksFirst, IsAccepted, Means, HasAnswer, HasFault, IsRefused}
+use Rattle.wc_canon.specs.Run.{IsAnswerOf, Judges, RefusesNear}
+use Rattle.wc_canon.specs.Inner.Steps.{IsModuleFault}
+use Rattle.wc_canon.proofs.Laws.{accepted, has-answer, spelled-answered, has-binary-fault, has-broken-rule, answer-canonical}
 use Rattle.wc_canon.proofs.Laws.{meant-or-fault, never-both, one-fault}
 
 -- what holds of the one error holds of the error
@@ -101,42 +101,47 @@ none-longer bytes (Err f) x m p h = tt
 
 -- ---- between a reader and a writer
 
-fault-judged : {V : Type 0} (bytes : V → List ℕ) (a : Option (List ℕ)) (e : BinFault) → IfSome a (λ x. Decodes x (Err e))
-    → Judges bytes a (Err (decoding_fault e))
-fault-judged bytes None (Bad at why) p = tt
-fault-judged bytes (Some x) (Bad at why) p = has-binary-fault x at why p
-fault-judged bytes a (Unread at) p = tt
-fault-judged bytes a NoMemoryToDecode p = tt
+fault-judged : {V : Type 0} (P : V → Type 0) (a : Option (List ℕ)) (e : BinFault) → IfSome a (λ x. Decodes x (Err e))
+    → Judges a P (Err (decoding_fault e))
+fault-judged P None (Bad at why) p = tt
+fault-judged P (Some x) (Bad at why) p = has-binary-fault x at why p
+fault-judged P a (Unread at) p = tt
+fault-judged P a NoMemoryToDecode p = tt
 
 -- the bytes weren't decoded
-pub not-decoded : {V : Type 0} (bytes : V → List ℕ) (a : Option (List ℕ)) (e : BinFault) (r : Result V RunFault)
-    → IfSome a (λ x. Decodes x (Err e)) → IsErrAnd r (λ f. f ≡ decoding_fault e) → Judges bytes a r
-not-decoded bytes a e (Ok v) p h = absurd h
-not-decoded bytes a e (Err f) p h =
-    let P : RunFault → Type 0 = λ g. Judges bytes a (Err g) in subst P (sym h) (fault-judged bytes a e p)
+pub not-decoded : {V : Type 0} (P : V → Type 0) (a : Option (List ℕ)) (e : BinFault) (r : Result V RunFault)
+    → IfSome a (λ x. Decodes x (Err e)) → IsErrAnd r (λ f. f ≡ decoding_fault e) → Judges a P r
+not-decoded P a e (Ok v) p h = absurd h
+not-decoded P a e (Err f) p h =
+    let Q : RunFault → Type 0 = λ g. Judges a P (Err g) in subst Q (sym h) (fault-judged P a e p)
 
-refusal-judged : {V : Type 0} (bytes : V → List ℕ) (a : Option (List ℕ)) (m : Module) (f : Refusal)
-    → IfSome a (λ x. Bin x m) → IsModuleFault m f → Judges bytes a (Err (refusing_fault f))
-refusal-judged bytes a m (Binary at why) p q = absurd q
-refusal-judged bytes None m (Check item why) p q = tt
-refusal-judged bytes (Some x) m (Check item why) p q = has-broken-rule x m item why p q
-refusal-judged bytes None m Oversize p q = tt
-refusal-judged bytes (Some x) m Oversize p q = absurd (q x p)
-refusal-judged bytes a m NoMemory p q = tt
+refusal-judged : {V : Type 0} (P : V → Type 0) (a : Option (List ℕ)) (m : Module) (f : Refusal)
+    → IfSome a (λ x. Bin x m) → IsModuleFault m f → Judges a P (Err (refusing_fault f))
+refusal-judged P a m (Binary at why) p q = absurd q
+refusal-judged P None m (Check item why) p q = tt
+refusal-judged P (Some x) m (Check item why) p q = has-broken-rule x m item why p q
+refusal-judged P None m Oversize p q = tt
+refusal-judged P (Some x) m Oversize p q = absurd (q x p)
+refusal-judged P a m NoMemory p q = tt
 
 -- they were decoded, and the module is refused
-pub not-answered : {V : Type 0} (bytes : V → List ℕ) (a : Option (List ℕ)) (m : Module) (f : Refusal)
+pub not-answered : {V : Type 0} (P : V → Type 0) (a : Option (List ℕ)) (m : Module) (f : Refusal)
     (r : Result V RunFault) → IfSome a (λ x. Bin x m) → IsModuleFault m f → IsErrAnd r (λ g. g ≡ refusing_fault f)
-    → Judges bytes a r
-not-answered bytes a m f (Ok v) p q h = absurd h
-not-answered bytes a m f (Err g) p q h =
-    let P : RunFault → Type 0 = λ g. Judges bytes a (Err g) in subst P (sym h) (refusal-judged bytes a m f p q)
+    → Judges a P r
+not-answered P a m f (Ok v) p q h = absurd h
+not-answered P a m f (Err g) p q h =
+    let Q : RunFault → Type 0 = λ g. Judges a P (Err g) in subst Q (sym h) (refusal-judged P a m f p q)
 
 -- they were decoded, and the module was encoded: where they aren't known, its canonical bytes are their own answer
 pub answered : (a : Option (List ℕ)) (m : Module) (b : List ℕ) → IfSome a (λ x. Bin x m) → KeepsRules m → Canon b m
     → IsAnswerOf a b
 answered None m b p k q = (b, has-answer b b m (canon-bin b m q) k q)
 answered (Some x) m b p k q = has-answer x b m p k q
+
+-- they were decoded, and the module breaks no rule
+pub accepts : (a : Option (List ℕ)) (m : Module) → IfSome a (λ x. Bin x m) → KeepsRules m → IfSome a IsAccepted
+accepts None m p k = tt
+accepts (Some x) m p k = let c = spelled-answered x m p k in accepted x c.0 c.1
 
 -- ---- how far a refused input was read
 

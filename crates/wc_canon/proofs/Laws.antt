@@ -121,7 +121,7 @@ one-answer x b c a d = one-canonical b c d.0 (answer-canonical x b d.0 d.1 a) d.
 
 -- ---- one fault
 
-accepted : (x b : List ℕ) → HasAnswer x b → IsAccepted x
+pub accepted : (x b : List ℕ) → HasAnswer x b → IsAccepted x
 unfolding HasAnswer
 accepted x b a = (a.0, a.1)
 

@@ -25,6 +25,14 @@ abbrev pub IsAnswerOf : Option (List ℕ) → List ℕ → Type 0
 IsAnswerOf None b = (x : List ℕ) × HasAnswer x b
 IsAnswerOf (Some x) b = HasAnswer x b
 
+-- what holds of the value that is answered to the input; or f is its fault, where its bytes are known
+abbrev pub Judges : {V : Type 0} → Option (List ℕ) → (V → Type 0) → Result V RunFault → Type 0
+Judges input P (Ok v) = P v
+Judges input P (Err (Refused f)) = IfSome input (λ x. HasFault x f)
+Judges input P (Err (Read at)) = ⊤
+Judges input P (Err (Write written)) = ⊤
+Judges input P (Err Memory) = ⊤
+
 -- the whole answer to the input went out, n bytes; or f is its fault, where its bytes are known; or exactly the first n
 -- bytes of the answer went out
 abbrev pub Answers : Option (List ℕ) → Option (List ℕ) → Option (List ℕ) → Result ℕ RunFault → Type 0

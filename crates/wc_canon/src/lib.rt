@@ -9,6 +9,7 @@ mod fault;
 mod fixed;
 mod law;
 mod normalising;
+mod reading;
 mod rendering;
 mod running;
 mod spelled;
@@ -22,5 +23,6 @@ pub use law::{
     one_fault, one_meaning, same_bytes_same_module,
 };
 pub use normalising::normalise;
+pub use reading::{accept_from, normalise_from};
 pub use rendering::render;
 pub use running::{Job, run};

@@ -3,72 +3,20 @@
 ghost use Rattle.std.specs.Prelude.{ℕ, ◌≡◌, ◌≤◌, length, take, IfOk, IfErr, IfSome, IsErrOf, OnOk, Some, false};
 ghost use Rattle.std.specs.Io.KnownBytes.{Appends, IsAtEnd};
 ghost use Rattle.wc_device.specs.Device.{device_inner, failed_at, has_failed, has_ended, was_asked_again, read_count};
-ghost use Rattle.wc_binary.specs.Standard.Decoding.{Decodes, DecodesNear, DecodesCut, is_read_fault as is_unread};
 ghost use Rattle.wc_canon.specs.declared.fault.Refusal.TheVariants as refusals;
 ghost use Rattle.wc_canon.specs.Run.{Answers, RefusesNear, ReadsCut, IsQuiet, is_read_fault, is_write_fault};
-ghost use Rattle.wc_canon.specs.Inner.Steps.{Judges};
 
-use crate::canonical::canonical_bytes;
 use crate::fault::RunFault;
+use crate::reading::normalise_from;
 use std::alloc::Global;
 use std::io::{Read, Write};
-use wc_ast::Module;
-use wc_binary::{BinFault, decode, decode_from};
 use wc_device::Device;
-
-/// How many bytes the first read is offered.
-const FRONT: usize = 4096;
 
 /// What a run writes for an input that is accepted.
 #[derive(Clone, Copy, Debug, PartialEq, Eq)]
 pub enum Job {
     /// The canonical bytes.
     Binary,
-}
-
-/// The module that the reader's bytes spell, to the reader's end, or else their first fault.
-fn read_module<R: Read>(alloc: Global, r: &mut Device<R>) -> Result<Module, BinFault>
-    requires well { has_failed r.old ≡ false }
-    requires unread { read_count r.old ≡ 0 }
-    ensures decodes { IfSome (R.remaining (device_inner r.old)) (λ x. Decodes x result) }
-    ensures near { IfSome (R.remaining (device_inner r.old)) (λ x. DecodesNear (read_count r.new) x result) }
-    ensures read { is_unread result ≡ has_failed r.new }
-    ensures read_at { IfErr result (λ e. (at : ℕ) → e ≡ BinFault.Read at → at ≡ read_count r.new) }
-    ensures first_failure { IfErr result (λ e. (at : ℕ) → e ≡ BinFault.Read at → failed_at r.new ≡ Some at) }
-    ensures again { has_ended r.old ≡ false → was_asked_again r.new ≡ was_asked_again r.old }
-    ensures cut { IsAtEnd (R.remaining (device_inner r.new)) → IfSome (R.remaining (device_inner r.old))
-        (λ x. DecodesCut x result) }
-{
-    let mut buffer = [0u8; FRONT];
-    let given = match r.read(&mut buffer) {
-        Ok(n) => n,
-        Err(_) => return Err(BinFault::Read { at: r.count() }),
-    };
-    let front = &buffer[..given];
-    if front.is_empty() {
-        decode(alloc, front)
-    } else {
-        decode_from(alloc, front, r)
-    }
-}
-
-/// The answer to the reader's bytes.
-fn answer<R: Read>(alloc: Global, r: &mut Device<R>) -> Result<Vec<u8>, RunFault>
-    requires well { has_failed r.old ≡ false }
-    requires unread { read_count r.old ≡ 0 }
-    ensures judges { Judges (λ v. v.items) (R.remaining (device_inner r.old)) result }
-    ensures near { IfErr result (λ e. IfSome (R.remaining (device_inner r.old)) (RefusesNear (read_count r.new) e)) }
-    ensures read { is_read_fault result ≡ has_failed r.new }
-    ensures read_at { IfErr result (λ e. (at : ℕ) → e ≡ RunFault.Read at → at ≡ read_count r.new) }
-    ensures first_failure { IfErr result (λ e. (at : ℕ) → e ≡ RunFault.Read at → failed_at r.new ≡ Some at) }
-    ensures again { has_ended r.old ≡ false → was_asked_again r.new ≡ was_asked_again r.old }
-    ensures cut { IsAtEnd (R.remaining (device_inner r.new)) → IfErr result
-        (λ e. IfSome (R.remaining (device_inner r.old)) (ReadsCut e)) }
-    ensures unwritten { is_write_fault result ≡ false }
-    ensures memory { ¬ (IsErrOf result (RunFault.Refused refusals.Memory)) }
-{
-    let module = read_module(alloc, r)?;
-    Ok(canonical_bytes(alloc, &module)?)
 }
 
 /// Writes all the bytes, and flushes once.
@@ -126,7 +74,7 @@ pub fn run<R: Read, W: Write>(
     ensures near { IfErr result (λ e. IfSome (R.remaining (device_inner r.old)) (RefusesNear (read_count r.new) e)) }
 {
     let bytes = match job {
-        Job::Binary => answer(alloc, r)?,
+        Job::Binary => normalise_from(alloc, r)?,
     };
     send(w, &bytes)
 }

@@ -1,14 +1,14 @@
 use Rattle.wc_canon.proofs.Judged.{not-decoded, not-answered, answered, near-decoded, near-refused}
 use Rattle.wc_canon.proofs.FailedReads.{cut-decoded, cut-refused, fails-at, refused-fails-at}
-use Rattle.wc_canon.proofs.running.answer.Goals as goal
+use Rattle.wc_canon.proofs.reading.normalise_from.Goals as goal
 
 pub returns-in_err-module-clause-judges : goal.returns-in_err-module-clause-judges
 returns-in_err-module-clause-judges g c =
-    not-decoded (λ v. v.items) _ _ _ c.in_err-module.ensures.decodes c.from_residual.ensures.1
+    not-decoded _ _ _ _ c.in_err-module.ensures.decodes c.from_residual.ensures.1
 
 pub returns-in_err-canonical_bytes-clause-judges : goal.returns-in_err-canonical_bytes-clause-judges
 returns-in_err-canonical_bytes-clause-judges g c =
-    not-answered (λ v. v.items) _ _ _ _ c.in_ok-module.ensures.decodes c.in_err-canonical_bytes.ensures.err
+    not-answered _ _ _ _ _ c.in_ok-module.ensures.decodes c.in_err-canonical_bytes.ensures.err
     c.from_residual-in_err-canonical_bytes.ensures.1
 
 pub returns-clause-judges : goal.returns-clause-judges

@@ -1,6 +1,6 @@
 use Rattle.std.proofs.Common.{◌≡◌, ◌∙◌}
 use Rattle.wc_canon.proofs.FailedReads.{first-cut}
-use Rattle.wc_canon.proofs.running.read_module.Goals as goal
+use Rattle.wc_canon.proofs.reading.read_module.Goals as goal
 
 pub returns-in-Err-clause-cut : goal.returns-in-Err-clause-cut
 returns-in-Err-clause-cut g c over =
