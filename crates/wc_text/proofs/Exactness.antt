@@ -17,9 +17,11 @@ use Rattle.wc_words.proofs.RangeLemmas.{TokenIs-same}
 use Rattle.wc_drafts.specs.declared.word.Word.{Word}
 use Rattle.wc_drafts.specs.Standard.Tokens.{kept_token}
 use Rattle.wc_surface.specs.declared.field.Field.{Field}
+use Rattle.wc_text.specs.declared.fault.SynFault.{SynFault}
+use Rattle.wc_text.specs.declared.fault.SynFault.TheVariants.{Bad, Memory}
 use Rattle.wc_text.specs.Standard.Texts.{Item, said}
 use Rattle.wc_text.specs.Standard.Meaning.{Each, none, more, HasKind, StandsFor, IsItem, Syn}
-use Rattle.wc_text.specs.Standard.Faults.{FirstFault}
+use Rattle.wc_text.specs.Standard.Faults.{FirstFault, IsFault}
 use Rattle.wc_text.proofs.Pairs.{each-same}
 use Rattle.wc_text.proofs.Forms.{some-kinds}
 use Rattle.wc_text.proofs.Strings.{stands-same, some-meaning}
@@ -111,3 +113,28 @@ always-one ts o =
         inl (said is.0, record { kinds = ks.0; are_kinds = ks.1; es = es; text = h; items = is.0; are_items = is.1; says = refl })
       | inr (p, y, f) ↦ inr (p, y, record { kinds = ks.0; are_kinds = ks.1; first = f })
     ]
+
+-- ---- so what is answered is all that could be
+
+abbrev pub Answers : List Lexeme → Result (List Field) SynFault → Type 0
+Answers ts result = MatchResult result (λ fields. Syn ts fields) (λ f. IsFault ts f)
+
+pub answers-fields : (ts : List Lexeme) (result : Result (List Field) SynFault) → Answers ts result → IfOk result (λ fields. Syn ts fields)
+answers-fields ts (Ok fields) a = a
+answers-fields ts (Err f) a = tt
+
+pub answers-fault : (ts : List Lexeme) (result : Result (List Field) SynFault) → Answers ts result → IfErr result (λ f. IsFault ts f)
+answers-fault ts (Ok fields) a = tt
+answers-fault ts (Err f) a = a
+
+pub only-fields : (ts : List Lexeme) (result : Result (List Field) SynFault) → Answers ts result
+    → (fields : List Field) → Syn ts fields → MatchResult result (λ found. found ≡ fields) (λ f. f ≡ Memory)
+only-fields ts (Ok found) a fields w = one-list ts found fields a w
+only-fields ts (Err Memory) a fields w = refl
+only-fields ts (Err (Bad p y)) a fields w = absurd (not-both ts fields p y w a)
+
+pub only-fault : (ts : List Lexeme) (result : Result (List Field) SynFault) → Answers ts result
+    → (p : ℕ) (y : SynWhy) → FirstFault ts p y → IsErrAnd result (λ f. (f ≡ Bad p y) ⊎ (f ≡ Memory))
+only-fault ts (Ok found) a p y w = absurd (not-both ts found p y a w)
+only-fault ts (Err Memory) a p y w = inr refl
+only-fault ts (Err (Bad q z)) a p y w = let e = one-fault ts q p z y a w in inl (cc (e.0, e.1))

@@ -2,6 +2,7 @@
 use Rattle.std.proofs.Common.{◌≡◌, ◌≢◌, ℕ, zero, suc, ◌+◌, ◌<◌, ◌≤◌, List, [], ◌∷◌, ◌++◌, length, drop, get_or, refl, sym, ap}
 use Rattle.std.proofs.Common.{arith, drop-cons, subst}
 use Rattle.std.specs.Prelude.{sum_by}
+use Rattle.std.proofs.lemmas.List.{length-map}
 use Rattle.std.proofs.lemmas.List.Sums.{sum_by-cons}
 use Rattle.wc_tokens.specs.declared.token.Token.{Token}
 use Rattle.wc_tokens.specs.declared.token.TokenKind.{TokenKind}
@@ -57,3 +58,10 @@ pub lexemes-at : (ts : List Token) (i : ℕ) (d : Token) → i < length ts
 lexemes-at [] i d l = absurd (omega arith)
 lexemes-at (t ∷ ts) zero d l = refl
 lexemes-at (t ∷ ts) (suc i) d l = lexemes-at ts i d (omega arith)
+
+-- a token's number fits 32 bits
+pub few-at : (ts : List Token) (i : ℕ) → InOrder 0 (lexemes_of ts) → i < length ts → i < 4294967296
+few-at ts i o l = omega (arith, few (lexemes_of ts) o, length-map ts lexeme_of)
+
+pub all-lexemes : (ts : List Token) (i : ℕ) → i ≤ length ts → length ts ≤ i → i ≡ length (lexemes_of ts)
+all-lexemes ts i l m = omega (arith, length-map ts lexeme_of)

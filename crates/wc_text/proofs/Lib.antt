@@ -6,3 +6,4 @@ pub mod Kept
 pub mod Said
 pub mod Exactness
 pub mod Sizes
+pub mod Few
