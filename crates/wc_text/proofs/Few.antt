@@ -53,8 +53,8 @@ all-below f [] h = All-nil _
 all-below f (x ∷ xs) h =
     All-cons _ x xs (omega (arith, sum_by-cons f x xs)) (all-below f xs (omega (arith, sum_by-cons f x xs)))
 
-pub few-fields : (ts : List Lexeme) (fields : List Field) → InOrder 0 ts → Syn ts fields → IsSurface fields
-few-fields ts fields o v =
+pub fewer-than-bytes : (ts : List Lexeme) (fields : List Field) → InOrder 0 ts → Syn ts fields → IsSurface fields
+fewer-than-bytes ts fields o v =
     let short = fields-short ts fields o v in
     record {
       sized = omega (arith, short, sum_by-le-sum_by field_size whole_size fields (λ f. omega arith));

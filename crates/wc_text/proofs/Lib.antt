@@ -4,6 +4,6 @@ pub mod Strings
 pub mod Weights
 pub mod Kept
 pub mod Said
-pub mod Exactness
 pub mod Sizes
 pub mod Few
+pub mod Answering

@@ -16,7 +16,8 @@ use Rattle.wc_ast.specs.declared.export.ExportKind.TheVariants as export
 use Rattle.wc_ast.specs.declared.limits.Limits.{Limits}
 use Rattle.wc_surface.specs.declared.field.Field.{Field}
 use Rattle.wc_surface.specs.declared.field.ImportNames.{ImportNames}
-use Rattle.wc_surface.specs.Standard.Sizes.{field_size, inline_size, func_size, global_size, table_inline, memory_inline}
+use Rattle.wc_surface.specs.Standard.Sizes.{field_size, inline_size, import_size, func_size, global_size, table_inline, memory_inline}
+use Rattle.wc_surface.specs.Standard.WrittenLocals.{local}
 use Rattle.wc_drafts.specs.declared.word.Word.{Word}
 use Rattle.wc_drafts.specs.Standard.Sizes.{said_size}
 use Rattle.wc_drafts.specs.Standard.Words.{index_of}
@@ -113,7 +114,7 @@ use-size true d r w = omega (arith, take-size d.code.body r w)
 use-size false d r w = omega (arith, take_use-size d.ty r w)
 
 local-size : (v : Value) (token : ℕ) (l : LocalsDraft) → length (with_local v token l).locals ≤ length l.locals + 1
-local-size (ValType t) token l = omega (arith, length-append l.locals (_ ∷ []))
+local-size (ValType t) token l = omega (arith, length-append l.locals (local l.id t token ∷ []))
 local-size _ token l = omega arith
 
 part-size : (d : FieldDraft) (r : Role) (w : Word) → draft_size (take_part d r w) ≤ draft_size d + 1

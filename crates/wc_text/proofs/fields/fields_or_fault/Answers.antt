@@ -8,7 +8,7 @@ use Rattle.wc_words.proofs.Forms.{form-at}
 use Rattle.wc_text.specs.Standard.Faults.{FirstFault, IsFault}
 use Rattle.wc_text.proofs.Forms.{few-at, lexemes-at, all-lexemes}
 use Rattle.wc_text.proofs.Said.{said-first, said-whole, said-unended}
-use Rattle.wc_text.proofs.Few.{few-fields}
+use Rattle.wc_text.proofs.Answering.{few-fields}
 use Rattle.wc_text.proofs.fields.fields_or_fault.Goals as goal
 
 pub loop-at-init : goal.loop-at-init

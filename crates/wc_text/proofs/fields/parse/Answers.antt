@@ -1,4 +1,4 @@
-use Rattle.wc_text.proofs.Exactness.{answers-fields, answers-fault, only-fields, only-fault}
+use Rattle.wc_text.proofs.Answering.{answers-fields, answers-fault, only-fields, only-fault}
 use Rattle.wc_text.proofs.fields.parse.Goals as goal
 
 pub returns-clause-ok : goal.returns-clause-ok

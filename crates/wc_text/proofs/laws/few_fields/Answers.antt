@@ -1,4 +1,4 @@
-use Rattle.wc_text.proofs.Few.{few-fields}
+use Rattle.wc_text.proofs.Answering.{few-fields}
 use Rattle.wc_text.proofs.laws.few_fields.Goals as goal
 
 pub returns : goal.returns

@@ -1,5 +1,5 @@
-use Rattle.wc_text.proofs.Exactness.{not-both}
+use Rattle.wc_text.proofs.Answering.{never-both}
 use Rattle.wc_text.proofs.laws.never_both.Goals as goal
 
 pub returns : goal.returns
-returns c = not-both
+returns c = never-both

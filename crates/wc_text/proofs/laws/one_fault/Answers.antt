@@ -1,4 +1,4 @@
-use Rattle.wc_text.proofs.Exactness.{one-fault}
+use Rattle.wc_text.proofs.Answering.{one-fault}
 use Rattle.wc_text.proofs.laws.one_fault.Goals as goal
 
 pub returns : goal.returns

@@ -1,4 +1,4 @@
-use Rattle.wc_text.proofs.Exactness.{one-list}
+use Rattle.wc_text.proofs.Answering.{one-list}
 use Rattle.wc_text.proofs.laws.one_list.Goals as goal
 
 pub returns : goal.returns

@@ -17,6 +17,7 @@ use Rattle.wc_words.proofs.RangeLemmas.{TokenIs-same}
 use Rattle.wc_drafts.specs.declared.word.Word.{Word}
 use Rattle.wc_drafts.specs.Standard.Tokens.{kept_token}
 use Rattle.wc_surface.specs.declared.field.Field.{Field}
+use Rattle.wc_surface.specs.Standard.Sizes.{IsSurface}
 use Rattle.wc_text.specs.declared.fault.SynFault.{SynFault}
 use Rattle.wc_text.specs.declared.fault.SynFault.TheVariants.{Bad, Memory}
 use Rattle.wc_text.specs.Standard.Texts.{Item, said}
@@ -26,6 +27,7 @@ use Rattle.wc_text.proofs.Pairs.{each-same}
 use Rattle.wc_text.proofs.Forms.{some-kinds}
 use Rattle.wc_text.proofs.Strings.{stands-same, some-meaning}
 use Rattle.wc_text.proofs.Weights.{item_of, kept-have}
+use Rattle.wc_text.proofs.Few.{fewer-than-bytes}
 use Rattle.wc_text.proofs.Kept.{Stands, IsThere, all-there}
 
 -- ---- each token is one kind, and each kept one says one thing
@@ -67,8 +69,8 @@ one-list ts fs gs v w =
     let items : v.items ≡ w.items = each-same (one-item ts) v.are_items (subst (λ (es : List Event). Each (IsItem ts) es w.items) (sym es) w.are_items) in
     v.says ∙ ap said items ∙ sym w.says
 
-pub not-both : (ts : List Lexeme) (fs : List Field) (p : ℕ) (y : SynWhy) → Syn ts fs → FirstFault ts p y → ⊥
-not-both ts fs p y v w =
+pub never-both : (ts : List Lexeme) (fs : List Field) (p : ℕ) (y : SynWhy) → Syn ts fs → FirstFault ts p y → ⊥
+never-both ts fs p y v w =
     let kinds : v.kinds ≡ w.kinds = one-kinds v.are_kinds w.are_kinds in
     kinds-not-both nesting_limit w.kinds v.es p y (subst (λ (ks : List Kind). IsText nesting_limit ks v.es) kinds v.text) w.first
 
@@ -114,6 +116,10 @@ always-one ts o =
       | inr (p, y, f) ↦ inr (p, y, record { kinds = ks.0; are_kinds = ks.1; first = f })
     ]
 
+-- each thing that is said has a token of its own
+pub few-fields : (ts : List Lexeme) (fields : List Field) → InOrder 0 ts → Syn ts fields → IsSurface fields
+few-fields = fewer-than-bytes
+
 -- ---- so what is answered is all that could be
 
 abbrev pub Answers : List Lexeme → Result (List Field) SynFault → Type 0
@@ -131,10 +137,10 @@ pub only-fields : (ts : List Lexeme) (result : Result (List Field) SynFault) →
     → (fields : List Field) → Syn ts fields → MatchResult result (λ found. found ≡ fields) (λ f. f ≡ Memory)
 only-fields ts (Ok found) a fields w = one-list ts found fields a w
 only-fields ts (Err Memory) a fields w = refl
-only-fields ts (Err (Bad p y)) a fields w = absurd (not-both ts fields p y w a)
+only-fields ts (Err (Bad p y)) a fields w = absurd (never-both ts fields p y w a)
 
 pub only-fault : (ts : List Lexeme) (result : Result (List Field) SynFault) → Answers ts result
     → (p : ℕ) (y : SynWhy) → FirstFault ts p y → IsErrAnd result (λ f. (f ≡ Bad p y) ⊎ (f ≡ Memory))
-only-fault ts (Ok found) a p y w = absurd (not-both ts found p y a w)
+only-fault ts (Ok found) a p y w = absurd (never-both ts found p y a w)
 only-fault ts (Err Memory) a p y w = inr refl
 only-fault ts (Err (Bad q z)) a p y w = let e = one-fault ts q p z y a w in inl (cc (e.0, e.1))
