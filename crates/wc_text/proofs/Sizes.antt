@@ -53,7 +53,7 @@ part_size d = length d.ty.params + length d.locals.locals + said_size d.code.bod
 abbrev draft_size : FieldDraft → ℕ
 draft_size d = head_size d.kind + part_size d
 
-abbrev whole_size : Field → ℕ
+abbrev pub whole_size : Field → ℕ
 whole_size f = field_size f + inline_size f
 
 -- what a text says so far
