@@ -65,7 +65,7 @@ impl<'a> TextDraft<'a> {
             &mut self.field,
             FieldDraft::new(alloc, Kind::OtherWord, 0),
         );
-        self.fields.push(field.finish()?)?;
+        self.fields.push(field.finish(alloc)?)?;
         Ok(())
     }
 }
