@@ -1,4 +1,4 @@
-use Rattle.std.proofs.Common.{◌+◌, length, sym, subst, arith, List}
+use Rattle.std.proofs.Common.{List, sym, subst, ◌∙◌, arith}
 use Rattle.std.proofs.lemmas.Result.{err_from_is_err_and}
 use Rattle.wc_tokens.specs.Standard.Lexemes.{Lexeme}
 use Rattle.wc_tokens.specs.Standard.Tokens.{InOrder, lexemes_of}
@@ -49,7 +49,7 @@ new-requires c =
     let w = c.loop-at.invariant.said in
     let o : InOrder 0 (lexemes_of all) = rw c.as_slice-all.ensures.tokens c.as_slice-all.ensures.in_order in
     let e = all-lexemes all c.loop-at.at c.loop-at.invariant.within c.loop-at-test.false in
-    few-fields (lexemes_of all) _ o (said-whole w e (c.is_text.ensures.text nesting_limit w.kinds w.es w.read c.if-is_text.true))
+    rw c.into_fields.ensures (few-fields (lexemes_of all) _ o (said-whole w e (c.is_text.ensures.text nesting_limit w.kinds w.es w.read c.if-is_text.true)))
 
 pub returns : goal.returns
 returns c =
@@ -66,4 +66,4 @@ returns-then-is_text c =
     let e = all-lexemes all c.loop-at.at c.loop-at.invariant.within c.loop-at-test.false in
     let said = said-whole w e (c.is_text.ensures.text nesting_limit w.kinds w.es w.read c.if-is_text.true) in
     subst (λ (ts : List Lexeme). Syn ts c.new.result) c.as_slice-all.ensures.tokens
-    (subst (λ (fields : List Field). Syn (lexemes_of all) fields) (sym c.new.ensures) said)
+    (subst (λ (fields : List Field). Syn (lexemes_of all) fields) (sym (c.new.ensures ∙ c.into_fields.ensures)) said)
