@@ -5,7 +5,7 @@ use Rattle.wc_cli.specs.declared.command_line.Ask.TheVariants.{Check, Canonical,
 use Rattle.wc_cli.specs.declared.telling.Answer.{Answer}
 use Rattle.wc_cli.specs.declared.failure.Failure.{Failure}
 use Rattle.wc_cli.specs.declared.failure.Failure.TheVariants.{Refused, CannotRead, CannotWrite, NotText}
-use Rattle.wc_cli.specs.declared.failure.Failure.TheVariants.{NoSubcommand, OutOfMemory}
+use Rattle.wc_cli.specs.declared.failure.Failure.TheVariants.{NoSubcommand, Terminal, OutOfMemory}
 use Rattle.wc_canon.specs.declared.fault.Refusal.{Refusal}
 use Rattle.wc_canon.specs.Input.{HasFault}
 use Rattle.wc_cli.specs.Telling.{AnswersAsk}
@@ -37,4 +37,5 @@ found ask path named x u unread (Err (CannotRead q)) e n p = absurd p
 found ask path named x u unread (Err (CannotWrite q)) e n p = absurd p
 found ask path named x u unread (Err NotText) e n p = absurd p
 found ask path named x u unread (Err NoSubcommand) e n p = absurd p
+found ask path named x u unread (Err Terminal) e n p = absurd p
 found ask path named x u unread (Err OutOfMemory) e n p = tt

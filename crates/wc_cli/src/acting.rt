@@ -38,10 +38,7 @@ fn make<'a, R: Read, W: Write>(
     };
     match run(alloc, job, r, w) {
         Ok(_) => Ok(DONE),
-        Err(RunFault::Refused(refusal)) => Err(Failure::Refused { path, refusal }),
-        Err(RunFault::Read { .. }) => Err(Failure::CannotRead { path }),
-        Err(RunFault::Write { .. }) => Err(Failure::CannotWrite { path: output }),
-        Err(RunFault::Memory) => Err(Failure::OutOfMemory),
+        Err(fault) => Err(ended(path, output, fault)),
     }
 }
 
