@@ -9,12 +9,12 @@ ghost use Rattle.wc_cli.specs.Status.{TellsLine};
 ghost use Rattle.wc_cli.specs.Inner.Reading.{Says, ComparesInputs};
 
 use crate::command_line::{Ask, Line};
-use crate::failure::{DONE, Failure, REFUSED, refused, report};
+use crate::failure::{DONE, Failure, REFUSED, ended, refused, report};
 use crate::reading::{is_new, read_input};
 use crate::telling::find;
 use std::alloc::Global;
 use std::io::{Read, Write};
-use wc_canon::{Comparison, Job, RunFault, Side, compare, run};
+use wc_canon::{Comparison, Job, Side, compare, run};
 use wc_device::Device;
 
 /// Writes the answer to an input.

@@ -24,7 +24,7 @@ pub(crate) fn is_new<R: Read>(input: &Option<Device<R>>) -> bool
 }
 
 /// The reader's bytes to its end. An error of the reader of any kind ends it.
-fn read_all<'a, R: Read>(
+pub(crate) fn read_all<'a, R: Read>(
     alloc: Global,
     path: &'a str,
     r: &mut Device<R>,
