@@ -6,9 +6,9 @@ ghost use Rattle.wc_device.specs.Device.{device_inner, failed_at, has_failed, ha
 ghost use Rattle.wc_canon.specs.declared.fault.Refusal.TheVariants as refusals;
 ghost use Rattle.wc_canon.specs.Run.{RefusesNear, ReadsCut, is_read_fault};
 ghost use Rattle.wc_canon.specs.Comparing.{ComparesFrom, OfSide, is_read_fault_of};
-ghost use Rattle.wc_canon.specs.Inner.Sides.{IsJudgedFrom, IsUnjudged, ComparesBytes};
+ghost use Rattle.wc_canon.specs.Inner.Sides.{IsJudgedFrom, IsUnjudged};
 
-use crate::comparing::{Comparison, Side};
+use crate::comparing::{Comparison, Side, tell_apart};
 use crate::fault::{Refusal, RunFault};
 use crate::reading::normalise_from;
 use std::alloc::Global;
@@ -37,17 +37,6 @@ fn judge_from<R: Read>(
         Ok(bytes) => Ok(Ok(bytes)),
         Err(RunFault::Refused(refusal)) => Ok(Err(refusal)),
         Err(fault) => Err(fault),
-    }
-}
-
-/// Whether the canonical bytes are the same.
-fn tell_apart(first: &[u8], second: &[u8]) -> Comparison
-    ensures { ComparesBytes first.now second.now result }
-{
-    if first == second {
-        Comparison::Same
-    } else {
-        Comparison::Different
     }
 }
 
