@@ -2,6 +2,8 @@
 use Rattle.std.proofs.Common.{◌≡◌, ℕ, List, Bool, true, false, Option, Some, None, OnOk, OnErr}
 use Rattle.std.proofs.Common.{Result, Ok, Err, IsErrAnd, inl, inr, refl, sym, subst}
 use Rattle.std.specs.Io.KnownBytes.{Appends}
+use Rattle.wc_device.specs.declared.io_device.Device.{Device}
+use Rattle.wc_cli.specs.Inputs.{is_unread}
 use Rattle.wc_cli.specs.declared.command_line.Line.{Line}
 use Rattle.wc_cli.specs.declared.failure.Failure.{Failure}
 use Rattle.wc_cli.specs.declared.failure.Failure.TheVariants.{Refused, CannotRead, CannotWrite, NotText}
@@ -9,6 +11,11 @@ use Rattle.wc_cli.specs.declared.failure.Failure.TheVariants.{NoSubcommand, Term
 use Rattle.wc_cli.specs.Failing.{IsRefusal, IsToldAs, Reports, failure_status, failure_line}
 use Rattle.wc_cli.specs.Acting.{AreRead, IsAnswer, Ends, IsTold, goes_to}
 use Rattle.wc_cli.specs.Inner.Reading.{Says}
+
+-- what wasn't opened can't be read
+pub unopened : {R : Type 0} (input : Option (Device R)) → input ≡ None → is_unread input ≡ true
+unopened None e = refl
+unopened (Some d) e = absurd cc
 
 -- ---- a failure is reported
 

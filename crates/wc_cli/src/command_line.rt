@@ -44,7 +44,11 @@ impl<'a> Line<'a> {
         ensures { result ≡ is_raw self.now }
     {
         match self {
-            Line::Make { job: Job::Binary, output: None, .. } => true,
+            Line::Make {
+                job: Job::Binary,
+                output: None,
+                ..
+            } => true,
             _ => false,
         }
     }
