@@ -1,8 +1,6 @@
 -- From two answers or refusals to what a comparison tells.
-use Rattle.std.proofs.Common.{◌≡◌, ◌≢◌, ◌∙◌, ℕ, List, ◌⊎◌, inl, inr, refl, sym, subst, true, false, nat_eq}
-use Rattle.std.proofs.Common.{Result, Ok, Err, IfOk, IfErr, MatchResult}
-use Rattle.std.specs.Cmp.Lexicographic.{pointwise}
-use lib.Pointwise.{bytes_decides}
+use Rattle.std.proofs.Common.{◌≡◌, ◌≢◌, ◌∙◌, ℕ, List, ◌⊎◌, inl, inr, refl, sym, subst}
+use Rattle.std.proofs.Common.{Result, Ok, Err, Option, Some, None, IfOk, IfErr, IfSome, MatchResult}
 use Rattle.wc_ast.specs.declared.module.Module.{Module}
 use Rattle.wc_canon.specs.declared.fault.Refusal.{Refusal}
 use Rattle.wc_canon.specs.declared.fault.Refusal.TheVariants.{Memory}
@@ -11,6 +9,8 @@ use Rattle.wc_canon.specs.declared.comparing.Comparison.TheVariants.{Same, Diffe
 use Rattle.wc_canon.specs.declared.comparing.Side.{Side}
 use Rattle.wc_canon.specs.declared.comparing.Side.TheVariants.{A, B}
 use Rattle.wc_canon.specs.Input.{Means, HasAnswer, HasFault, IsAccepted, IsRefused}
+use Rattle.wc_canon.specs.Run.{IsAnswerOf}
+use Rattle.wc_canon.specs.Inner.Sides.{ComparesBytes}
 use Rattle.wc_canon.specs.Comparing.{IsSame, IsDifferent, Compares, IsSideRefused}
 use Rattle.wc_canon.proofs.Laws.{same-bytes-same-module, one-meaning, meant-or-fault}
 use Rattle.wc_canon.proofs.Judged.{never-meant, that-fault}
@@ -25,17 +25,30 @@ pub other-answers : (x y b c : List ℕ) → HasAnswer x b → HasAnswer y c →
 unfolding HasAnswer
 other-answers x y b c a d e = (a.0, d.0, a.1, d.1, λ h. e ((same-bytes-same-module x y b c a.0 d.0 a.1 d.1 a d).1 h))
 
--- what `==` of bytes tells
-pub equal-bytes : (us vs xs ys : List ℕ) → us ≡ xs → vs ≡ ys → true ≡ pointwise nat_eq us vs → xs ≡ ys
-equal-bytes us vs xs ys p q e = sym p ∙ ((bytes_decides us vs).0 (sym e) ∙ q)
-
-pub other-bytes : (us vs xs ys : List ℕ) → us ≡ xs → vs ≡ ys → false ≡ pointwise nat_eq us vs → xs ≢ ys
-other-bytes us vs xs ys p q e =
-    λ h. let k : pointwise nat_eq us vs ≡ true = (bytes_decides us vs).1 (p ∙ (h ∙ sym q)) in absurd (cc)
+-- what is told of their canonical bytes
+pub compared : (x y b c us vs : List ℕ) (k : Comparison) → HasAnswer x b → HasAnswer y c → us ≡ b → vs ≡ c
+    → ComparesBytes us vs k → Compares x y k
+compared x y b c us vs Same a d e f h = same-answers x y b c a d (sym e ∙ (h ∙ f))
+compared x y b c us vs Different a d e f h = other-answers x y b c a d (λ i. h (e ∙ (i ∙ sym f)))
 
 pub answer-accepted : (x b : List ℕ) → HasAnswer x b → IsAccepted x
 unfolding HasAnswer
 answer-accepted x b a = (a.0, a.1)
+
+-- ---- of two readers
+
+-- from the canonical bytes of both, where they are known
+pub compared-sides : (x y : Option (List ℕ)) (b c us vs : List ℕ) (k : Comparison) → IsAnswerOf x b → IsAnswerOf y c
+    → us ≡ b → vs ≡ c → ComparesBytes us vs k → IfSome x (λ u. IfSome y (λ v. Compares u v k))
+compared-sides None y b c us vs k a d e f h = tt
+compared-sides (Some x) None b c us vs k a d e f h = tt
+compared-sides (Some x) (Some y) b c us vs k a d e f h = compared x y b c us vs k a d e f h
+
+pub side-accepted : (x : Option (List ℕ)) (b : List ℕ) → IsAnswerOf x b → IfSome x IsAccepted
+side-accepted None b a = tt
+side-accepted (Some x) b a = answer-accepted x b a
+
+-- ---- of two inputs
 
 -- a side's refusal: the first input's, or that of the second one behind an answer to the first
 pub refused-first : (x y : List ℕ) (e : Side × Refusal) → e.0 ≡ A → IsRefused x e.1 → IsSideRefused x y e.0 e.1

@@ -1,12 +1,14 @@
 -- What a comparison of two inputs tells.
-use Rattle.std.specs.Prelude.{◌≢◌, ℕ, List}
+use Rattle.std.specs.Prelude.{◌≢◌, ℕ, List, Bool, true, false, Option, IfSome, Result, Ok, Err, ⊤}
 use Rattle.wc_ast.specs.declared.module.Module.{Module}
 use Rattle.wc_canon.specs.declared.fault.Refusal.{Refusal}
+use Rattle.wc_canon.specs.declared.fault.RunFault.{RunFault}
+use Rattle.wc_canon.specs.declared.fault.RunFault.TheVariants.{Refused, Read, Write, Memory}
 use Rattle.wc_canon.specs.declared.comparing.Comparison.{Comparison}
 use Rattle.wc_canon.specs.declared.comparing.Comparison.TheVariants.{Same, Different}
 use Rattle.wc_canon.specs.declared.comparing.Side.{Side}
 use Rattle.wc_canon.specs.declared.comparing.Side.TheVariants.{A, B}
-use Rattle.wc_canon.specs.Input.{Means, IsAccepted, IsRefused}
+use Rattle.wc_canon.specs.Input.{Means, IsAccepted, HasFault, IsRefused}
 
 -- both inputs are accepted and denote the same module
 abbrev pub IsSame : List ℕ → List ℕ → Type 0
@@ -25,3 +27,29 @@ Compares x y Different = IsDifferent x y
 abbrev pub IsSideRefused : List ℕ → List ℕ → Side → Refusal → Type 0
 IsSideRefused x y A f = IsRefused x f
 IsSideRefused x y B f = IsAccepted x × IsRefused y f
+
+-- ---- of two readers, whose bytes are x and y where they are known
+
+-- why no comparison is told, and of which side: the refusal of B only where x is accepted
+abbrev pub FaultsSide : Option (List ℕ) → Option (List ℕ) → Side → RunFault → Type 0
+FaultsSide x y A (Refused f) = IfSome x (λ u. HasFault u f)
+FaultsSide x y B (Refused f) = IfSome x IsAccepted × IfSome y (λ v. HasFault v f)
+FaultsSide x y side (Read at) = ⊤
+FaultsSide x y side (Write written) = ⊥
+FaultsSide x y side Memory = ⊤
+
+-- what a comparison told, or why it didn't
+abbrev pub ComparesFrom : Option (List ℕ) → Option (List ℕ) → Result Comparison (Side × RunFault) → Type 0
+ComparesFrom x y (Ok c) = IfSome x (λ u. IfSome y (λ v. Compares u v c))
+ComparesFrom x y (Err e) = FaultsSide x y e.0 e.1
+
+-- what holds of the fault of a side: P where it is of A, Q where it is of B
+abbrev pub OfSide : Side → (RunFault → Type 0) → (RunFault → Type 0) → RunFault → Type 0
+OfSide A P Q f = P f
+OfSide B P Q f = Q f
+
+-- a failed read was told of the side
+abbrev pub is_read_fault_of : Side → Result Comparison (Side × RunFault) → Bool
+is_read_fault_of A (Err (A, Read at)) = true
+is_read_fault_of B (Err (B, Read at)) = true
+is_read_fault_of side result = false

@@ -5,6 +5,7 @@ ghost use Rattle.wc_ast.specs.declared.module.Module.{Module};
 ghost use Rattle.wc_canon.specs.declared.fault.Refusal.TheVariants as refusals;
 ghost use Rattle.wc_canon.specs.Input.{Means, HasAnswer, HasFault, IsRefused};
 ghost use Rattle.wc_canon.specs.Comparing.{Compares, IsSideRefused};
+ghost use Rattle.wc_canon.specs.Inner.Sides.{ComparesBytes};
 
 use crate::fault::Refusal;
 use crate::normalising::normalise;
@@ -40,6 +41,17 @@ fn judge(alloc: Global, side: Side, input: &[u8]) -> Result<Vec<u8>, (Side, Refu
     }
 }
 
+/// Whether the canonical bytes of two inputs are the same.
+pub(crate) fn tell_apart(first: &[u8], second: &[u8]) -> Comparison
+    ensures { ComparesBytes first.now second.now result }
+{
+    if first == second {
+        Comparison::Same
+    } else {
+        Comparison::Different
+    }
+}
+
 /// Both inputs are judged, the first one first, and their canonical bytes are compared.
 fn compare_answers(alloc: Global, a: &[u8], b: &[u8]) -> Result<Comparison, (Side, Refusal)>
     ensures ok { IfOk result (Compares a.now b.now) }
@@ -47,11 +59,7 @@ fn compare_answers(alloc: Global, a: &[u8], b: &[u8]) -> Result<Comparison, (Sid
 {
     let first = judge(alloc, Side::A, a)?;
     let second = judge(alloc, Side::B, b)?;
-    if first.as_slice() == second.as_slice() {
-        Ok(Comparison::Same)
-    } else {
-        Ok(Comparison::Different)
-    }
+    Ok(tell_apart(first.as_slice(), second.as_slice()))
 }
 
 /// Whether two inputs denote the same module: `Same` exactly if both are accepted and do, `Different` exactly if both

@@ -5,6 +5,7 @@
 mod accepting;
 mod canonical;
 mod comparing;
+mod comparing_from;
 mod fault;
 mod fixed;
 mod law;
@@ -16,6 +17,7 @@ mod spelled;
 
 pub use accepting::accept;
 pub use comparing::{Comparison, Side, compare};
+pub use comparing_from::compare_from;
 pub use fault::{Refusal, RunFault};
 pub use fixed::is_canonical;
 pub use law::{

@@ -2,6 +2,7 @@
 mod accepted;
 mod comparing;
 mod devices;
+mod reading;
 mod refused;
 mod rendering;
 

@@ -2,13 +2,20 @@
 use Rattle.std.proofs.Common.{◌≡◌, ℕ, List, Bool, true, false, Option, Some, None, OnOk, OnErr}
 use Rattle.std.proofs.Common.{Result, Ok, Err, IsErrAnd, inl, inr, refl, sym, subst}
 use Rattle.std.specs.Io.KnownBytes.{Appends}
+use Rattle.wc_device.specs.declared.io_device.Device.{Device}
+use Rattle.wc_cli.specs.Inputs.{is_unread}
 use Rattle.wc_cli.specs.declared.command_line.Line.{Line}
 use Rattle.wc_cli.specs.declared.failure.Failure.{Failure}
 use Rattle.wc_cli.specs.declared.failure.Failure.TheVariants.{Refused, CannotRead, CannotWrite, NotText}
-use Rattle.wc_cli.specs.declared.failure.Failure.TheVariants.{NoSubcommand, OutOfMemory}
+use Rattle.wc_cli.specs.declared.failure.Failure.TheVariants.{NoSubcommand, Terminal, OutOfMemory}
 use Rattle.wc_cli.specs.Failing.{IsRefusal, IsToldAs, Reports, failure_status, failure_line}
 use Rattle.wc_cli.specs.Acting.{AreRead, IsAnswer, Ends, IsTold, goes_to}
 use Rattle.wc_cli.specs.Inner.Reading.{Says}
+
+-- what wasn't opened can't be read
+pub unopened : {R : Type 0} (input : Option (Device R)) → input ≡ None → is_unread input ≡ true
+unopened None e = refl
+unopened (Some d) e = absurd cc
 
 -- ---- a failure is reported
 
@@ -49,6 +56,7 @@ module _ (line : Line) (x y : Option (List ℕ)) (a b failed : Bool) (old new : 
   unsaid text status (CannotRead path) (Err f) p q g s h = absurd s
   unsaid text status NotText (Err f) p q g s h = absurd s
   unsaid text status NoSubcommand (Err f) p q g s h = absurd s
+  unsaid text status Terminal (Err f) p q g s h = absurd s
   unsaid text status OutOfMemory (Err f) p q g s h = absurd s
 
   -- what ends for another name of the line
@@ -63,6 +71,7 @@ module _ (line : Line) (x y : Option (List ℕ)) (a b failed : Bool) (old new : 
   no-memory (CannotWrite path) p h = absurd h
   no-memory NotText p h = absurd h
   no-memory NoSubcommand p h = absurd h
+  no-memory Terminal p h = absurd h
   no-memory OutOfMemory p h = absurd h
 
   ends-as : (f g : Failure) → Ends line x y a b failed old new (Err f) → IsToldAs f g

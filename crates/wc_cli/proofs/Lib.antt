@@ -1,4 +1,3 @@
 pub mod Endings
-pub mod Findings
 pub mod Told
 pub mod Turning

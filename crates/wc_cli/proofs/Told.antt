@@ -7,7 +7,7 @@ use Rattle.wc_cli.specs.declared.command_line.Line.{Line}
 use Rattle.wc_cli.specs.declared.command_line.Line.TheVariants.{Make, Tell, Compare}
 use Rattle.wc_cli.specs.declared.failure.Failure.{Failure}
 use Rattle.wc_cli.specs.declared.failure.Failure.TheVariants.{Refused, CannotRead, CannotWrite, NotText}
-use Rattle.wc_cli.specs.declared.failure.Failure.TheVariants.{NoSubcommand, OutOfMemory}
+use Rattle.wc_cli.specs.declared.failure.Failure.TheVariants.{NoSubcommand, Terminal, OutOfMemory}
 use Rattle.wc_cli.specs.Acting.{IsAnswer, IsRefusedAt, Ends, IsTold}
 use Rattle.wc_cli.specs.Status.{TellsLine}
 
@@ -71,4 +71,5 @@ module _ (line : Line) (x y : Option (List ℕ)) (a b failed : Bool) (old new : 
   ended-tells (Err (CannotWrite path)) status dropped before after p q = two-tells line x y status q.0
   ended-tells (Err NotText) status dropped before after p q = absurd p
   ended-tells (Err NoSubcommand) status dropped before after p q = absurd p
+  ended-tells (Err Terminal) status dropped before after p q = absurd p
   ended-tells (Err OutOfMemory) status dropped before after p q = two-tells line x y status q.0

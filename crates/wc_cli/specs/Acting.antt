@@ -8,11 +8,12 @@ use Rattle.wc_canon.specs.declared.fault.Refusal.{Refusal}
 use Rattle.wc_canon.specs.Input.{IsAccepted, HasFault}
 use Rattle.wc_canon.specs.Comparing.{IsSame, IsDifferent}
 use Rattle.wc_canon.specs.Run.{IsAnswerOf}
+use Rattle.wc_canon.specs.declared.running.Job.TheVariants.{Binary}
 use Rattle.wc_cli.specs.declared.command_line.Line.{Line}
 use Rattle.wc_cli.specs.declared.command_line.Line.TheVariants.{Make, Tell, Compare}
 use Rattle.wc_cli.specs.declared.failure.Failure.{Failure}
 use Rattle.wc_cli.specs.declared.failure.Failure.TheVariants.{Refused, CannotRead, CannotWrite, NotText}
-use Rattle.wc_cli.specs.declared.failure.Failure.TheVariants.{NoSubcommand, OutOfMemory}
+use Rattle.wc_cli.specs.declared.failure.Failure.TheVariants.{NoSubcommand, Terminal, OutOfMemory}
 use Rattle.wc_cli.specs.Failing.{Reports}
 use Rattle.wc_cli.specs.Telling.{AnswersAsk, word_line}
 
@@ -56,6 +57,11 @@ goes_to (Make job input output) = output
 goes_to (Tell ask input named) = None
 goes_to (Compare p q) = None
 
+-- the answer are bytes that aren't text, and goes to the standard output
+abbrev pub is_raw : Line → Bool
+is_raw (Make Binary input None) = true
+is_raw line = false
+
 -- ---- what came of it
 
 -- the status once the whole answer went out, or the failure: failed says whether the writer of answers failed
@@ -74,6 +80,7 @@ Ends line x y a b failed old new (Err (CannotWrite path)) =
     × Appends old new (take n text))
 Ends line x y a b failed old new (Err NotText) = ⊥
 Ends line x y a b failed old new (Err NoSubcommand) = ⊥
+Ends line x y a b failed old new (Err Terminal) = ⊥
 Ends line x y a b failed old new (Err OutOfMemory) = (failed ≡ false) × Keeps old new
 
 -- the same is told: the status alone, or the failure by its status and its line

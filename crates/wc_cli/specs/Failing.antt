@@ -5,7 +5,7 @@ use denote.Ref.{Bor}
 use Rattle.wc_canon.specs.Text.{refusal_text}
 use Rattle.wc_cli.specs.declared.failure.Failure.{Failure}
 use Rattle.wc_cli.specs.declared.failure.Failure.TheVariants.{Refused, CannotRead, CannotWrite, NotText}
-use Rattle.wc_cli.specs.declared.failure.Failure.TheVariants.{NoSubcommand, OutOfMemory}
+use Rattle.wc_cli.specs.declared.failure.Failure.TheVariants.{NoSubcommand, Terminal, OutOfMemory}
 
 -- an input is refused
 abbrev pub IsRefusal : Failure → Type 0
@@ -14,6 +14,7 @@ IsRefusal (CannotRead path) = ⊥
 IsRefusal (CannotWrite path) = ⊥
 IsRefusal NotText = ⊥
 IsRefusal NoSubcommand = ⊥
+IsRefusal Terminal = ⊥
 IsRefusal OutOfMemory = ⊥
 
 -- the exit status
@@ -23,6 +24,7 @@ failure_status (CannotRead path) = 2
 failure_status (CannotWrite path) = 2
 failure_status NotText = 2
 failure_status NoSubcommand = 2
+failure_status Terminal = 2
 failure_status OutOfMemory = 2
 
 -- the program's name, a text and a line end
@@ -45,6 +47,7 @@ failure_line (CannotRead path) = line_about path.now (codes "cannot read")
 failure_line (CannotWrite path) = line_about (place_text path) (codes "cannot write")
 failure_line NotText = line_of (codes "an argument is not text")
 failure_line NoSubcommand = line_of (codes "no subcommand")
+failure_line Terminal = line_of (codes "standard output is a terminal; -o OUT names a file")
 failure_line OutOfMemory = line_of (codes "out of memory")
 
 -- f is told: the failure, or want of memory, where there was none for the text of a refusal

@@ -1,7 +1,7 @@
 //! A command line is carried out.
 
-ghost use Rattle.std.specs.Prelude.{◌≡◌, ◌≤◌, ◌↔◌, ℕ, List, Bool, Option, None, Result, false};
-ghost use Rattle.wc_device.specs.Device.{device_inner, has_failed};
+ghost use Rattle.std.specs.Prelude.{◌≡◌, ◌≤◌, ◌↔◌, ℕ, List, Bool, Option, None, Result, Err, false, true};
+ghost use Rattle.wc_device.specs.Device.{device_inner, has_failed, read_count};
 ghost use Rattle.wc_cli.specs.declared.failure.Failure.{Failure};
 ghost use Rattle.wc_cli.specs.Acting.{Ends, IsTold};
 ghost use Rattle.wc_cli.specs.Inputs.{input_bytes, is_unread, IsNewInput, StaysUnread};
@@ -9,12 +9,12 @@ ghost use Rattle.wc_cli.specs.Status.{TellsLine};
 ghost use Rattle.wc_cli.specs.Inner.Reading.{Says, ComparesInputs};
 
 use crate::command_line::{Ask, Line};
-use crate::failure::{DONE, Failure, REFUSED, refused, report};
-use crate::reading::{is_new, read_input};
+use crate::failure::{DONE, Failure, REFUSED, ended, report};
+use crate::reading::is_new;
 use crate::telling::find;
 use std::alloc::Global;
 use std::io::{Read, Write};
-use wc_canon::{Comparison, Job, RunFault, Side, compare, run};
+use wc_canon::{Comparison, Job, RunFault, Side, accept_from, compare_from, run};
 use wc_device::Device;
 
 /// Writes the answer to an input.
@@ -38,10 +38,7 @@ fn make<'a, R: Read, W: Write>(
     };
     match run(alloc, job, r, w) {
         Ok(_) => Ok(DONE),
-        Err(RunFault::Refused(refusal)) => Err(Failure::Refused { path, refusal }),
-        Err(RunFault::Read { .. }) => Err(Failure::CannotRead { path }),
-        Err(RunFault::Write { .. }) => Err(Failure::CannotWrite { path: output }),
-        Err(RunFault::Memory) => Err(Failure::OutOfMemory),
+        Err(fault) => Err(ended(path, output, fault)),
     }
 }
 
@@ -78,6 +75,24 @@ fn tell<'a, R: Read, W: Write>(
     Ok(told.status)
 }
 
+/// The failure of a comparison whose second input can't be opened: that the first one can't be read comes before it.
+fn without_second<'a, R: Read>(
+    alloc: Global,
+    paths: (&'a str, &'a str),
+    first: &mut Device<R>,
+) -> Failure<'a>
+    requires well { has_failed first.old ≡ false }
+    requires unread { read_count first.old ≡ 0 }
+    ensures { (x y : Option (List ℕ)) → ComparesInputs paths.entry.0.now paths.entry.1.now x y (has_failed first.new) true
+        (Err result) }
+{
+    match accept_from(alloc, first) {
+        Err(RunFault::Read { .. }) => Failure::CannotRead { path: paths.0 },
+        Err(RunFault::Memory) => Failure::OutOfMemory,
+        _ => Failure::CannotRead { path: paths.1 },
+    }
+}
+
 /// Whether two inputs denote the same module, or the failure with the path of the one that it is about.
 fn compare_inputs<'a, R: Read>(
     alloc: Global,
@@ -92,12 +107,16 @@ fn compare_inputs<'a, R: Read>(
     ensures stays_a { StaysUnread a.old a.new }
     ensures stays_b { StaysUnread b.old b.new }
 {
-    let first = read_input(alloc, paths.0, a)?;
-    let second = read_input(alloc, paths.1, b)?;
-    match compare(alloc, first.as_slice(), second.as_slice()) {
+    let Some(first) = a else {
+        return Err(Failure::CannotRead { path: paths.0 });
+    };
+    let Some(second) = b else {
+        return Err(without_second(alloc, paths, first));
+    };
+    match compare_from(alloc, first, second) {
         Ok(comparison) => Ok(comparison),
-        Err((Side::A, refusal)) => Err(refused(paths.0, refusal)),
-        Err((Side::B, refusal)) => Err(refused(paths.1, refusal)),
+        Err((Side::A, fault)) => Err(ended(paths.0, None, fault)),
+        Err((Side::B, fault)) => Err(ended(paths.1, None, fault)),
     }
 }
 

@@ -1,5 +1,8 @@
 //! What a command line asks for.
 
+ghost use Rattle.std.specs.Prelude.{◌≡◌};
+ghost use Rattle.wc_cli.specs.Acting.{is_raw};
+
 use wc_canon::Job;
 
 /// What is asked of an input.
@@ -33,4 +36,20 @@ pub enum Line<'a> {
         a: &'a str,
         b: &'a str,
     },
+}
+
+impl<'a> Line<'a> {
+    /// Whether the answer are bytes that aren't text, and goes to the standard output.
+    pub fn is_raw(&self) -> bool
+        ensures { result ≡ is_raw self.now }
+    {
+        match self {
+            Line::Make {
+                job: Job::Binary,
+                output: None,
+                ..
+            } => true,
+            _ => false,
+        }
+    }
 }

@@ -4,12 +4,12 @@ ghost use Rattle.std.specs.Prelude.{◌≡◌, OnOk, OnErr, true};
 ghost use Rattle.std.specs.Io.KnownBytes.{Appends};
 ghost use Rattle.wc_device.specs.Device.{device_inner, has_failed};
 ghost use Rattle.wc_cli.specs.declared.failure.Failure.{Failure};
-ghost use Rattle.wc_cli.specs.Inner.Reading.{refusal_failure};
+ghost use Rattle.wc_cli.specs.Inner.Reading.{refusal_failure, run_failure};
 ghost use Rattle.wc_cli.specs.Failing.{line_of, line_about, place_text, IsToldAs, Reports};
 
 use std::alloc::Global;
 use std::io::Write;
-use wc_canon::{Refusal, render};
+use wc_canon::{Refusal, RunFault, render};
 use wc_device::Device;
 
 /// The status where all went well.
@@ -20,6 +20,9 @@ pub(crate) const REFUSED: u8 = 1;
 
 /// The status of a fault of usage, of a file or of memory.
 const FAILED: u8 = 2;
+
+/// What is told where bytes would go to a terminal.
+const ON_TERMINAL: &str = "standard output is a terminal; -o OUT names a file";
 
 /// Why the words of a command line came to nothing.
 #[derive(Debug, Drop)]
@@ -34,6 +37,8 @@ pub enum Failure<'a> {
     NotText,
     /// The words name no subcommand.
     NoSubcommand,
+    /// Bytes that aren't text would go to a terminal.
+    Terminal,
     /// A growth of memory was refused.
     OutOfMemory,
 }
@@ -45,6 +50,18 @@ pub(crate) fn refused<'a>(path: &'a str, refusal: Refusal) -> Failure<'a>
     match refusal {
         Refusal::Memory => Failure::OutOfMemory,
         refusal => Failure::Refused { path, refusal },
+    }
+}
+
+/// The failure of a call over the input at a path whose answer goes to `output`, or else to the standard output.
+pub(crate) fn ended<'a>(path: &'a str, output: Option<&'a str>, fault: RunFault) -> Failure<'a>
+    ensures { result ≡ run_failure path.entry output.entry fault }
+{
+    match fault {
+        RunFault::Refused(refusal) => Failure::Refused { path, refusal },
+        RunFault::Read { .. } => Failure::CannotRead { path },
+        RunFault::Write { .. } => Failure::CannotWrite { path: output },
+        RunFault::Memory => Failure::OutOfMemory,
     }
 }
 
@@ -100,6 +117,7 @@ pub fn report<E: Write>(alloc: Global, failure: &Failure<'_>, e: &mut Device<E>)
         ),
         Failure::NotText => (write_line(e, "an argument is not text"), FAILED),
         Failure::NoSubcommand => (write_line(e, "no subcommand"), FAILED),
+        Failure::Terminal => (write_line(e, ON_TERMINAL), FAILED),
         Failure::OutOfMemory => (write_line(e, "out of memory"), FAILED),
     };
     let _ = written;

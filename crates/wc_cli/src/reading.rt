@@ -3,7 +3,7 @@
 ghost use Rattle.std.specs.Prelude.{◌≡◌, ◌↔◌, IfOk, IfSome, false, true};
 ghost use Rattle.wc_device.specs.Device.{device_inner, has_failed, read_count};
 ghost use Rattle.wc_cli.specs.Inner.Reading.{Reads};
-ghost use Rattle.wc_cli.specs.Inputs.{input_bytes, is_unread, IsNewInput, StaysUnread};
+ghost use Rattle.wc_cli.specs.Inputs.{IsNewInput};
 
 use crate::failure::Failure;
 use std::alloc::Global;
@@ -24,7 +24,7 @@ pub(crate) fn is_new<R: Read>(input: &Option<Device<R>>) -> bool
 }
 
 /// The reader's bytes to its end. An error of the reader of any kind ends it.
-fn read_all<'a, R: Read>(
+pub(crate) fn read_all<'a, R: Read>(
     alloc: Global,
     path: &'a str,
     r: &mut Device<R>,
@@ -47,22 +47,5 @@ fn read_all<'a, R: Read>(
         if bytes.extend_from_slice(&buffer[..given]).is_err() {
             return Err(Failure::OutOfMemory);
         }
-    }
-}
-
-/// The bytes of an input to its end.
-pub(crate) fn read_input<'a, R: Read>(
-    alloc: Global,
-    path: &'a str,
-    input: &mut Option<Device<R>>,
-) -> Result<Vec<u8>, Failure<'a>>
-    requires { IsNewInput input.old }
-    ensures whole { IfOk result (λ v. IfSome (input_bytes R.remaining input.old) (λ x. v.items ≡ x)) }
-    ensures reads { Reads path.now (is_unread input.new) result }
-    ensures stays { StaysUnread input.old input.new }
-{
-    match input {
-        Some(r) => read_all(alloc, path, r),
-        None => Err(Failure::CannotRead { path }),
     }
 }

@@ -1,6 +1,7 @@
 //! What is told of one input, in one line.
 
-ghost use Rattle.std.specs.Prelude.{◌≡◌, ◌++◌, IfOk, IfErr, OnOk, OnErr};
+ghost use Rattle.std.specs.Prelude.{◌≡◌, ◌++◌, Bool, IfOk, IfErr, OnOk, OnErr, false};
+ghost use Rattle.wc_device.specs.Device.{device_inner, has_failed, read_count};
 ghost use Rattle.sha2.specs.Sha256.{sha256};
 ghost use Rattle.hex.specs.Hex.{encode_lower};
 ghost use Rattle.wc_cli.specs.declared.failure.Failure.{Failure};
@@ -9,12 +10,12 @@ ghost use Rattle.wc_cli.specs.Telling.{told_line, escaped, escaped_byte, hash_li
 ghost use Rattle.wc_cli.specs.Inner.Reading.{AnswersBytes, Finds};
 
 use crate::command_line::Ask;
-use crate::failure::{DONE, Failure, REFUSED, refused};
-use crate::reading::read_input;
+use crate::failure::{DONE, Failure, REFUSED, ended, refused};
+use crate::reading::read_all;
 use sha2::{Digest, Sha256};
 use std::alloc::{AllocError, Global};
 use std::io::Read;
-use wc_canon::{accept, is_canonical, normalise};
+use wc_canon::{accept_from, is_canonical, normalise_from};
 use wc_device::Device;
 
 /// A line and the status that goes with it.
@@ -55,18 +56,25 @@ fn worded<'a>(
     }
 }
 
-/// That an input is accepted.
-fn check<'a>(alloc: Global, path: &'a str, named: bool, bytes: &[u8]) -> Result<Answer, Failure<'a>>
-    ensures { AnswersBytes Ask.Check path.now named bytes.now result }
+/// That a reader's bytes are accepted.
+fn check<'a, R: Read>(
+    alloc: Global,
+    path: &'a str,
+    named: bool,
+    r: &mut Device<R>,
+) -> Result<Answer, Failure<'a>>
+    requires well { has_failed r.old ≡ false }
+    requires unread { read_count r.old ≡ 0 }
+    ensures { Finds Ask.Check path.now named (R.remaining (device_inner r.old)) (has_failed r.new) result }
 {
-    match accept(alloc, bytes) {
+    match accept_from(alloc, r) {
         Ok(()) => worded(alloc, path, named, "ok", DONE),
-        Err(refusal) => Err(refused(path, refusal)),
+        Err(fault) => Err(ended(path, None, fault)),
     }
 }
 
-/// Whether an input is its own canonical bytes.
-fn canonical<'a>(
+/// Whether bytes are their own canonical bytes.
+fn canonical_bytes<'a>(
     alloc: Global,
     path: &'a str,
     named: bool,
@@ -79,6 +87,21 @@ fn canonical<'a>(
         Ok(false) => worded(alloc, path, named, "not canonical", REFUSED),
         Err(refusal) => Err(refused(path, refusal)),
     }
+}
+
+/// Whether a reader's bytes are their own canonical bytes.
+fn canonical<'a, R: Read>(
+    alloc: Global,
+    path: &'a str,
+    named: bool,
+    r: &mut Device<R>,
+) -> Result<Answer, Failure<'a>>
+    requires well { has_failed r.old ≡ false }
+    requires unread { read_count r.old ≡ 0 }
+    ensures { Finds Ask.Canonical path.now named (R.remaining (device_inner r.old)) (has_failed r.new) result }
+{
+    let bytes = read_all(alloc, path, r)?;
+    canonical_bytes(alloc, path, named, bytes.as_slice())
 }
 
 /// A byte of a path in a line of hashes.
@@ -124,34 +147,20 @@ fn hash_line(alloc: Global, bytes: &[u8], path: &str) -> Result<Vec<u8>, AllocEr
     Ok(line)
 }
 
-/// The hash of the canonical bytes of an input.
-fn hash<'a>(alloc: Global, path: &'a str, named: bool, bytes: &[u8]) -> Result<Answer, Failure<'a>>
-    ensures { AnswersBytes Ask.Hash path.now named bytes.now result }
+/// The hash of the canonical bytes of a reader's bytes.
+fn hash<'a, R: Read>(alloc: Global, path: &'a str, r: &mut Device<R>) -> Result<Answer, Failure<'a>>
+    requires well { has_failed r.old ≡ false }
+    requires unread { read_count r.old ≡ 0 }
+    ensures { (named : Bool) → Finds Ask.Hash path.now named (R.remaining (device_inner r.old)) (has_failed r.new)
+        result }
 {
-    let answer = match normalise(alloc, bytes) {
+    let answer = match normalise_from(alloc, r) {
         Ok(answer) => answer,
-        Err(refusal) => return Err(refused(path, refusal)),
+        Err(fault) => return Err(ended(path, None, fault)),
     };
     match hash_line(alloc, answer.as_slice(), path) {
         Ok(text) => Ok(Answer { text, status: DONE }),
         Err(_) => Err(Failure::OutOfMemory),
-    }
-}
-
-/// What is told of an input with these bytes.
-fn told_of<'a>(
-    alloc: Global,
-    ask: Ask,
-    path: &'a str,
-    named: bool,
-    bytes: &[u8],
-) -> Result<Answer, Failure<'a>>
-    ensures { AnswersBytes ask path.now named bytes.now result }
-{
-    match ask {
-        Ask::Check => check(alloc, path, named, bytes),
-        Ask::Canonical => canonical(alloc, path, named, bytes),
-        Ask::Hash => hash(alloc, path, named, bytes),
     }
 }
 
@@ -167,6 +176,12 @@ pub(crate) fn find<'a, R: Read>(
     ensures finds { Finds ask path.now named (input_bytes R.remaining input.old) (is_unread input.new) result }
     ensures stays { StaysUnread input.old input.new }
 {
-    let bytes = read_input(alloc, path, input)?;
-    told_of(alloc, ask, path, named, bytes.as_slice())
+    let Some(r) = input else {
+        return Err(Failure::CannotRead { path });
+    };
+    match ask {
+        Ask::Check => check(alloc, path, named, r),
+        Ask::Canonical => canonical(alloc, path, named, r),
+        Ask::Hash => hash(alloc, path, r),
+    }
 }

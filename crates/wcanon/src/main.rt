@@ -9,6 +9,7 @@ use clap::Error;
 use clap::error::ErrorKind;
 use output::Output;
 use std::fs::File;
+use std::io::IsTerminal;
 use std::process::ExitCode;
 use std::{env, io};
 use wc_cli::{Failure, Line, Opens, act_each, lines, report, status_of};
@@ -61,6 +62,14 @@ fn output_path<'a>(lines: &[Line<'a>]) -> Option<&'a str> {
     }
 }
 
+/// Whether bytes that aren't text would go to a terminal.
+fn shows_bytes(rt: &HostRuntime, lines: &[Line<'_>]) -> bool {
+    match lines.first() {
+        Some(line) => line.is_raw() && rt.stdout().is_terminal(),
+        None => false,
+    }
+}
+
 /// Carries lines out in order.
 fn carry_out(rt: &HostRuntime, lines: &[Line<'_>]) -> u8 {
     let files = Files { rt };
@@ -80,6 +89,7 @@ fn carry_out(rt: &HostRuntime, lines: &[Line<'_>]) -> u8 {
 /// Carries out what the words ask for.
 fn obey(rt: &HostRuntime, words: &[&str]) -> u8 {
     match lines(rt.alloc(), words) {
+        Ok(Some(lines)) if shows_bytes(rt, lines.as_slice()) => failed(rt, &Failure::Terminal),
         Ok(Some(lines)) => carry_out(rt, lines.as_slice()),
         Ok(None) => failed(rt, &Failure::NoSubcommand),
         Err(error) => print_usage(rt, &error),

@@ -5,6 +5,8 @@ use Rattle.std.specs.Io.KnownBytes.{Appends}
 use denote.Ref.{Bor}
 use Rattle.wc_canon.specs.declared.fault.Refusal.{Refusal}
 use Rattle.wc_canon.specs.declared.fault.Refusal.TheVariants.{Memory}
+use Rattle.wc_canon.specs.declared.fault.RunFault.{RunFault}
+use Rattle.wc_canon.specs.declared.fault.RunFault.TheVariants as fault
 use Rattle.wc_canon.specs.declared.comparing.Comparison.{Comparison}
 use Rattle.wc_canon.specs.Input.{IsAccepted, HasFault}
 use Rattle.wc_canon.specs.Comparing.{Compares}
@@ -13,7 +15,7 @@ use Rattle.wc_cli.specs.declared.command_line.Ask.{Ask}
 use Rattle.wc_cli.specs.declared.telling.Answer.{Answer}
 use Rattle.wc_cli.specs.declared.failure.Failure.{Failure}
 use Rattle.wc_cli.specs.declared.failure.Failure.TheVariants.{Refused, CannotRead, CannotWrite, NotText}
-use Rattle.wc_cli.specs.declared.failure.Failure.TheVariants.{NoSubcommand, OutOfMemory}
+use Rattle.wc_cli.specs.declared.failure.Failure.TheVariants.{NoSubcommand, Terminal, OutOfMemory}
 
 -- ---- what comes of them
 
@@ -25,6 +27,7 @@ Reads path unread (Err (CannotRead p)) = (p.now ≡ path) × (unread ≡ true)
 Reads path unread (Err (CannotWrite p)) = ⊥
 Reads path unread (Err NotText) = ⊥
 Reads path unread (Err NoSubcommand) = ⊥
+Reads path unread (Err Terminal) = ⊥
 Reads path unread (Err OutOfMemory) = ⊤
 
 -- a text went out to the standard output, or its first bytes: failed says whether the writer failed
@@ -37,6 +40,7 @@ Says text failed old new (Err (CannotWrite None)) =
     (failed ≡ true) × ((n : ℕ) × (n ≤ length text) × Appends old new (take n text))
 Says text failed old new (Err NotText) = ⊥
 Says text failed old new (Err NoSubcommand) = ⊥
+Says text failed old new (Err Terminal) = ⊥
 Says text failed old new (Err OutOfMemory) = ⊥
 
 -- the line that tells of an input with the bytes u, or its refusal, or want of memory
@@ -47,6 +51,7 @@ AnswersBytes ask path named u (Err (CannotRead p)) = ⊥
 AnswersBytes ask path named u (Err (CannotWrite p)) = ⊥
 AnswersBytes ask path named u (Err NotText) = ⊥
 AnswersBytes ask path named u (Err NoSubcommand) = ⊥
+AnswersBytes ask path named u (Err Terminal) = ⊥
 AnswersBytes ask path named u (Err OutOfMemory) = ⊤
 
 -- the same of an input, whose bytes are x where they are known, and which couldn't be read where unread says so
@@ -59,12 +64,20 @@ Finds ask path named x unread (Err (CannotRead p)) = (p.now ≡ path) × (unread
 Finds ask path named x unread (Err (CannotWrite p)) = ⊥
 Finds ask path named x unread (Err NotText) = ⊥
 Finds ask path named x unread (Err NoSubcommand) = ⊥
+Finds ask path named x unread (Err Terminal) = ⊥
 Finds ask path named x unread (Err OutOfMemory) = ⊤
 
 -- the failure where the input at the path is refused so
 abbrev pub refusal_failure : Bor (List ℕ) → Refusal → Failure
 refusal_failure path Memory = OutOfMemory
 refusal_failure path f = Refused path f
+
+-- the failure of a call over the input at the path, whose answer goes to the output
+abbrev pub run_failure : Bor (List ℕ) → Option (Bor (List ℕ)) → RunFault → Failure
+run_failure path output (fault.Refused f) = Refused path f
+run_failure path output (fault.Read at) = CannotRead path
+run_failure path output (fault.Write written) = CannotWrite output
+run_failure path output fault.Memory = OutOfMemory
 
 -- what a comparison of two inputs came to, by their paths: Ends says the same of the whole line
 abbrev pub ComparesInputs : List ℕ → List ℕ → Option (List ℕ) → Option (List ℕ) → Bool → Bool
@@ -79,4 +92,5 @@ ComparesInputs p q x y a b (Err (CannotRead path)) =
 ComparesInputs p q x y a b (Err (CannotWrite path)) = ⊥
 ComparesInputs p q x y a b (Err NotText) = ⊥
 ComparesInputs p q x y a b (Err NoSubcommand) = ⊥
+ComparesInputs p q x y a b (Err Terminal) = ⊥
 ComparesInputs p q x y a b (Err OutOfMemory) = ⊤

@@ -1,4 +1,4 @@
-use Rattle.wc_canon.proofs.Comparisons.{same-answers, other-answers, equal-bytes, other-bytes}
+use Rattle.wc_canon.proofs.Comparisons.{compared}
 use Rattle.wc_canon.proofs.Comparisons.{refused-first, refused-second}
 use Rattle.wc_canon.specs.Comparing.{IsSideRefused}
 use Rattle.wc_canon.proofs.Judged.{if-error}
@@ -15,10 +15,7 @@ returns-in_err-second-clause-err c =
     let refused = refused-second _ _ _ _ c.in_ok-first.ensures.ok e.side e.err in
     if-error _ _ (λ e. IsSideRefused _ _ e.0 e.1) c.from_residual-in_err-second.ensures.1 refused
 
-pub returns-then-eq-clause-ok : goal.returns-then-eq-clause-ok
-returns-then-eq-clause-ok c = same-answers _ _ _ _ c.in_ok-first.ensures.ok c.in_ok-second.ensures.ok
-    (equal-bytes _ _ _ _ c.as_slice.ensures.value c.as_slice-2.ensures.value c.if-eq.ensures)
-
 pub returns-clause-ok : goal.returns-clause-ok
-returns-clause-ok c = other-answers _ _ _ _ c.in_ok-first.ensures.ok c.in_ok-second.ensures.ok
-    (other-bytes _ _ _ _ c.as_slice.ensures.value c.as_slice-2.ensures.value c.if-eq.ensures)
+returns-clause-ok c =
+    compared _ _ _ _ _ _ _ c.in_ok-first.ensures.ok c.in_ok-second.ensures.ok c.as_slice.ensures.value
+    c.as_slice-2.ensures.value c.tell_apart.ensures

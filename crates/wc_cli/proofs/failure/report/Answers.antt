@@ -29,3 +29,18 @@ pub returns-in-OutOfMemory : goal.returns-in-OutOfMemory
 returns-in-OutOfMemory g c =
     let e = c.write_line-in-OutOfMemory.ensures in
     reported _ _ _ _ _ _ _ _ c.in-OutOfMemory.is refl refl e.line e.fails
+
+pub returns-in-NotText : goal.returns-in-NotText
+returns-in-NotText g c =
+    let e = c.write_line-in-NotText.ensures in
+    reported _ _ _ _ _ _ _ _ c.in-NotText.is refl refl e.line e.fails
+
+pub returns-in-NoSubcommand : goal.returns-in-NoSubcommand
+returns-in-NoSubcommand g c =
+    let e = c.write_line-in-NoSubcommand.ensures in
+    reported _ _ _ _ _ _ _ _ c.in-NoSubcommand.is refl refl e.line e.fails
+
+pub returns-in-Terminal : goal.returns-in-Terminal
+returns-in-Terminal g c =
+    let e = c.write_line-in-Terminal.ensures in
+    reported _ _ _ _ _ _ _ _ c.in-Terminal.is refl refl e.line e.fails
