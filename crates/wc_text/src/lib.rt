@@ -1,10 +1,13 @@
-//! What a text says: a text that is being said, kept token by kept token (Core 1.0, 6.6.13). The loop over the
-//! tokens is not built yet.
+//! What a text says: from its tokens to its fields (Core 1.0, 6.6).
 #![tactic(auto)]
 
 mod fault;
+mod fields;
+mod laws;
 mod string;
 mod text_draft;
 
 pub use fault::SynFault;
+pub use fields::parse;
+pub use laws::{always_one, few_fields, never_both, one_fault, one_list};
 pub use text_draft::TextDraft;

@@ -1,5 +1,5 @@
 -- The first fault of tokens that are no text, and why it is one (Core 1.0, 6.4 to 6.6).
-use Rattle.std.specs.Prelude.{ℕ, suc, List, take}
+use Rattle.std.specs.Prelude.{ℕ, List}
 use Rattle.wc_tokens.specs.Standard.Lexemes.{Lexeme}
 use Rattle.wc_body.specs.Standard.Nested.{nesting_limit}
 use Rattle.wc_syntax.specs.declared.kind.Kind.{Kind}
@@ -9,11 +9,10 @@ use Rattle.wc_text.specs.declared.fault.SynFault.{SynFault}
 use Rattle.wc_text.specs.declared.fault.SynFault.TheVariants.{Bad, Memory}
 use Rattle.wc_text.specs.Standard.Meaning.{Each, HasKind}
 
--- The fault is at the token of this number, or behind the last one, for this reason. Only the tokens up to and including
--- it matter.
+-- The fault is at the token of this number, or behind the last one, for this reason.
 pub record FirstFault (ts : List Lexeme) (token : ℕ) (why : SynWhy) : Type 0 where
   pub kinds : List Kind
-  pub are_kinds : Each HasKind (take (suc token) ts) kinds
+  pub are_kinds : Each HasKind ts kinds
   pub first : FirstKindFault nesting_limit kinds token why
 
 -- it is the first fault, or memory was refused

@@ -1,0 +1,9 @@
+pub mod Pairs
+pub mod Forms
+pub mod Strings
+pub mod Weights
+pub mod Kept
+pub mod Said
+pub mod Sizes
+pub mod Few
+pub mod Answering

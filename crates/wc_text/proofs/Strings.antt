@@ -1,0 +1,65 @@
+-- What strings stand for.
+use Rattle.std.proofs.Common.{◌≡◌, ℕ, suc, ◌≤◌, List, [], ◌∷◌, ◌++◌, length, refl, sym, ◌∙◌, arith}
+use Rattle.std.proofs.Common.{length-append}
+use Rattle.std.specs.Prelude.{encode_utf8}
+use Rattle.std.proofs.lemmas.Str.{length-encode, len_utf8_bounds}
+use Rattle.wc_tokens.specs.declared.token.TokenKind.{TokenKind}
+use Rattle.wc_tokens.specs.declared.token.TokenKind.TheVariants as token
+use Rattle.wc_tokens.specs.Standard.Strings.{Element, plain, escape, byte, unicode, Elements, none, more, IsString}
+use Rattle.wc_tokens.specs.Standard.Lexemes.{HasForm}
+use Rattle.wc_tokens.proofs.Escapes.ElementLaws.{Elements-same, read_element-quote}
+use Rattle.wc_words.specs.declared.symbol.Symbol.{Symbol}
+use Rattle.wc_words.specs.Tokens.{TokenIs, StringIs, name, no_name}
+use Rattle.wc_text.specs.Standard.Meaning.{StandsFor}
+use Rattle.wc_text.proofs.Forms.{some-text}
+
+string-same : {text v w : List ℕ} → IsString text v → IsString text w → v ≡ w
+string-same {text} {v} {w} a b =
+    let e : 34 ∷ (a.body ++ 34 ∷ []) ≡ 34 ∷ (b.body ++ 34 ∷ []) = sym a.text_is ∙ b.text_is in
+    let f : a.body ++ 34 ∷ [] ≡ b.body ++ 34 ∷ [] = cc in
+    (Elements-same (34 ∷ []) (34 ∷ []) a.elements b.elements f (read_element-quote []) (read_element-quote [])).bytes_is
+
+pub stands-same : (k : TokenKind) (text v w : List ℕ) → StandsFor k text v → StandsFor k text w → v ≡ w
+stands-same token.Str text v w a b = string-same a b
+stands-same token.Open text v w a b = a ∙ sym b
+stands-same token.Close text v w a b = a ∙ sym b
+stands-same token.Id text v w a b = a ∙ sym b
+stands-same token.Word text v w a b = a ∙ sym b
+
+-- a token that is something to the grammar stands for something
+some-bytes : {text : List ℕ} {s : Symbol} → StringIs text s → (bytes : List ℕ) × IsString text bytes
+some-bytes (name {bytes = bytes} i u) = (bytes, i)
+some-bytes (no_name {bytes = bytes} i u) = (bytes, i)
+
+pub some-meaning : (k : TokenKind) (text : List ℕ) (s : Symbol) → TokenIs k text s
+    → (bytes : List ℕ) × StandsFor k text bytes
+some-meaning token.Str text s t = some-bytes t
+some-meaning token.Open text s t = ([], refl)
+some-meaning token.Close text s t = ([], refl)
+some-meaning token.Id text s t = ([], refl)
+some-meaning token.Word text s t = ([], refl)
+
+encoded-short : (n : ℕ) → length (encode_utf8 n) ≤ 4
+encoded-short n = rw (length-encode n) (len_utf8_bounds n).1
+
+element-short : {part value : List ℕ} → Element part value → length value ≤ length part
+element-short (plain c p) = omega arith
+element-short (escape c v) = omega arith
+element-short (byte h l p q) = omega arith
+element-short (unicode {digits = digits} {n = n} d p) = omega (arith, encoded-short n, length-append digits (125 ∷ []))
+
+elements-short : {body bytes : List ℕ} → Elements body bytes → length bytes ≤ length body
+elements-short none = omega arith
+elements-short (more {part = part} {rest = rest} {value = value} {values = values} f fs) =
+    omega (arith, element-short f, elements-short fs, length-append part rest, length-append value values)
+
+string-short : {text bytes : List ℕ} → IsString text bytes → suc (length bytes) ≤ length text
+string-short {text} {bytes} i = rw i.text_is (omega (arith, elements-short i.elements, length-append i.body (34 ∷ [])))
+
+pub stands-short : (k : TokenKind) (text bytes : List ℕ) → HasForm k text → StandsFor k text bytes
+    → suc (length bytes) ≤ length text
+stands-short token.Str text bytes h s = string-short s
+stands-short token.Open text bytes h s = rw s (some-text token.Open text h)
+stands-short token.Close text bytes h s = rw s (some-text token.Close text h)
+stands-short token.Id text bytes h s = rw s (some-text token.Id text h)
+stands-short token.Word text bytes h s = rw s (some-text token.Word text h)

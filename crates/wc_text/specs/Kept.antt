@@ -1,0 +1,2 @@
+-- What private functions speak of.
+pub mod SaidSoFar

@@ -1,0 +1,93 @@
+//! From the tokens of a text to its fields.
+
+ghost use Rattle.std.specs.Prelude.{◌≡◌, ◌<◌, ◌^◌, ◌+◌, ◌∷◌, ◌⊎◌, ℕ, List, drop};
+ghost use Rattle.std.specs.Prelude.{IfOk, IfErr, OnOk, MatchResult, IsErrAnd};
+ghost use Rattle.wc_tokens.specs.Standard.Lexemes.{Lexeme, HasForm};
+ghost use Rattle.wc_tokens.specs.Standard.Tokens.{InOrder, lexeme_of};
+ghost use Rattle.wc_syntax.specs.declared.why.SynWhy.{SynWhy as Reason};
+ghost use Rattle.wc_surface.specs.declared.field.Field.{Field};
+ghost use Rattle.wc_text.specs.declared.fault.SynFault.TheVariants.{Bad, Memory};
+ghost use Rattle.wc_text.specs.Standard.Faults.{FirstFault, IsFault};
+ghost use Rattle.wc_text.specs.Standard.Meaning.{Syn};
+ghost use Rattle.wc_text.specs.Kept.SaidSoFar.{IsSaid};
+
+use crate::fault::SynFault;
+use crate::string::bytes_of;
+use crate::text_draft::TextDraft;
+use std::alloc::Global;
+use wc_body::NESTING_LIMIT;
+use wc_drafts::Word;
+use wc_surface::Surface;
+use wc_syntax::{Reading, SynWhy};
+use wc_tokens::{Token, Tokens};
+use wc_words::symbol_of;
+
+/// Takes one more token, the one of this number. The error is the first fault, or want of memory.
+#[inline(always)]
+fn take_token<'a>(
+    alloc: Global,
+    reading: &mut Reading,
+    draft: &mut TextDraft<'a>,
+    at: usize,
+    token: &Token<'a>,
+) -> Result<(), SynFault>
+    requires few { at < 2 ^ 32 }
+    requires form { HasForm token.now.kind token.now.text.now }
+    ensures said { (ts rest : List Lexeme) → IsSaid ts at reading.old draft.old
+        → drop at ts ≡ lexeme_of token.now ∷ rest → OnOk result (IsSaid ts (at + 1) reading.new draft.new) }
+    ensures fault { (ts rest : List Lexeme) → IsSaid ts at reading.old draft.old
+        → drop at ts ≡ lexeme_of token.now ∷ rest → InOrder 0 ts → IfErr result (λ fault. IsFault ts fault) }
+{
+    let symbol = symbol_of(token);
+    let Some(role) = reading.take(at, symbol.kind)? else {
+        return Ok(());
+    };
+    let word = Word {
+        token: at as u32,
+        symbol,
+        text: token.text,
+    };
+    let bytes = bytes_of(alloc, token)?;
+    draft.take(alloc, role, &word, bytes)?;
+    Ok(())
+}
+
+/// The fields, or the first fault.
+fn fields_or_fault<'a>(alloc: Global, tokens: &Tokens<'a>) -> Result<Surface<'a>, SynFault>
+    ensures { MatchResult result (λ fields. Syn tokens.now fields) (λ fault. IsFault tokens.now fault) }
+{
+    let all = tokens.as_slice();
+    let mut reading = Reading::new(alloc, NESTING_LIMIT);
+    let mut draft = TextDraft::new(alloc);
+    let mut at: usize = 0;
+    while at < all.len() {
+        take_token(alloc, &mut reading, &mut draft, at, &all[at])?;
+        at += 1;
+    }
+    if reading.is_text() {
+        Ok(Surface::new(draft.into_fields(alloc)))
+    } else {
+        Err(SynFault::Bad {
+            token: at as u64,
+            why: SynWhy::End,
+        })
+    }
+}
+
+/// The fields of a text (Core 1.0, 6.6.13), or its first fault: the first token such that no text begins with the
+/// tokens up to and including it, or the number of tokens where one more has to follow.
+///
+/// At most `NESTING_LIMIT` blocks and folded instructions are nested in one another. `Memory` comes only where memory
+/// was refused.
+pub fn parse<'a>(alloc: Global, tokens: &Tokens<'a>) -> Result<Surface<'a>, SynFault>
+    ensures ok { IfOk result (λ surface. Syn tokens.now surface) }
+    ensures fault { IfErr result (λ fault. IsFault tokens.now fault) }
+
+    // So the answer is these fields exactly where the tokens say them, and this fault exactly where it is the first.
+    ensures only { (fields : List Field) → Syn tokens.now fields
+        → MatchResult result (λ surface. surface ≡ fields) (λ fault. fault ≡ Memory) }
+    ensures only_fault { (token : ℕ) (why : Reason) → FirstFault tokens.now token why
+        → IsErrAnd result (λ fault. (fault ≡ Bad token why) ⊎ (fault ≡ Memory)) }
+{
+    fields_or_fault(alloc, tokens)
+}

@@ -1,0 +1,38 @@
+//! Laws of fields and faults. Each function only states its law: it does nothing.
+
+ghost use Rattle.std.specs.Prelude.{◌≡◌, ◌⊎◌, ℕ, List};
+ghost use Rattle.wc_tokens.specs.Standard.Lexemes.{Lexeme};
+ghost use Rattle.wc_tokens.specs.Standard.Tokens.{InOrder};
+ghost use Rattle.wc_syntax.specs.declared.why.SynWhy.{SynWhy as Reason};
+ghost use Rattle.wc_surface.specs.declared.field.Field.{Field};
+ghost use Rattle.wc_surface.specs.Standard.Sizes.{IsSurface};
+ghost use Rattle.wc_text.specs.Standard.Meaning.{Syn};
+ghost use Rattle.wc_text.specs.Standard.Faults.{FirstFault};
+
+/// Tokens say at most one list of fields.
+pub fn one_list()
+    ensures { (ts : List Lexeme) (fields others : List Field) → Syn ts fields → Syn ts others → fields ≡ others }
+{}
+
+/// They have at most one first fault.
+pub fn one_fault()
+    ensures { (ts : List Lexeme) (at at' : ℕ) (why why' : Reason)
+        → FirstFault ts at why → FirstFault ts at' why' → (at ≡ at') × (why ≡ why') }
+{}
+
+/// They never have both.
+pub fn never_both()
+    ensures { (ts : List Lexeme) (fields : List Field) (at : ℕ) (why : Reason)
+        → Syn ts fields → ¬ (FirstFault ts at why) }
+{}
+
+/// Tokens in the order of a text always have one or the other.
+pub fn always_one()
+    ensures { (ts : List Lexeme) → InOrder 0 ts → ((fields : List Field) × Syn ts fields)
+        ⊎ ((at : ℕ) × (why : Reason) × FirstFault ts at why) }
+{}
+
+/// The fields that tokens say are fewer than `2^32`, with all that is in them, since each of these has a token.
+pub fn few_fields()
+    ensures { (ts : List Lexeme) (fields : List Field) → InOrder 0 ts → Syn ts fields → IsSurface fields }
+{}
