@@ -1,5 +1,6 @@
 -- Tokens say one list of fields, or have one first fault.
-use Rattle.std.proofs.Common.{◌≡◌, ℕ, zero, suc, ◌+◌, List, [], ◌∷◌, ◌++◌, length, drop, ◌⊎◌, inl, inr, refl, sym, ap, subst, ◌∙◌}
+use Rattle.std.proofs.Common.{◌≡◌, ℕ, List, [], ◌∷◌, drop, ◌⊎◌, inl, inr, refl, sym, ap}
+use Rattle.std.proofs.Common.{subst, ◌∙◌}
 use Rattle.std.proofs.Common.{Result, Ok, Err, IfOk, IfErr, IsErrAnd, MatchResult}
 use Rattle.std.specs.List.{AllByRecursion}
 use Rattle.wc_tokens.specs.Standard.Lexemes.{Lexeme}
@@ -9,12 +10,12 @@ use Rattle.wc_syntax.specs.declared.kind.Kind.{Kind}
 use Rattle.wc_syntax.specs.declared.role.Role.{Role}
 use Rattle.wc_syntax.specs.declared.why.SynWhy.{SynWhy}
 use Rattle.wc_syntax.specs.Phrases.{word, mark}
-use Rattle.wc_syntax.specs.Deriving.{Event, kept, at, numbered}
+use Rattle.wc_syntax.specs.Deriving.{Event, kept, at}
 use Rattle.wc_syntax.specs.Parsing.{IsText}
-use Rattle.wc_syntax.proofs.Exactness.{always-one as kinds-always-one, not-both as kinds-not-both, one-list as kinds-one-list, one-fault as kinds-one-fault}
+use Rattle.wc_syntax.proofs.Exactness.{always-one as kinds-always-one, not-both as kinds-not-both}
+use Rattle.wc_syntax.proofs.Exactness.{one-list as kinds-one-list, one-fault as kinds-one-fault}
 use Rattle.wc_words.specs.declared.symbol.Symbol.{Symbol}
 use Rattle.wc_words.proofs.RangeLemmas.{TokenIs-same}
-use Rattle.wc_drafts.specs.declared.word.Word.{Word}
 use Rattle.wc_drafts.specs.Standard.Tokens.{kept_token}
 use Rattle.wc_surface.specs.declared.field.Field.{Field}
 use Rattle.wc_surface.specs.Standard.Sizes.{IsSurface}
@@ -45,19 +46,22 @@ same-item : (i j : Item) → i.role ≡ j.role → i.word.token ≡ j.word.token
     → i.word.text ≡ j.word.text → i.bytes ≡ j.bytes → i ≡ j
 same-item i j a b c d e =
     let same : parts i.role i.word.token i.word.symbol i.word.text i.bytes
-        ≡ parts j.role j.word.token j.word.symbol j.word.text j.bytes = rw (a, b, c, d, e) refl in
+    ≡ parts j.role j.word.token j.word.symbol j.word.text j.bytes = rw (a, b, c, d, e) refl in
     same
 
 one-item : (ts : List Lexeme) (e : Event) (i j : Item) → IsItem ts e i → IsItem ts e j → i ≡ j
 one-item ts e i j v w =
-    let events : kept i.role (at i.word.token (word i.word.symbol.kind)) ≡ kept j.role (at j.word.token (word j.word.symbol.kind)) = sym v.event ∙ w.event in
+    let events : kept i.role (at i.word.token (word i.word.symbol.kind))
+    ≡ kept j.role (at j.word.token (word j.word.symbol.kind)) = sym v.event ∙ w.event in
     let role : i.role ≡ j.role = cc in
     let token : i.word.token ≡ j.word.token = cc in
     let lists : v.lexeme ∷ v.rest ≡ w.lexeme ∷ w.rest = sym v.stands ∙ ap (λ (n : ℕ). drop n ts) token ∙ w.stands in
     let lexeme : w.lexeme ≡ v.lexeme = cc in
-    let symbol : i.word.symbol ≡ j.word.symbol = TokenIs-same v.lexeme.kind v.lexeme.text i.word.symbol j.word.symbol v.symbol (rw (sym lexeme) w.symbol) in
+    let symbol : i.word.symbol ≡ j.word.symbol =
+    TokenIs-same v.lexeme.kind v.lexeme.text i.word.symbol j.word.symbol v.symbol (rw (sym lexeme) w.symbol) in
     let text : i.word.text ≡ j.word.text = v.text ∙ ap (λ (t : Lexeme). t.text) (sym lexeme) ∙ sym w.text in
-    let bytes : i.bytes ≡ j.bytes = stands-same v.lexeme.kind v.lexeme.text i.bytes j.bytes v.bytes (subst (λ (t : Lexeme). StandsFor t.kind t.text j.bytes) lexeme w.bytes) in
+    let bytes : i.bytes ≡ j.bytes = stands-same v.lexeme.kind v.lexeme.text i.bytes j.bytes v.bytes
+    (subst (λ (t : Lexeme). StandsFor t.kind t.text j.bytes) lexeme w.bytes) in
     same-item i j role token symbol text bytes
 
 -- ---- at most one of each, and never both
@@ -65,14 +69,17 @@ one-item ts e i j v w =
 pub one-list : (ts : List Lexeme) (fs gs : List Field) → Syn ts fs → Syn ts gs → fs ≡ gs
 one-list ts fs gs v w =
     let kinds : w.kinds ≡ v.kinds = one-kinds w.are_kinds v.are_kinds in
-    let es : v.es ≡ w.es = kinds-one-list nesting_limit v.kinds v.es w.es v.text (subst (λ (ks : List Kind). IsText nesting_limit ks w.es) kinds w.text) in
-    let items : v.items ≡ w.items = each-same (one-item ts) v.are_items (subst (λ (es : List Event). Each (IsItem ts) es w.items) (sym es) w.are_items) in
+    let es : v.es ≡ w.es = kinds-one-list nesting_limit v.kinds v.es w.es v.text
+    (subst (λ (ks : List Kind). IsText nesting_limit ks w.es) kinds w.text) in
+    let items : v.items ≡ w.items = each-same (one-item ts) v.are_items
+    (subst (λ (es : List Event). Each (IsItem ts) es w.items) (sym es) w.are_items) in
     v.says ∙ ap said items ∙ sym w.says
 
 pub never-both : (ts : List Lexeme) (fs : List Field) (p : ℕ) (y : SynWhy) → Syn ts fs → FirstFault ts p y → ⊥
 never-both ts fs p y v w =
     let kinds : v.kinds ≡ w.kinds = one-kinds v.are_kinds w.are_kinds in
-    kinds-not-both nesting_limit w.kinds v.es p y (subst (λ (ks : List Kind). IsText nesting_limit ks v.es) kinds v.text) w.first
+    kinds-not-both nesting_limit w.kinds v.es p y
+    (subst (λ (ks : List Kind). IsText nesting_limit ks v.es) kinds v.text) w.first
 
 pub one-fault : (ts : List Lexeme) (p q : ℕ) (y z : SynWhy) → FirstFault ts p y → FirstFault ts q z → (p ≡ q) × (y ≡ z)
 one-fault ts p q y z v w =
@@ -84,19 +91,22 @@ one-fault ts p q y z v w =
 abbrev Items : List Lexeme → List Event → Type 0
 Items ts es = (is : List Item) × Each (IsItem ts) es is
 
-one-more : (ts : List Lexeme) (r : Role) (n : ℕ) (k : Kind) → Stands ts n k → (i : Item) × IsItem ts (kept r (at n (word k))) i
+one-more : (ts : List Lexeme) (r : Role) (n : ℕ) (k : Kind) → Stands ts n k
+    → (i : Item) × IsItem ts (kept r (at n (word k))) i
 one-more ts r n k w =
     let s = w.kind.0 in
-    let b = some-meaning w.lexeme.kind w.lexeme.text s w.kind.1 in
-    (record { role = r; word = kept_token n s w.lexeme.text; bytes = b.0 }, record {
-      lexeme = w.lexeme;
-      rest = w.rest;
-      stands = w.stands;
-      event = ap (λ (x : Kind). kept r (at n (word x))) w.kind.2;
-      symbol = w.kind.1;
-      text = refl;
-      bytes = b.1;
-    })
+    let b = some-meaning w.lexeme.kind w.lexeme.text s w.kind.1 in (
+      record { role = r; word = kept_token n s w.lexeme.text; bytes = b.0 },
+      record {
+        lexeme = w.lexeme;
+        rest = w.rest;
+        stands = w.stands;
+        event = ap (λ (x : Kind). kept r (at n (word x))) w.kind.2;
+        symbol = w.kind.1;
+        text = refl;
+        bytes = b.1;
+      },
+    )
 
 some-items : (ts : List Lexeme) (es : List Event) → AllByRecursion (λ e. IsThere ts (item_of e)) es → Items ts es
 some-items ts [] h = ([], none)
@@ -106,13 +116,25 @@ some-items ts (kept r (at n (word k)) ∷ es) h =
     (i.0 ∷ is.0, more i.1 is.1)
 some-items ts (kept r (at n mark) ∷ es) h = absurd h.0
 
-pub always-one : (ts : List Lexeme) → InOrder 0 ts → ((fields : List Field) × Syn ts fields) ⊎ ((p : ℕ) × (y : SynWhy) × FirstFault ts p y)
+pub always-one : (ts : List Lexeme) → InOrder 0 ts
+    → ((fields : List Field) × Syn ts fields) ⊎ ((p : ℕ) × (y : SynWhy) × FirstFault ts p y)
 always-one ts o =
     let ks = some-kinds 0 ts o in
     elim (kinds-always-one nesting_limit ks.0) [
       | inl (es, h) ↦
-        let is = some-items ts es (kept-have (IsThere ts) h (all-there ts ks.0 o ks.1)) in
-        inl (said is.0, record { kinds = ks.0; are_kinds = ks.1; es = es; text = h; items = is.0; are_items = is.1; says = refl })
+          let is = some-items ts es (kept-have (IsThere ts) h (all-there ts ks.0 o ks.1)) in
+          inl (
+            said is.0,
+            record {
+              kinds = ks.0;
+              are_kinds = ks.1;
+              es = es;
+              text = h;
+              items = is.0;
+              are_items = is.1;
+              says = refl;
+            },
+          )
       | inr (p, y, f) ↦ inr (p, y, record { kinds = ks.0; are_kinds = ks.1; first = f })
     ]
 
@@ -125,11 +147,13 @@ few-fields = fewer-than-bytes
 abbrev pub Answers : List Lexeme → Result (List Field) SynFault → Type 0
 Answers ts result = MatchResult result (λ fields. Syn ts fields) (λ f. IsFault ts f)
 
-pub answers-fields : (ts : List Lexeme) (result : Result (List Field) SynFault) → Answers ts result → IfOk result (λ fields. Syn ts fields)
+pub answers-fields : (ts : List Lexeme) (result : Result (List Field) SynFault) → Answers ts result
+    → IfOk result (λ fields. Syn ts fields)
 answers-fields ts (Ok fields) a = a
 answers-fields ts (Err f) a = tt
 
-pub answers-fault : (ts : List Lexeme) (result : Result (List Field) SynFault) → Answers ts result → IfErr result (λ f. IsFault ts f)
+pub answers-fault : (ts : List Lexeme) (result : Result (List Field) SynFault) → Answers ts result
+    → IfErr result (λ f. IsFault ts f)
 answers-fault ts (Ok fields) a = tt
 answers-fault ts (Err f) a = a
 

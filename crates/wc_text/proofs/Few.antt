@@ -1,25 +1,26 @@
 -- The fields that tokens say are no more than the bytes of the tokens.
-use Rattle.std.proofs.Common.{◌≡◌, ℕ, zero, suc, ◌+◌, ◌<◌, ◌≤◌, ◌^◌, List, [], ◌∷◌, length, drop, get_or, refl, sym, ap, arith, subst, ◌∙◌}
+use Rattle.std.proofs.Common.{◌≡◌, ℕ, ◌<◌, ◌≤◌, ◌^◌, List, [], ◌∷◌, length, drop, refl, sym}
+use Rattle.std.proofs.Common.{arith, subst, ◌∙◌}
 use Rattle.std.specs.Prelude.{sum_by}
 use Rattle.std.specs.List.{All, AllByRecursion}
-use Rattle.std.proofs.lemmas.List.Sums.{sum_by-cons, sum_by-le-sum_by, get_or-le-sum_by}
+use Rattle.std.proofs.lemmas.List.Sums.{sum_by-cons, sum_by-le-sum_by}
 use Rattle.std.proofs.lemmas.List.Elements.{All-nil, All-cons}
 use Rattle.wc_tokens.specs.Standard.Lexemes.{Lexeme}
 use Rattle.wc_tokens.specs.Standard.Tokens.{InOrder}
-use Rattle.wc_syntax.specs.Phrases.{word}
-use Rattle.wc_syntax.specs.Deriving.{Event, at, kept, numbered}
+use Rattle.wc_syntax.specs.Deriving.{Event}
 use Rattle.wc_surface.specs.declared.field.Field.{Field}
 use Rattle.wc_surface.specs.Standard.Sizes.{field_size, inline_size, IsSurface}
-use Rattle.wc_text.specs.Standard.Texts.{Item, said}
+use Rattle.wc_text.specs.Standard.Texts.{Item}
 use Rattle.wc_text.specs.Standard.Meaning.{Each, none, more, IsItem, StandsFor, Syn}
-use Rattle.wc_text.proofs.Forms.{text_size, within}
+use Rattle.wc_text.proofs.Forms.{within}
 use Rattle.wc_text.proofs.Strings.{stands-short}
 use Rattle.wc_text.proofs.Weights.{item_of, weighs, kept-weigh, kept-have}
 use Rattle.wc_text.proofs.Kept.{Stands, IsThere, all-there, first_size, weight, all-weigh}
 use Rattle.wc_text.proofs.Sizes.{whole_size, item_size, said-size}
 
 -- a kept token weighs no more than its text is long
-item-short : (ts : List Lexeme) (e : Event) (i : Item) → IsItem ts e i → IsThere ts (item_of e) → item_size i ≤ weighs (weight ts) e
+item-short : (ts : List Lexeme) (e : Event) (i : Item) → IsItem ts e i → IsThere ts (item_of e)
+    → item_size i ≤ weighs (weight ts) e
 item-short ts e i w h =
     let n = i.word.token in
     let there : Stands ts n i.word.symbol.kind = subst (λ (x : Event). IsThere ts (item_of x)) w.event h in
@@ -36,9 +37,16 @@ items-short ts [] [] none h = omega arith
 items-short ts [] (i ∷ is) d h = elim d [ ]
 items-short ts (e ∷ es) [] d h = elim d [ ]
 items-short ts (e ∷ es) (i ∷ is) (more w d) h =
-    omega (arith, item-short ts e i w h.0, items-short ts es is d h.1, sum_by-cons item_size i is, sum_by-cons (weighs (weight ts)) e es)
+    omega (
+      arith,
+      item-short ts e i w h.0,
+      items-short ts es is d h.1,
+      sum_by-cons item_size i is,
+      sum_by-cons (weighs (weight ts)) e es,
+    )
 
-pub fields-short : (ts : List Lexeme) (fields : List Field) → InOrder 0 ts → Syn ts fields → sum_by whole_size fields ≤ 4294967295
+pub fields-short : (ts : List Lexeme) (fields : List Field) → InOrder 0 ts → Syn ts fields
+    → sum_by whole_size fields ≤ 4294967295
 fields-short ts fields o v =
     let there = kept-have (IsThere ts) v.text (all-there ts v.kinds o v.are_kinds) in
     let items = items-short ts v.es v.items v.are_items there in
@@ -51,12 +59,14 @@ fields-short ts fields o v =
 all-below : {X : Type 0} (f : X → ℕ) (xs : List X) → sum_by f xs < 2 ^ 32 → All (λ x. f x < 2 ^ 32) xs
 all-below f [] h = All-nil (λ y. f y < 2 ^ 32)
 all-below f (x ∷ xs) h =
-    All-cons (λ y. f y < 2 ^ 32) x xs (omega (arith, sum_by-cons f x xs)) (all-below f xs (omega (arith, sum_by-cons f x xs)))
+    All-cons (λ y. f y < 2 ^ 32) x xs (omega (arith, sum_by-cons f x xs))
+    (all-below f xs (omega (arith, sum_by-cons f x xs)))
 
 pub fewer-than-bytes : (ts : List Lexeme) (fields : List Field) → InOrder 0 ts → Syn ts fields → IsSurface fields
 fewer-than-bytes ts fields o v =
     let short = fields-short ts fields o v in
     record {
       sized = omega (arith, short, sum_by-le-sum_by field_size whole_size fields (λ f. omega arith));
-      inlined = all-below inline_size fields (omega (arith, short, sum_by-le-sum_by inline_size whole_size fields (λ f. omega arith)));
+      inlined = all-below inline_size fields
+          (omega (arith, short, sum_by-le-sum_by inline_size whole_size fields (λ f. omega arith)));
     }

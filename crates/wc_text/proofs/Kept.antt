@@ -1,5 +1,5 @@
 -- The tokens that are kept stand in the text.
-use Rattle.std.proofs.Common.{◌≡◌, ℕ, zero, suc, ◌+◌, ◌<◌, ◌≤◌, List, [], ◌∷◌, ◌++◌, length, drop, refl, sym, ap, arith, subst, ◌∙◌}
+use Rattle.std.proofs.Common.{◌≡◌, ℕ, zero, suc, List, [], ◌∷◌, drop, refl}
 use Rattle.std.specs.Prelude.{sum_by}
 use Rattle.std.specs.List.{AllByRecursion}
 use Rattle.std.proofs.lemmas.List.Sums.{sum_by-cons}
@@ -34,10 +34,14 @@ there : (ts us : List Lexeme) (ks : List Kind) (n from : ℕ) → drop n ts ≡ 
 there ts [] [] n from e o none = tt
 there ts [] (k ∷ ks) n from e o d = elim d [ ]
 there ts (t ∷ us) [] n from e o d = elim d [ ]
-there ts (t ∷ us) (k ∷ ks) n from e o (more h d) =
-    (record { lexeme = t; rest = us; stands = e; kind = h; form = o.0.form }, there ts us ks (suc n) t.stop (drop-more n ts t us e) o.1 d)
+there ts (t ∷ us) (k ∷ ks) n from e o (more h d) = (
+  record { lexeme = t; rest = us; stands = e; kind = h; form = o.0.form },
+  there ts us ks (suc n) t.stop
+      (drop-more n ts t us e) o.1 d,
+)
 
-pub all-there : (ts : List Lexeme) (ks : List Kind) → InOrder 0 ts → Each HasKind ts ks → AllByRecursion (IsThere ts) (numbered 0 ks)
+pub all-there : (ts : List Lexeme) (ks : List Kind) → InOrder 0 ts → Each HasKind ts ks
+    → AllByRecursion (IsThere ts) (numbered 0 ks)
 all-there ts ks o d = there ts ts ks 0 0 refl o d
 
 -- the length of the first text
@@ -59,5 +63,6 @@ weights ts (t ∷ us) (k ∷ ks) n e (more h d) =
     let f : first_size (drop n ts) ≡ text_size t = rw e refl in
     rw (sum_by-cons (weight ts) (at n (word k)) (numbered (suc n) ks), sum_by-cons text_size t us, f, r) refl
 
-pub all-weigh : (ts : List Lexeme) (ks : List Kind) → Each HasKind ts ks → sum_by (weight ts) (numbered 0 ks) ≡ sum_by text_size ts
+pub all-weigh : (ts : List Lexeme) (ks : List Kind) → Each HasKind ts ks
+    → sum_by (weight ts) (numbered 0 ks) ≡ sum_by text_size ts
 all-weigh ts ks d = weights ts ts ks 0 refl d

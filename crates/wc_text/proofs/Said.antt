@@ -1,6 +1,6 @@
 -- One more token of a text.
-use Rattle.std.proofs.Common.{◌≡◌, ℕ, zero, suc, ◌+◌, ◌<◌, ◌≤◌, List, [], ◌∷◌, ◌++◌, length, drop, take, Some, None}
-use Rattle.std.proofs.Common.{refl, sym, ap, arith, subst, ◌∙◌, append_assoc, append-nil, add-one}
+use Rattle.std.proofs.Common.{◌≡◌, ℕ, zero, suc, ◌+◌, List, [], ◌∷◌, ◌++◌, length, drop, take, Some, None}
+use Rattle.std.proofs.Common.{refl, sym, ap, subst, ◌∙◌, append-nil, add-one}
 use Rattle.std.proofs.lemmas.List.{take-append-drop}
 use Rattle.wc_tokens.specs.Standard.Lexemes.{Lexeme}
 use Rattle.wc_tokens.specs.Standard.Tokens.{InOrder}
@@ -20,7 +20,7 @@ use Rattle.wc_words.specs.Tokens.{TokenIs}
 use Rattle.wc_drafts.specs.Standard.Tokens.{kept_token}
 use Rattle.wc_text.specs.declared.text_draft.TextDraft.{TextDraft}
 use Rattle.wc_text.specs.Standard.Texts.{Item, nothing, take_by, take_item, take_items}
-use Rattle.wc_text.specs.Standard.Meaning.{Each, none, more, HasKind, StandsFor, IsItem, Syn}
+use Rattle.wc_text.specs.Standard.Meaning.{Each, none, more, HasKind, StandsFor, Syn}
 use Rattle.wc_text.specs.Standard.Faults.{FirstFault, IsFault}
 use Rattle.wc_text.specs.Standard.Refused.{of_refusal}
 use Rattle.wc_text.specs.Kept.SaidSoFar.{IsSaid}
@@ -36,7 +36,8 @@ take-one zero (y ∷ xs) x rest e = let f : y ≡ x = cc in rw f refl
 take-one (suc n) [] x rest e = absurd cc
 take-one (suc n) (y ∷ xs) x rest e = ap (λ (l : List _). y ∷ l) (take-one n xs x rest e)
 
-length-take-one : {X : Type 0} (n : ℕ) (xs : List X) (x : X) (rest : List X) → drop n xs ≡ x ∷ rest → length (take n xs) ≡ n
+length-take-one : {X : Type 0} (n : ℕ) (xs : List X) (x : X) (rest : List X) → drop n xs ≡ x ∷ rest
+    → length (take n xs) ≡ n
 length-take-one zero xs x rest e = refl
 length-take-one (suc n) [] x rest e = absurd cc
 length-take-one (suc n) (y ∷ xs) x rest e = ap suc (length-take-one n xs x rest e)
@@ -53,7 +54,8 @@ order-from (suc n) from (u ∷ ts) t rest o e = order-from n u.stop ts t rest o.
 
 -- ---- the start
 
-pub said-first : (ts : List Lexeme) (s : Standing) (d : TextDraft) → IsRead nesting_limit [] [] s → d ≡ nothing → IsSaid ts 0 s d
+pub said-first : (ts : List Lexeme) (s : Standing) (d : TextDraft) → IsRead nesting_limit [] [] s → d ≡ nothing
+    → IsSaid ts 0 s d
 said-first ts s d r e = record {
   kinds = [];
   are_kinds = none;
@@ -66,17 +68,22 @@ said-first ts s d r e = record {
 
 -- ---- one more token
 
-pub said-count : {ts : List Lexeme} {n : ℕ} {s : Standing} {d : TextDraft} (w : IsSaid ts n s d) (t : Lexeme) (rest : List Lexeme)
+pub said-count : {ts : List Lexeme} {n : ℕ} {s : Standing} {d : TextDraft} (w : IsSaid ts n s d) (t : Lexeme)
+    (rest : List Lexeme)
     → drop n ts ≡ t ∷ rest → n ≡ length w.kinds
 said-count {ts} {n} w t rest e = sym (length-take-one n ts t rest e) ∙ each-length w.are_kinds
 
-more-kinds : {ts : List Lexeme} {n : ℕ} {s : Standing} {d : TextDraft} (w : IsSaid ts n s d) (t : Lexeme) (rest : List Lexeme)
-    (o : Symbol) → drop n ts ≡ t ∷ rest → TokenIs t.kind t.text o → Each HasKind (take (n + 1) ts) (w.kinds ++ o.kind ∷ [])
+more-kinds : {ts : List Lexeme} {n : ℕ} {s : Standing} {d : TextDraft} (w : IsSaid ts n s d) (t : Lexeme)
+    (rest : List Lexeme)
+    (o : Symbol) → drop n ts ≡ t ∷ rest → TokenIs t.kind t.text o
+    → Each HasKind (take (n + 1) ts) (w.kinds ++ o.kind ∷ [])
 more-kinds {ts} {n} w t rest o e h =
-    subst (λ (l : List Lexeme). Each HasKind l (w.kinds ++ o.kind ∷ [])) (sym (ap (λ (m : ℕ). take m ts) (add-one n) ∙ take-one n ts t rest e))
+    subst (λ (l : List Lexeme). Each HasKind l (w.kinds ++ o.kind ∷ []))
+    (sym (ap (λ (m : ℕ). take m ts) (add-one n) ∙ take-one n ts t rest e))
     (each-one w.are_kinds (o, h, refl))
 
-pub said-dropped : {ts : List Lexeme} {n : ℕ} {s : Standing} {d : TextDraft} (w : IsSaid ts n s d) (t : Lexeme) (rest : List Lexeme)
+pub said-dropped : {ts : List Lexeme} {n : ℕ} {s : Standing} {d : TextDraft} (w : IsSaid ts n s d) (t : Lexeme)
+    (rest : List Lexeme)
     (o : Symbol) (s' : Standing) → drop n ts ≡ t ∷ rest → TokenIs t.kind t.text o
     → IsRead nesting_limit (w.kinds ++ o.kind ∷ []) (w.es ++ kept_as None n o.kind) s' → IsSaid ts (n + 1) s' d
 said-dropped {ts} {n} w t rest o s' e h r = record {
@@ -96,8 +103,10 @@ take-last d (j ∷ is) i = take-last (take_item d j) is i
 abbrev item : Role → ℕ → Symbol → List ℕ → List ℕ → Item
 item r n o text bytes = record { role = r; word = kept_token n o text; bytes = bytes }
 
-pub said-kept : {ts : List Lexeme} {n : ℕ} {s : Standing} {d : TextDraft} (w : IsSaid ts n s d) (t : Lexeme) (rest : List Lexeme)
-    (o : Symbol) (role : Role) (bytes : List ℕ) (s' : Standing) (d' : TextDraft) → drop n ts ≡ t ∷ rest → TokenIs t.kind t.text o
+pub said-kept : {ts : List Lexeme} {n : ℕ} {s : Standing} {d : TextDraft} (w : IsSaid ts n s d) (t : Lexeme)
+    (rest : List Lexeme)
+    (o : Symbol) (role : Role) (bytes : List ℕ) (s' : Standing) (d' : TextDraft) → drop n ts ≡ t ∷ rest
+    → TokenIs t.kind t.text o
     → IsRead nesting_limit (w.kinds ++ o.kind ∷ []) (w.es ++ kept_as (Some role) n o.kind) s'
     → StandsFor t.kind t.text bytes → d' ≡ take_by role (kept_token n o t.text) bytes d → IsSaid ts (n + 1) s' d'
 said-kept {ts} {n} w t rest o role bytes s' d' e h r b q = record {
@@ -121,13 +130,15 @@ said-kept {ts} {n} w t rest o role bytes s' d' e h r b q = record {
 
 -- ---- a token that no text has there
 
-pub said-refused : {ts : List Lexeme} {n : ℕ} {s : Standing} {d : TextDraft} (w : IsSaid ts n s d) (t : Lexeme) (rest : List Lexeme)
+pub said-refused : {ts : List Lexeme} {n : ℕ} {s : Standing} {d : TextDraft} (w : IsSaid ts n s d) (t : Lexeme)
+    (rest : List Lexeme)
     (o : Symbol) (f : Refusal) → drop n ts ≡ t ∷ rest → InOrder 0 ts → TokenIs t.kind t.text o
     → ((later : List Kind) → IsRefusal nesting_limit (w.kinds ++ o.kind ∷ later) f) → IsFault ts (of_refusal f)
 said-refused w t rest o refusal.Memory e order h f = tt
 said-refused {ts} {n} w t rest o (refusal.Bad p y) e order h f =
     let later = some-kinds t.stop rest (order-from n 0 ts t rest order e) in
-    let whole : Each HasKind (take n ts ++ t ∷ rest) (w.kinds ++ o.kind ∷ later.0) = each-append w.are_kinds (more (o, h, refl) later.1) in
+    let whole : Each HasKind (take n ts ++ t ∷ rest) (w.kinds ++ o.kind ∷ later.0) = each-append w.are_kinds
+    (more (o, h, refl) later.1) in
     let same : take n ts ++ t ∷ rest ≡ ts = ap (λ (l : List Lexeme). take n ts ++ l) (sym e) ∙ take-append-drop n ts in
     record {
       kinds = w.kinds ++ o.kind ∷ later.0;

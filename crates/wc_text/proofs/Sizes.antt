@@ -1,8 +1,8 @@
 -- A text says no more than it has bytes.
-use Rattle.std.proofs.Common.{◌≡◌, ℕ, zero, suc, ◌+◌, ◌<◌, ◌≤◌, Bool, true, false, List, [], ◌∷◌, ◌++◌, length, Option, Some, None}
-use Rattle.std.proofs.Common.{refl, sym, ap, arith, subst, ◌∙◌}
+use Rattle.std.proofs.Common.{◌≡◌, ℕ, suc, ◌+◌, ◌≤◌, Bool, true, false, List, [], ◌∷◌, length}
+use Rattle.std.proofs.Common.{Option, Some, None}
+use Rattle.std.proofs.Common.{refl, arith}
 use Rattle.std.specs.Prelude.{sum_by}
-use Rattle.std.specs.List.{All}
 use Rattle.std.proofs.lemmas.List.{length-append}
 use Rattle.std.proofs.lemmas.List.Sums.{sum_by-append, sum_by-cons}
 use Rattle.wc_syntax.specs.declared.kind.Kind.{Kind}
@@ -17,20 +17,21 @@ use Rattle.wc_ast.specs.declared.limits.Limits.{Limits}
 use Rattle.wc_ast.specs.declared.limits.GlobalType.{GlobalType}
 use Rattle.wc_surface.specs.declared.field.Field.{Field}
 use Rattle.wc_surface.specs.declared.field.ImportNames.{ImportNames}
-use Rattle.wc_surface.specs.Standard.Sizes.{field_size, inline_size, import_size, func_size, global_size, table_inline, memory_inline}
+use Rattle.wc_surface.specs.Standard.Sizes.{field_size, inline_size, import_size, func_size, global_size}
+use Rattle.wc_surface.specs.Standard.Sizes.{table_inline, memory_inline}
 use Rattle.wc_surface.specs.Standard.WrittenLocals.{local}
 use Rattle.wc_drafts.specs.declared.use_draft.UseDraft.{UseDraft}
 use Rattle.wc_drafts.specs.declared.word.Word.{Word}
 use Rattle.wc_drafts.specs.Standard.Sizes.{said_size}
 use Rattle.wc_drafts.specs.Standard.Words.{index_of}
 use Rattle.wc_drafts.proofs.SizeLemmas.{take_use-size, take-size, ended-size}
-use Rattle.wc_fields.specs.declared.names.Names.{Names}
 use Rattle.wc_fields.specs.declared.locals_draft.LocalsDraft.{LocalsDraft}
 use Rattle.wc_fields.specs.declared.contents.Contents.{Contents}
 use Rattle.wc_fields.specs.declared.code_draft.CodeDraft.{CodeDraft}
 use Rattle.wc_fields.specs.declared.field_draft.FieldDraft.{FieldDraft}
-use Rattle.wc_fields.specs.Standard.Fields.{started, take_string, take_word, take_part, with_use_part, with_local, take_local, take_content}
-use Rattle.wc_fields.specs.Standard.Finished.{finished_by, finished, asked, func_by, table_by, memory_by, global_by, import_by}
+use Rattle.wc_fields.specs.Standard.Fields.{started, take_string, take_word, take_part, with_use_part, with_local}
+use Rattle.wc_fields.specs.Standard.Finished.{finished_by, finished, asked, func_by, table_by, memory_by, global_by}
+use Rattle.wc_fields.specs.Standard.Finished.{import_by}
 use Rattle.wc_text.specs.declared.text_draft.TextDraft.{TextDraft}
 use Rattle.wc_text.specs.Standard.Texts.{Item, nothing, take_by, take_item, take_items}
 
@@ -71,7 +72,8 @@ import-size export.Table u l g = omega arith
 import-size export.Memory u l g = omega arith
 import-size export.Global u l g = omega arith
 
-func-size : (o : Option ImportNames) (l : LocalsDraft) (c : CodeDraft) → func_size (func_by o l c) ≤ length l.locals + said_size c.body
+func-size : (o : Option ImportNames) (l : LocalsDraft) (c : CodeDraft)
+    → func_size (func_by o l c) ≤ length l.locals + said_size c.body
 func-size (Some n) l c = omega arith
 func-size None l c = omega (arith, ended-size c.body)
 
@@ -79,12 +81,14 @@ global-size : (o : Option ImportNames) (c : CodeDraft) → global_size (global_b
 global-size (Some n) c = omega arith
 global-size None c = omega (arith, ended-size c.body)
 
-table-size : (o : Option ImportNames) (b : Bool) (l : Limits) (c : Contents) → c.inside ≡ b → table_inline (table_by o l c) ≤ length c.elements
+table-size : (o : Option ImportNames) (b : Bool) (l : Limits) (c : Contents) → c.inside ≡ b
+    → table_inline (table_by o l c) ≤ length c.elements
 table-size (Some n) b l c e = omega arith
 table-size None true l c e = rw e (omega arith)
 table-size None false l c e = rw e (omega arith)
 
-memory-size : (o : Option ImportNames) (b : Bool) (l : Limits) (c : Contents) → c.inside ≡ b → memory_inline (memory_by o l c) ≤ length c.bytes
+memory-size : (o : Option ImportNames) (b : Bool) (l : Limits) (c : Contents) → c.inside ≡ b
+    → memory_inline (memory_by o l c) ≤ length c.bytes
 memory-size (Some n) b l c e = omega arith
 memory-size None true l c e = rw e (omega arith)
 memory-size None false l c e = rw e (omega arith)
@@ -105,7 +109,8 @@ finished-size _ d = omega arith
 
 -- ---- one more part of a field
 
-string-size : (d : FieldDraft) (r : Role) (bytes : List ℕ) → draft_size (take_string d r bytes) ≤ draft_size d + length bytes
+string-size : (d : FieldDraft) (r : Role) (bytes : List ℕ)
+    → draft_size (take_string d r bytes) ≤ draft_size d + length bytes
 string-size d role.ExportName bytes = omega arith
 string-size d role.ModuleName bytes = omega arith
 string-size d role.ItemName bytes = omega arith
@@ -162,7 +167,8 @@ started-size kind.ElemWord token = omega arith
 started-size kind.DataWord token = omega arith
 started-size _ token = omega arith
 
-by-size : (r : Role) (w : Word) (bytes : List ℕ) (d : TextDraft) → text_size (take_by r w bytes d) ≤ text_size d + suc (length bytes)
+by-size : (r : Role) (w : Word) (bytes : List ℕ) (d : TextDraft)
+    → text_size (take_by r w bytes d) ≤ text_size d + suc (length bytes)
 by-size role.Field w bytes d = omega (arith, started-size w.symbol.kind w.token)
 by-size role.FieldEnd w bytes d =
     omega (arith, sum_by-append whole_size d.fields (finished d.field ∷ []), finished-size d.field.kind d.field)

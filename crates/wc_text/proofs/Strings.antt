@@ -1,5 +1,6 @@
 -- What strings stand for.
-use Rattle.std.proofs.Common.{◌≡◌, ℕ, suc, ◌+◌, ◌<◌, ◌≤◌, List, [], ◌∷◌, ◌++◌, length, refl, sym, ◌∙◌, arith, length-append, subst}
+use Rattle.std.proofs.Common.{◌≡◌, ℕ, suc, ◌≤◌, List, [], ◌∷◌, ◌++◌, length, refl, sym, ◌∙◌, arith}
+use Rattle.std.proofs.Common.{length-append}
 use Rattle.std.specs.Prelude.{encode_utf8}
 use Rattle.std.proofs.lemmas.Str.{length-encode, len_utf8_bounds}
 use Rattle.wc_tokens.specs.declared.token.TokenKind.{TokenKind}
@@ -30,7 +31,8 @@ some-bytes : {text : List ℕ} {s : Symbol} → StringIs text s → (bytes : Lis
 some-bytes (name {bytes = bytes} i u) = (bytes, i)
 some-bytes (no_name {bytes = bytes} i u) = (bytes, i)
 
-pub some-meaning : (k : TokenKind) (text : List ℕ) (s : Symbol) → TokenIs k text s → (bytes : List ℕ) × StandsFor k text bytes
+pub some-meaning : (k : TokenKind) (text : List ℕ) (s : Symbol) → TokenIs k text s
+    → (bytes : List ℕ) × StandsFor k text bytes
 some-meaning token.Str text s t = some-bytes t
 some-meaning token.Open text s t = ([], refl)
 some-meaning token.Close text s t = ([], refl)
@@ -54,7 +56,8 @@ elements-short (more {part = part} {rest = rest} {value = value} {values = value
 string-short : {text bytes : List ℕ} → IsString text bytes → suc (length bytes) ≤ length text
 string-short {text} {bytes} i = rw i.text_is (omega (arith, elements-short i.elements, length-append i.body (34 ∷ [])))
 
-pub stands-short : (k : TokenKind) (text bytes : List ℕ) → HasForm k text → StandsFor k text bytes → suc (length bytes) ≤ length text
+pub stands-short : (k : TokenKind) (text bytes : List ℕ) → HasForm k text → StandsFor k text bytes
+    → suc (length bytes) ≤ length text
 stands-short token.Str text bytes h s = string-short s
 stands-short token.Open text bytes h s = rw s (some-text token.Open text h)
 stands-short token.Close text bytes h s = rw s (some-text token.Close text h)

@@ -1,13 +1,12 @@
 -- What is kept of tokens is of the tokens.
-use Rattle.std.proofs.Common.{◌≡◌, ℕ, zero, suc, ◌+◌, ◌<◌, ◌≤◌, List, [], ◌∷◌, ◌++◌, length, drop, refl, sym, ap, arith, subst, ◌∙◌}
+use Rattle.std.proofs.Common.{ℕ, ◌≤◌, List, [], ◌∷◌, ◌++◌}
+use Rattle.std.proofs.Common.{arith}
 use Rattle.std.specs.Prelude.{sum_by}
 use Rattle.std.specs.List.{AllByRecursion}
 use Rattle.std.proofs.lemmas.List.Sums.{sum_by-append}
-use Rattle.wc_tokens.specs.Standard.Lexemes.{Lexeme}
-use Rattle.wc_syntax.specs.declared.kind.Kind.{Kind}
-use Rattle.wc_syntax.specs.Phrases.{Phrase, word}
-use Rattle.wc_syntax.specs.Deriving.{Item, at, numbered, Event, kept, Derives, empty, token, keeps, then, left, right, none, more, rule}
-
+use Rattle.wc_syntax.specs.Phrases.{Phrase}
+use Rattle.wc_syntax.specs.Deriving.{Item, Event, kept, Derives, empty, token, keeps, then, left, right}
+use Rattle.wc_syntax.specs.Deriving.{none, more, rule}
 
 abbrev pub item_of : Event → Item
 item_of (kept r i) = i

@@ -1,6 +1,7 @@
 //! From the tokens of a text to its fields.
 
-ghost use Rattle.std.specs.Prelude.{◌≡◌, ◌<◌, ◌^◌, ◌+◌, ◌∷◌, ◌⊎◌, ℕ, List, drop, IfOk, IfErr, OnOk, MatchResult, IsErrAnd};
+ghost use Rattle.std.specs.Prelude.{◌≡◌, ◌<◌, ◌^◌, ◌+◌, ◌∷◌, ◌⊎◌, ℕ, List, drop};
+ghost use Rattle.std.specs.Prelude.{IfOk, IfErr, OnOk, MatchResult, IsErrAnd};
 ghost use Rattle.wc_tokens.specs.Standard.Lexemes.{Lexeme, HasForm};
 ghost use Rattle.wc_tokens.specs.Standard.Tokens.{InOrder, lexeme_of};
 ghost use Rattle.wc_syntax.specs.declared.why.SynWhy.{SynWhy as Reason};

@@ -70,10 +70,7 @@ impl<'a> TextDraft<'a> {
     fn end_field(&mut self, alloc: Global) -> Result<(), AllocError>
         ensures { OnOk result (self.new ≡ with_field self.old) }
     {
-        let field = replace(
-            &mut self.field,
-            FieldDraft::new(alloc, Kind::OtherWord, 0),
-        );
+        let field = replace(&mut self.field, FieldDraft::new(alloc, Kind::OtherWord, 0));
         self.fields.push(field.finish(alloc)?)?;
         Ok(())
     }

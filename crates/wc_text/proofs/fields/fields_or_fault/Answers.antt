@@ -21,11 +21,13 @@ loop-at-init c = record {
 
 pub take_token-requires-clause-few : goal.take_token-requires-clause-few
 take_token-requires-clause-few c =
-    few-at c.as_slice-all.result.now c.loop-at.at (rw c.as_slice-all.ensures.tokens c.as_slice-all.ensures.in_order) c.loop-at-test.true
+    few-at c.as_slice-all.result.now c.loop-at.at
+    (rw c.as_slice-all.ensures.tokens c.as_slice-all.ensures.in_order) c.loop-at-test.true
 
 pub take_token-requires-clause-form : goal.take_token-requires-clause-form
 take_token-requires-clause-form c =
-    form-at 0 c.as_slice-all.result.now c.loop-at.at _ (rw c.as_slice-all.ensures.tokens c.as_slice-all.ensures.in_order) c.loop-at-test.true
+    form-at 0 c.as_slice-all.result.now c.loop-at.at _
+    (rw c.as_slice-all.ensures.tokens c.as_slice-all.ensures.in_order) c.loop-at-test.true
 
 pub returns-in_err-take_token : goal.returns-in_err-take_token
 returns-in_err-take_token c =
@@ -33,14 +35,16 @@ returns-in_err-take_token c =
     let all = c.as_slice-all.result.now in
     let o : InOrder 0 (lexemes_of all) = rw c.as_slice-all.ensures.tokens c.as_slice-all.ensures.in_order in
     rw (p.1, p.2, sym c.as_slice-all.ensures.tokens)
-    (c.in_err-take_token.ensures.fault (lexemes_of all) _ c.loop-at.invariant.said (lexemes-at all c.loop-at.at _ c.loop-at-test.true) o)
+    (c.in_err-take_token.ensures.fault (lexemes_of all) _ c.loop-at.invariant.said
+    (lexemes-at all c.loop-at.at _ c.loop-at-test.true) o)
 
 pub loop-at-preserved : goal.loop-at-preserved
 loop-at-preserved c =
     let all = c.as_slice-all.result.now in
     record {
       within = omega arith;
-      said = c.in_ok-take_token.ensures.said (lexemes_of all) _ c.loop-at.invariant.said (lexemes-at all c.loop-at.at _ c.loop-at-test.true);
+      said = c.in_ok-take_token.ensures.said (lexemes_of all) _ c.loop-at.invariant.said
+          (lexemes-at all c.loop-at.at _ c.loop-at-test.true);
     }
 
 pub new-requires : goal.new-requires
@@ -49,7 +53,8 @@ new-requires c =
     let w = c.loop-at.invariant.said in
     let o : InOrder 0 (lexemes_of all) = rw c.as_slice-all.ensures.tokens c.as_slice-all.ensures.in_order in
     let e = all-lexemes all c.loop-at.at c.loop-at.invariant.within c.loop-at-test.false in
-    rw c.into_fields.ensures (few-fields (lexemes_of all) _ o (said-whole w e (c.is_text.ensures.text nesting_limit w.kinds w.es w.read c.if-is_text.true)))
+    rw c.into_fields.ensures (few-fields (lexemes_of all) _ o
+    (said-whole w e (c.is_text.ensures.text nesting_limit w.kinds w.es w.read c.if-is_text.true)))
 
 pub returns : goal.returns
 returns c =
