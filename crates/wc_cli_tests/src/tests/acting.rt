@@ -257,6 +257,9 @@ fn inputs_that_are_not_opened_are_told(rt: HostRuntime) {
         Some(whole(LONGER)),
     );
     is_told(&rt, told, 2, b"", "wcanon: two: cannot read\n");
+    // a read of the first input fails, and the second one can't be opened
+    let told = unopened(alloc, Line::Compare { a: "one", b: "two" }, Some(slow(2)));
+    is_told(&rt, told, 2, b"", "wcanon: one: cannot read\n");
 }
 
 #[test]
@@ -269,6 +272,9 @@ fn failing_reads_are_told(rt: HostRuntime) {
     let told = hashed(alloc, slow(2), writer(alloc, 99, 0));
     is_told(&rt, told, 2, b"", "wcanon: in: cannot read\n");
     let told = compared(alloc, slow(0), slow(2), writer(alloc, 99, 0));
+    is_told(&rt, told, 2, b"", "wcanon: two: cannot read\n");
+    // before a refusal
+    let told = compared(alloc, whole(LONGER), slow(2), writer(alloc, 99, 0));
     is_told(&rt, told, 2, b"", "wcanon: two: cannot read\n");
 }
 
