@@ -1,7 +1,15 @@
-//! The tests of `wc_declared`, over its public items, and surfaces for them.
+//! The tests of `wc_declared`, over its public items: rows worked out by hand from the standard.
 #![tactic(auto)]
 
-pub mod rows;
-pub mod short;
 #[cfg(test)]
-mod tests;
+mod fields;
+#[cfg(test)]
+mod naming;
+#[cfg(test)]
+mod rows;
+#[cfg(test)]
+mod short;
+#[cfg(test)]
+mod told;
+#[cfg(test)]
+mod types;

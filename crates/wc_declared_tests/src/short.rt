@@ -139,7 +139,7 @@ fn all_short(fields: &[Field<'_>]) -> bool
 }
 
 /// The surface of these fields, if there are few of them.
-pub fn surface_of<'a>(fields: List<Field<'a>>) -> Option<Surface<'a>>
+pub(crate) fn surface_of<'a>(fields: List<Field<'a>>) -> Option<Surface<'a>>
     ensures { IfSome result (λ surface. surface ≡ fields.entry) }
 {
     if !all_short(fields.as_slice()) {

@@ -3,6 +3,7 @@
 use crate::tests::checks::{fault_of, is_bad};
 use crate::tests::inputs::{module, repeat};
 use std::alloc::{AllocError, Global};
+use std::process::Abort;
 use std::test::Fail;
 use wc_ast::{BlockType, Body, Entry, Instr, Kind, Module};
 use wc_binary::{BinFault, BinWhy, decode};
@@ -95,14 +96,25 @@ fn value(module: &Module) -> Result<&Body, Fail> {
     }
 }
 
-/// How many entries the expression is kept as.
-fn count(alloc: Global, expression: &[u8]) -> Result<usize, Fail> {
-    let module = decode(alloc, &with_global(alloc, expression)?)?;
+/// How many entries the value is kept as.
+fn entry_count(module: &Module) -> Result<usize, Fail> {
     let mut found = 0usize;
-    for _ in value(&module)?.entries() {
+    for _ in value(module)?.entries() {
         found = found.saturating_add(1);
     }
     Ok(found)
+}
+
+/// The same of what was decoded.
+fn count_in(decoded: Result<Module, BinFault>) -> Result<usize, Fail> {
+    let module = decoded?;
+    entry_count(&module)
+}
+
+/// How many entries the expression is kept as.
+fn count(alloc: Global, expression: &[u8]) -> Result<usize, Fail> {
+    let input = with_global(alloc, expression)?;
+    count_in(decode(alloc, &input))
 }
 
 #[test]
@@ -137,19 +149,29 @@ fn shown(entry: &Entry<'_>) -> (&'static str, i64) {
     }
 }
 
-#[test]
-fn each_form_is_read(rt: HostRuntime) -> Result<(), Fail> {
-    let input = with_global(rt.alloc(), &FORMS)?;
-    let module = decode(rt.alloc(), &input)?;
-    let body = value(&module)?;
-    assert_eq!(rt; body.bytes(), CANONICAL_FORMS.as_slice());
-    assert_eq!(rt; count(rt.alloc(), &FORMS)?, 10);
+/// That the value is one of each form.
+fn are_forms(rt: &impl Abort, module: &Module) -> Result<(), Fail> {
+    let body = value(module)?;
+    assert!(rt; body.bytes() == CANONICAL_FORMS.as_slice());
     let mut entries = body.entries();
     for expected in &FIRST_FORMS {
         let entry = entries.next().ok_or("too few entries")?;
-        assert_eq!(rt; shown(&entry), *expected);
+        assert!(rt; shown(&entry) == *expected);
     }
     Ok(())
+}
+
+/// The same of what was decoded.
+fn are_forms_in(rt: &impl Abort, decoded: Result<Module, BinFault>) -> Result<(), Fail> {
+    let module = decoded?;
+    are_forms(rt, &module)
+}
+
+#[test]
+fn each_form_is_read(rt: HostRuntime) -> Result<(), Fail> {
+    let input = with_global(rt.alloc(), &FORMS)?;
+    assert_eq!(rt; count(rt.alloc(), &FORMS)?, 10);
+    are_forms_in(&rt, decode(rt.alloc(), &input))
 }
 
 #[test]

@@ -1,12 +1,13 @@
 //! Readers: how far they are read, and where they fail.
 
-use crate::tests::checks::{fault_in_pieces, is_bad};
+use crate::tests::checks::{fault_from, fault_in_pieces, is_bad};
 use crate::tests::inputs::{PIECES, function, in_pieces, module, repeat};
 use crate::tests::{accepted, refused};
 use std::alloc::{AllocError, Global};
 use std::io::Read;
 use std::process::Abort;
 use std::test::Fail;
+use wc_ast::Module;
 use wc_binary::{BinFault, BinWhy, decode_from};
 
 /// A table whose maximum is out of range by its last byte.
@@ -30,14 +31,15 @@ fn a_fault_is_told_near_its_byte(rt: HostRuntime) -> Result<(), Fail> {
 fn a_read_fails(rt: HostRuntime) -> Result<(), Fail> {
     let input = module(rt.alloc(), accepted::MODULES[2].0)?;
     let mut device = in_pieces(&input, 5, 3);
-    assert!(rt;
-        matches!(
-            decode_from(rt.alloc(), &[], &mut device),
-            Err(BinFault::Read { at: 10 })
-        )
-    );
+    let fault = fault_from(rt.alloc(), &mut device);
+    assert!(rt; matches!(fault, Some(BinFault::Read { at: 10 })));
     assert!(rt; device.failed());
     Ok(())
+}
+
+fn type_count(decoded: Result<Module, BinFault>) -> Result<usize, BinFault> {
+    let module = decoded?;
+    Ok(module.types.len())
 }
 
 #[test]
@@ -47,15 +49,14 @@ fn the_front_comes_first(rt: HostRuntime) -> Result<(), Fail> {
     let mut front = [0u8; 16];
     let got = device.read(&mut front)?;
     assert_eq!(rt; got, 5);
-    let module = decode_from(rt.alloc(), &front[..5], &mut device)?;
-    assert_eq!(rt; module.types.len(), 1);
+    let found = type_count(decode_from(rt.alloc(), &front[..5], &mut device))?;
+    assert_eq!(rt; found, 1);
     Ok(())
 }
 
 /// Why a reader's bytes spell no module, where it gives them in such pieces and fails at the call of that number.
 fn fault_before(alloc: Global, input: &[u8], piece: usize, fails_at: u32) -> Option<BinFault> {
-    let mut device = in_pieces(input, piece, fails_at);
-    decode_from(alloc, &[], &mut device).err()
+    fault_from(alloc, &mut in_pieces(input, piece, fails_at))
 }
 
 /// The fault shows at its very byte. A wrong type may be told by an integer of several bytes.
@@ -129,7 +130,8 @@ fn a_buffer_is_filled_once_it_is_wanted(rt: HostRuntime) -> Result<(), Fail> {
 /// Whether a module is decoded, and its reader never asked behind its end.
 fn ends_once(alloc: Global, input: &[u8], piece: usize) -> bool {
     let mut device = in_pieces(input, piece, 0);
-    decode_from(alloc, &[], &mut device).is_ok() && device.ended() && !device.asked_again()
+    let fault = fault_from(alloc, &mut device);
+    fault.is_none() && device.ended() && !device.asked_again()
 }
 
 #[test]
@@ -147,8 +149,8 @@ fn the_end_is_read_once(rt: HostRuntime) -> Result<(), Fail> {
 /// again.
 fn failed_once(alloc: Global, input: &[u8], fails_at: u32) -> Option<u64> {
     let mut device = in_pieces(input, 5, fails_at);
-    match decode_from(alloc, &[], &mut device) {
-        Err(BinFault::Read { at }) if device.failed_at() == Some(at) && !device.asked_again() => {
+    match fault_from(alloc, &mut device) {
+        Some(BinFault::Read { at }) if device.failed_at() == Some(at) && !device.asked_again() => {
             Some(at)
         }
         _ => None,

@@ -1,12 +1,12 @@
 //! Modules from bytes, by slices and by readers, and their canonical bytes.
 
-use crate::tests::checks::{check_accepted, check_refused, fault_of};
+use crate::tests::checks::{check_accepted, check_refused, encoded, fault_of};
 use crate::tests::inputs::{function, module};
 use crate::tests::{accepted, refused};
-use std::alloc::Global;
 use std::process::Abort;
 use std::test::Fail;
-use wc_binary::{BinFault, BinWhy, decode, encode};
+use wc_ast::Module;
+use wc_binary::{BinFault, BinWhy, decode};
 
 #[test]
 fn modules_are_accepted(rt: HostRuntime) -> Result<(), Fail> {
@@ -49,10 +49,14 @@ fn bodies_are_refused(rt: HostRuntime) -> Result<(), Fail> {
     Ok(())
 }
 
-/// The canonical bytes of a copy of the module.
-fn copied(alloc: Global, input: &[u8]) -> Result<Vec<u8>, Fail> {
-    let copy = decode(alloc, input)?.try_clone()?;
-    Ok(encode(alloc, &copy)?)
+fn copy(module: &Module) -> Result<Module, BinFault> {
+    Ok(module.try_clone()?)
+}
+
+/// A copy of what was decoded.
+fn copy_of(decoded: Result<Module, BinFault>) -> Result<Module, BinFault> {
+    let module = decoded?;
+    copy(&module)
 }
 
 #[test]
@@ -60,7 +64,8 @@ fn copies_are_the_same(rt: HostRuntime) -> Result<(), Fail> {
     for &(rest, canonical) in &accepted::MODULES {
         let input = module(rt.alloc(), rest)?;
         let want = module(rt.alloc(), canonical)?;
-        assert_eq!(rt; copied(rt.alloc(), &input)?, want);
+        let copy = encoded(rt.alloc(), copy_of(decode(rt.alloc(), &input)))?;
+        assert_eq!(rt; copy, want);
     }
     Ok(())
 }
