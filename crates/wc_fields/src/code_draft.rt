@@ -1,10 +1,13 @@
 //! Instructions of a field that are being said.
 
-ghost use Rattle.std.specs.Prelude.{◌≡◌, OnOk};
+ghost use Rattle.std.specs.Prelude.{◌≡◌, OnOk, IfOk};
+ghost use Rattle.wc_drafts.specs.Standard.Ending.{ended};
 ghost use Rattle.wc_fields.specs.Standard.Fields.{no_code, take_code};
 
 use std::alloc::{AllocError, Global};
+use std::mem::replace;
 use wc_drafts::{BodyDraft, Word};
+use wc_surface::TextBody;
 use wc_syntax::Role;
 
 /// Whether an instruction has begun, and the instructions so far (Core 1.0, 6.5).
@@ -32,5 +35,12 @@ impl<'a> CodeDraft<'a> {
     {
         self.begun = true;
         self.body.take(role, word)
+    }
+
+    /// The instructions that were said. The error is want of memory.
+    pub(crate) fn take_body(&mut self, alloc: Global) -> Result<TextBody<'a>, AllocError>
+        ensures { IfOk result (λ body. body ≡ ended self.old.body) }
+    {
+        replace(&mut self.body, BodyDraft::new(alloc)).finish()
     }
 }

@@ -1,10 +1,11 @@
 //! The names of a field.
 
-ghost use Rattle.std.specs.Prelude.{◌≡◌, OnOk};
+ghost use Rattle.std.specs.Prelude.{◌≡◌, OnOk, []};
 ghost use Rattle.wc_fields.specs.Standard.Fields.{unnamed, with_export, take_name};
-ghost use Rattle.wc_fields.specs.Standard.Finished.{asked};
+ghost use Rattle.wc_fields.specs.Standard.Finished.{asked, asked_at};
 
 use std::alloc::{AllocError, Global};
+use std::mem::replace;
 use wc_ast::{List, Name};
 use wc_drafts::{Word, identifier_of};
 use wc_surface::{Id, ImportNames};
@@ -31,8 +32,8 @@ impl<'a> Names<'a> {
             id: None,
             exports: List::new(alloc),
             imported,
-            module: Name::from_string(String::new(alloc)),
-            item: Name::from_string(String::new(alloc)),
+            module: no_name(alloc),
+            item: no_name(alloc),
         }
     }
 
@@ -58,29 +59,38 @@ impl<'a> Names<'a> {
         }
     }
 
-    /// The identifier, the names of exports, and what an import asks for.
-    pub(crate) fn into_parts(self) -> (Option<Id<'a>>, List<Name>, Option<ImportNames>)
-        ensures id { result.0 ≡ self.entry.id }
-        ensures exports { result.1 ≡ self.entry.exports }
-        ensures imported { result.2 ≡ asked self.entry.imported self.entry }
+    /// What an import asks for, where the word `import` stands. It takes no memory.
+    pub(crate) fn take_imported(&mut self, alloc: Global) -> Option<ImportNames>
+        ensures { result ≡ asked self.old.imported self.old }
     {
-        let Names {
-            id,
-            exports,
-            imported,
-            module,
-            item,
-        } = self;
-        match imported {
-            Some(token) => {
-                let names = ImportNames {
-                    token,
-                    module,
-                    item,
-                };
-                (id, exports, Some(names))
-            }
-            None => (id, exports, None),
+        match self.imported {
+            Some(token) => Some(self.take_asked(alloc, token)),
+            None => None,
         }
     }
+
+    /// What an import asks for, by the number of its word. It takes no memory.
+    pub(crate) fn take_asked(&mut self, alloc: Global, token: u32) -> ImportNames
+        ensures { result ≡ asked_at self.old token }
+    {
+        ImportNames {
+            token,
+            module: replace(&mut self.module, no_name(alloc)),
+            item: replace(&mut self.item, no_name(alloc)),
+        }
+    }
+
+    /// The second name of an import, or the name of an export field. It takes no memory.
+    pub(crate) fn take_item(&mut self, alloc: Global) -> Name
+        ensures { result ≡ self.old.item }
+    {
+        replace(&mut self.item, no_name(alloc))
+    }
+}
+
+/// The empty name. It takes no memory.
+fn no_name(alloc: Global) -> Name
+    ensures { result ≡ [] }
+{
+    Name::from_string(String::new(alloc))
 }

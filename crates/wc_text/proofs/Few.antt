@@ -49,9 +49,9 @@ fields-short ts fields o v =
     rw v.says (omega (arith, items, events, tokens, texts, fields'))
 
 all-below : {X : Type 0} (f : X → ℕ) (xs : List X) → sum_by f xs < 2 ^ 32 → All (λ x. f x < 2 ^ 32) xs
-all-below f [] h = All-nil _
+all-below f [] h = All-nil (λ y. f y < 2 ^ 32)
 all-below f (x ∷ xs) h =
-    All-cons _ x xs (omega (arith, sum_by-cons f x xs)) (all-below f xs (omega (arith, sum_by-cons f x xs)))
+    All-cons (λ y. f y < 2 ^ 32) x xs (omega (arith, sum_by-cons f x xs)) (all-below f xs (omega (arith, sum_by-cons f x xs)))
 
 pub fewer-than-bytes : (ts : List Lexeme) (fields : List Field) → InOrder 0 ts → Syn ts fields → IsSurface fields
 fewer-than-bytes ts fields o v =

@@ -14,10 +14,12 @@ use Rattle.wc_words.specs.declared.symbol.Value.TheVariants.{ValType}
 use Rattle.wc_ast.specs.declared.export.ExportKind.{ExportKind}
 use Rattle.wc_ast.specs.declared.export.ExportKind.TheVariants as export
 use Rattle.wc_ast.specs.declared.limits.Limits.{Limits}
+use Rattle.wc_ast.specs.declared.limits.GlobalType.{GlobalType}
 use Rattle.wc_surface.specs.declared.field.Field.{Field}
 use Rattle.wc_surface.specs.declared.field.ImportNames.{ImportNames}
 use Rattle.wc_surface.specs.Standard.Sizes.{field_size, inline_size, import_size, func_size, global_size, table_inline, memory_inline}
 use Rattle.wc_surface.specs.Standard.WrittenLocals.{local}
+use Rattle.wc_drafts.specs.declared.use_draft.UseDraft.{UseDraft}
 use Rattle.wc_drafts.specs.declared.word.Word.{Word}
 use Rattle.wc_drafts.specs.Standard.Sizes.{said_size}
 use Rattle.wc_drafts.specs.Standard.Words.{index_of}
@@ -53,7 +55,7 @@ part_size d = length d.ty.params + length d.locals.locals + said_size d.code.bod
 abbrev draft_size : FieldDraft → ℕ
 draft_size d = head_size d.kind + part_size d
 
-abbrev whole_size : Field → ℕ
+abbrev pub whole_size : Field → ℕ
 whole_size f = field_size f + inline_size f
 
 -- what a text says so far
@@ -62,11 +64,12 @@ text_size d = sum_by whole_size d.fields + draft_size d.field
 
 -- ---- a field at its end
 
-import-size : (e : ExportKind) (d : FieldDraft) → import_size (import_by e d) ≤ suc (length d.ty.params)
-import-size export.Func d = omega arith
-import-size export.Table d = omega arith
-import-size export.Memory d = omega arith
-import-size export.Global d = omega arith
+import-size : (e : ExportKind) (u : UseDraft) (l : Limits) (g : GlobalType)
+    → import_size (import_by e u l g) ≤ suc (length u.params)
+import-size export.Func u l g = omega arith
+import-size export.Table u l g = omega arith
+import-size export.Memory u l g = omega arith
+import-size export.Global u l g = omega arith
 
 func-size : (o : Option ImportNames) (l : LocalsDraft) (c : CodeDraft) → func_size (func_by o l c) ≤ length l.locals + said_size c.body
 func-size (Some n) l c = omega arith
@@ -88,7 +91,7 @@ memory-size None false l c e = rw e (omega arith)
 
 finished-size : (k : Kind) (d : FieldDraft) → whole_size (finished_by k d) ≤ head_size k + part_size d + 1
 finished-size kind.TypeWord d = omega arith
-finished-size kind.ImportWord d = omega (arith, import-size d.description d)
+finished-size kind.ImportWord d = omega (arith, import-size d.description d.ty d.limits d.global)
 finished-size kind.FuncWord d = omega (arith, func-size (asked d.names.imported d.names) d.locals d.code)
 finished-size kind.TableWord d =
     omega (arith, table-size (asked d.names.imported d.names) d.contents.inside d.limits d.contents refl)

@@ -64,7 +64,7 @@ fn fields_or_fault<'a>(alloc: Global, tokens: &Tokens<'a>) -> Result<Surface<'a>
         at += 1;
     }
     if reading.is_text() {
-        Ok(Surface::new(draft.fields))
+        Ok(Surface::new(draft.into_fields(alloc)))
     } else {
         Err(SynFault::Bad {
             token: at as u64,

@@ -57,6 +57,15 @@ impl<'a> TextDraft<'a> {
 impl<'a> TextDraft<'a> {
     ghost use Rattle.wc_text.specs.Standard.Texts.{with_field};
 
+    /// The fields so far. It takes no memory.
+    // They are taken out, and the rest is let go whole.
+    pub(crate) fn into_fields(self, alloc: Global) -> List<Field<'a>>
+        ensures { result ≡ self.entry.fields }
+    {
+        let mut draft = self;
+        replace(&mut draft.fields, List::new(alloc))
+    }
+
     /// The field ends. The error is want of memory.
     fn end_field(&mut self, alloc: Global) -> Result<(), AllocError>
         ensures { OnOk result (self.new ≡ with_field self.old) }
@@ -65,7 +74,7 @@ impl<'a> TextDraft<'a> {
             &mut self.field,
             FieldDraft::new(alloc, Kind::OtherWord, 0),
         );
-        self.fields.push(field.finish()?)?;
+        self.fields.push(field.finish(alloc)?)?;
         Ok(())
     }
 }

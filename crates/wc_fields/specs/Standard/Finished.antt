@@ -1,6 +1,7 @@
 -- The field that was said (Core 1.0, 6.6.2 to 6.6.13).
-use Rattle.std.specs.Prelude.{ℕ, List, Bool, true, false, Option, Some, None}
+use Rattle.std.specs.Prelude.{ℕ, Bool, true, false, Option, Some, None}
 use Rattle.wc_ast.specs.declared.limits.Limits.{Limits}
+use Rattle.wc_ast.specs.declared.limits.GlobalType.{GlobalType}
 use Rattle.wc_ast.specs.declared.export.ExportKind.{ExportKind}
 use Rattle.wc_ast.specs.declared.export.ExportKind.TheVariants as export
 use Rattle.wc_syntax.specs.declared.kind.Kind.{Kind}
@@ -31,6 +32,7 @@ use Rattle.wc_surface.specs.declared.field.MemoryDesc.TheVariants as memory
 use Rattle.wc_surface.specs.declared.field.GlobalDesc.{GlobalDesc}
 use Rattle.wc_surface.specs.declared.field.GlobalDesc.TheVariants as global
 use Rattle.wc_surface.specs.Standard.Keys.{func_type}
+use Rattle.wc_drafts.specs.declared.use_draft.UseDraft.{UseDraft}
 use Rattle.wc_drafts.specs.Standard.Uses.{use_of}
 use Rattle.wc_drafts.specs.Standard.Ending.{ended}
 use Rattle.wc_fields.specs.declared.names.Names.{Names}
@@ -54,11 +56,11 @@ target_of (Some i) = i
 target_of None = Number 0 0
 
 -- what an import brings (6.6.4)
-abbrev pub import_by : ExportKind → FieldDraft → ImportDesc
-import_by export.Func d = import.Func (use_of d.ty)
-import_by export.Table d = import.Table d.limits
-import_by export.Memory d = import.Memory d.limits
-import_by export.Global d = import.Global d.global
+abbrev pub import_by : ExportKind → UseDraft → Limits → GlobalType → ImportDesc
+import_by export.Func u l g = import.Func (use_of u)
+import_by export.Table u l g = import.Table l
+import_by export.Memory u l g = import.Memory l
+import_by export.Global u l g = import.Global g
 
 -- how a function is given (6.6.5)
 abbrev pub func_by : Option ImportNames → LocalsDraft → CodeDraft → FuncDesc
@@ -94,7 +96,11 @@ type_field d = record { id = d.names.id; signature = func_type d.ty.params d.ty.
 
 -- an import (6.6.4)
 abbrev pub import_field : FieldDraft → ImportField
-import_field d = record { names = asked_at d.names d.token; id = d.names.id; desc = import_by d.description d }
+import_field d = record {
+  names = asked_at d.names d.token;
+  id = d.names.id;
+  desc = import_by d.description d.ty d.limits d.global;
+}
 
 -- a function (6.6.5)
 abbrev pub func_field : FieldDraft → FuncField

@@ -1,4 +1,4 @@
-use Rattle.std.proofs.Common.{◌≡◌, ap, arith, subst, IsUtf8, string_bytes, rules}
+use Rattle.std.proofs.Common.{◌≡◌, arith, subst, IsUtf8, string_bytes, rules}
 use Rattle.std.proofs.lemmas.Str.{IsUtf8-string_bytes}
 use Rattle.wc_fields.proofs.NameLemmas.{name-kept, name-dropped}
 use Rattle.wc_fields.proofs.name.name_of.Goals as goal
