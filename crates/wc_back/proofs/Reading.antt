@@ -11,7 +11,7 @@ use Rattle.wc_printed.specs.Fitting.{Fits}
 use Rattle.wc_reread.specs.Surface.{text_fields}
 use Rattle.wc_reread.proofs.Syntax.{syntax-of}
 use Rattle.wc_back.specs.Known.{HasFewLocals}
-use Rattle.wc_back.specs.Txt.{Txt}
+use Rattle.wc_source.specs.Texts.{Txt}
 use Rattle.wc_back.proofs.Counting.{signs-few, bodies-few}
 use Rattle.wc_back.proofs.Checked.{names-known}
 use Rattle.wc_back.proofs.Naming.{named}

@@ -19,7 +19,7 @@ ghost use Rattle.wc_names.specs.Standard.Denoted.{Names};
 ghost use Rattle.wc_told.specs.Bodies.{text_body};
 ghost use Rattle.wc_reread.specs.Surface.{text_fields};
 ghost use Rattle.wc_printed.specs.Fitting.{Fits};
-ghost use Rattle.wc_back.specs.Txt.{Txt};
+ghost use Rattle.wc_source.specs.Texts.{Txt};
 ghost use Rattle.wc_back.specs.Known.{HasFewLocals, Known, KnownCode};
 
 /// Where a module breaks no rule (Core 1.0, 3.4) and its printed text isn't too long, its names are known.

@@ -6,7 +6,7 @@ ghost use Rattle.wc_check.specs.Standard.Broken.{broken};
 ghost use Rattle.wc_print.specs.Layout.{layout};
 ghost use Rattle.wc_print.specs.Printed.{text};
 ghost use Rattle.wc_tokens.specs.Standard.Lexemes.{longest};
-ghost use Rattle.wc_back.specs.Txt.{Txt};
+ghost use Rattle.wc_source.specs.Texts.{Txt};
 
 use crate::fitting::module_has_few_locals;
 use std::alloc::{AllocError, Global};

@@ -1,0 +1,140 @@
+-- A text denotes one module, or has one first fault.
+use Rattle.std.proofs.Common.{◌≡◌, ◌⊎◌, inl, inr, ℕ, List, refl, sym, subst, arith, ◌∙◌}
+use Rattle.wc_ast.specs.declared.module.Module.{Module}
+use Rattle.wc_tokens.specs.declared.fault.LexWhy.{LexWhy}
+use Rattle.wc_tokens.specs.Standard.Lexemes.{Lexeme, Lexes, longest}
+use Rattle.wc_tokens.specs.Standard.Tokens.{InOrder}
+use Rattle.wc_tokens.specs.Standard.Faults.{FirstFault as FirstLexFault}
+use Rattle.wc_tokens.proofs.Lexing.LexLaws.{Lexes-same, FirstFault-same, Lexes-FirstFault, always-judged}
+use Rattle.wc_tokens.proofs.Lexing.SpanLaws.{InOrder-Lexed}
+use Rattle.wc_syntax.specs.declared.why.SynWhy.{SynWhy}
+use Rattle.wc_surface.specs.declared.field.Field.{Field}
+use Rattle.wc_text.specs.Standard.Meaning.{Syn}
+use Rattle.wc_text.specs.Standard.Faults.{FirstFault as FirstSyntaxFault}
+use Rattle.wc_text.proofs.Answering as grammar
+use Rattle.wc_targets.specs.declared.why.NameWhy.{NameWhy}
+use Rattle.wc_names.specs.Standard.Denoted.{first_fault, FirstFault as FirstNameFault, Names as Denote}
+use Rattle.wc_names.proofs.Answering as names
+use Rattle.wc_source.specs.declared.fault.TextFault.{TextFault}
+use Rattle.wc_source.specs.declared.fault.TextFault.TheVariants.{Lex, Syntax, Names, Memory}
+use Rattle.wc_source.specs.Texts.{Txt}
+use Rattle.wc_source.specs.Faults.{byte_of, IsSyntaxFault, IsNameFault, FirstFault}
+
+-- ---- each stage says one thing
+
+same-fields : (text : List ℕ) (ts us : List Lexeme) (fields others : List Field) → Lexes text ts → Lexes text us
+    → Syn ts fields → Syn us others → fields ≡ others
+same-fields text ts us fields others p q s t =
+    grammar.one-list us fields others (subst (λ ts. Syn ts fields) (Lexes-same text ts us p q) s) t
+
+-- of tokens that say fields none is a fault of the grammar
+no-syntax : (text : List ℕ) (ts us : List Lexeme) (fields : List Field) (token : ℕ) (why : SynWhy) → Lexes text ts
+    → Lexes text us → Syn ts fields → FirstSyntaxFault us token why → ⊥
+no-syntax text ts us fields token why p q s f =
+    grammar.never-both us fields token why (subst (λ ts. Syn ts fields) (Lexes-same text ts us p q) s) f
+
+pub one-module : (text : List ℕ) (m n : Module) → Txt text m → Txt text n → m ≡ n
+one-module text m n p q =
+    let e = same-fields text p.tokens q.tokens p.fields q.fields p.lexes q.lexes p.says q.says in
+    (subst (λ fs. Denote fs m) e p.names).same ∙ sym q.names.same
+
+-- ---- a module, or a fault
+
+pub never-both : (text : List ℕ) (m : Module) (f : TextFault) → Txt text m → FirstFault text f → ⊥
+never-both text m (Lex at why) p q = Lexes-FirstFault p.lexes q
+never-both text m (Syntax token at why) p q =
+    no-syntax text p.tokens q.tokens p.fields token why p.lexes q.lexes p.says q.first
+never-both text m (Names token at why) p q =
+    let e = same-fields text p.tokens q.tokens p.fields q.fields p.lexes q.lexes p.says q.says in
+    names.not-both q.fields m token why (subst (λ fs. Denote fs m) e p.names) q.first
+never-both text m Memory p q = q
+
+-- ---- one fault
+
+same-lexical : (at to : ℕ) (why reason : LexWhy) → at ≡ to → why ≡ reason → Lex at why ≡ Lex to reason
+same-lexical at to why reason e h = cc
+
+same-byte : (text : List ℕ) (ts us : List Lexeme) (token other at to : ℕ) → ts ≡ us → token ≡ other
+    → at ≡ byte_of text ts token → to ≡ byte_of text us other → at ≡ to
+same-byte text ts us token other at to e h p q = cc
+
+same-syntax : (token other at to : ℕ) (why reason : SynWhy) → token ≡ other → at ≡ to → why ≡ reason
+    → Syntax token at why ≡ Syntax other to reason
+same-syntax token other at to why reason e h k = cc
+
+same-names : (token other at to : ℕ) (why reason : NameWhy) → token ≡ other → at ≡ to → why ≡ reason
+    → Names token at why ≡ Names other to reason
+same-names token other at to why reason e h k = cc
+
+one-syntax : (text : List ℕ) (token other at to : ℕ) (why reason : SynWhy) → IsSyntaxFault text token at why
+    → IsSyntaxFault text other to reason → Syntax token at why ≡ Syntax other to reason
+one-syntax text token other at to why reason p q =
+    let e = Lexes-same text p.tokens q.tokens p.lexes q.lexes in
+    let same = grammar.one-fault q.tokens token other why reason (subst (λ ts. FirstSyntaxFault ts token why) e p.first) q.first in
+    same-syntax token other at to why reason same.0
+    (same-byte text p.tokens q.tokens token other at to e same.0 p.place q.place) same.1
+
+one-name : (text : List ℕ) (token other at to : ℕ) (why reason : NameWhy) → IsNameFault text token at why
+    → IsNameFault text other to reason → Names token at why ≡ Names other to reason
+one-name text token other at to why reason p q =
+    let e = Lexes-same text p.tokens q.tokens p.lexes q.lexes in
+    let h = same-fields text p.tokens q.tokens p.fields q.fields p.lexes q.lexes p.says q.says in
+    let first = subst (λ fs. FirstNameFault fs token why) h p.first in
+    let same = names.one-token (first_fault q.fields) token other why reason first q.first in
+    same-names token other at to why reason same
+    (same-byte text p.tokens q.tokens token other at to e same p.place q.place)
+    (names.one-reason (first_fault q.fields) token other why reason first q.first)
+
+-- the grammar finds no fault where the names have one
+syntax-or-names : (text : List ℕ) (token other at to : ℕ) (why : SynWhy) (reason : NameWhy)
+    → IsSyntaxFault text token at why → IsNameFault text other to reason → ⊥
+syntax-or-names text token other at to why reason p q =
+    no-syntax text q.tokens p.tokens q.fields token why q.lexes p.lexes q.says p.first
+
+pub one-fault : (text : List ℕ) (f g : TextFault) → FirstFault text f → FirstFault text g → f ≡ g
+one-fault text (Lex at why) (Lex to reason) p q =
+    let same = FirstFault-same p q in same-lexical at to why reason same.at_is same.why_is
+one-fault text (Lex at why) (Syntax token to reason) p q = absurd (Lexes-FirstFault q.lexes p)
+one-fault text (Lex at why) (Names token to reason) p q = absurd (Lexes-FirstFault q.lexes p)
+one-fault text (Syntax token at why) (Lex to reason) p q = absurd (Lexes-FirstFault p.lexes q)
+one-fault text (Syntax token at why) (Syntax other to reason) p q = one-syntax text token other at to why reason p q
+one-fault text (Syntax token at why) (Names other to reason) p q =
+    absurd (syntax-or-names text token other at to why reason p q)
+one-fault text (Names token at why) (Lex to reason) p q = absurd (Lexes-FirstFault p.lexes q)
+one-fault text (Names token at why) (Syntax other to reason) p q =
+    absurd (syntax-or-names text other token to at reason why q p)
+one-fault text (Names token at why) (Names other to reason) p q = one-name text token other at to why reason p q
+one-fault text Memory g p q = absurd p
+one-fault text f Memory p q = absurd q
+
+-- ---- always one of them
+
+in-order : (text : List ℕ) (ts : List Lexeme) → Lexes text ts → InOrder 0 ts
+in-order text ts p = InOrder-Lexed p.lexed p.short (omega arith) 0 (omega arith)
+
+named-one : (text : List ℕ) (ts : List Lexeme) (fields : List Field) → Lexes text ts → Syn ts fields
+    → ((m : Module) × Denote fields m) ⊎ ((t : ℕ) × ((why : NameWhy) × FirstNameFault fields t why))
+    → ((m : Module) × Txt text m) ⊎ ((f : TextFault) × FirstFault text f)
+named-one text ts fields p s (inl n) =
+    inl (n.0, record { tokens = ts; fields = fields; lexes = p; says = s; names = n.1 })
+named-one text ts fields p s (inr q) = inr (
+  Names q.0 (byte_of text ts q.0) q.1.0,
+  record { tokens = ts; fields = fields; lexes = p; says = s; first = q.1.1; place = refl },
+)
+
+parsed-one : (text : List ℕ) (ts : List Lexeme) → Lexes text ts
+    → ((fields : List Field) × Syn ts fields) ⊎ ((at : ℕ) × (why : SynWhy) × FirstSyntaxFault ts at why)
+    → ((m : Module) × Txt text m) ⊎ ((f : TextFault) × FirstFault text f)
+parsed-one text ts p (inl s) = named-one text ts s.0 p s.1 (names.always s.0)
+parsed-one text ts p (inr q) = inr (
+  Syntax q.0 (byte_of text ts q.0) q.1,
+  record { tokens = ts; lexes = p; first = q.2; place = refl },
+)
+
+lexed-one : (text : List ℕ) → ((ts : List Lexeme) × Lexes text ts) ⊎ ((at : ℕ) × (why : LexWhy) × FirstLexFault text at why)
+    → ((m : Module) × Txt text m) ⊎ ((f : TextFault) × FirstFault text f)
+lexed-one text (inl p) = parsed-one text p.0 p.1 (grammar.always-one p.0 (in-order text p.0 p.1))
+lexed-one text (inr q) = inr (Lex q.0 q.1, q.2)
+
+pub always-one : (text : List ℕ) → ((m : Module) × Txt text m) ⊎ ((f : TextFault) × FirstFault text f)
+always-one text = lexed-one text (always-judged text)

@@ -1,0 +1,34 @@
+//! Why a text denotes no module.
+
+use wc_syntax::SynWhy;
+use wc_targets::NameWhy;
+use wc_tokens::{LexFault, LexWhy};
+
+/// Why a text denotes no module. A token is counted from 0, and a byte is its first one, counted from 0 in the whole
+/// text.
+#[derive(Debug, Drop)]
+pub enum TextFault {
+    /// The text isn't made of white space, comments and tokens (Core 1.0, 6.2 and 6.3), as `why` says of the byte `at`.
+    Lex { at: u64, why: LexWhy },
+    /// No text of the grammar goes on with this token (Core 1.0, 6.4 to 6.6), the first such one. Where one more token
+    /// has to follow, `token` is the number of tokens and `at` the length of the text.
+    Syntax { token: u64, at: u64, why: SynWhy },
+    /// The names of the text are wrong (Core 1.0, 6.6), as `why` says of this token.
+    Names { token: u64, at: u64, why: NameWhy },
+    /// A growth of memory was refused.
+    Memory,
+}
+
+impl From<LexFault> for TextFault {
+    ghost use Rattle.std.specs.Prelude.{◌≡◌};
+    ghost use Rattle.wc_source.specs.Telling.{lexing_fault};
+
+    ghost from_gives = { λ fault told. told ≡ lexing_fault fault };
+
+    fn from(fault: LexFault) -> TextFault {
+        match fault {
+            LexFault::Bad { at, why } => TextFault::Lex { at, why },
+            LexFault::Memory => TextFault::Memory,
+        }
+    }
+}
