@@ -30,7 +30,12 @@ fn told_by(answer: Result<Surface<'_>, SynFault>) -> Told {
 
 /// What is told of a text.
 pub fn answer_to(alloc: Global, text: &str) -> Told {
-    match lex(alloc, text.as_bytes()) {
+    answer_to_bytes(alloc, text.as_bytes())
+}
+
+/// What is told of the bytes of a text.
+pub fn answer_to_bytes(alloc: Global, text: &[u8]) -> Told {
+    match lex(alloc, text) {
         Ok(tokens) => told_by(parse(alloc, &tokens)),
         Err(_) => Told::NoTokens,
     }

@@ -1,6 +1,6 @@
 //! Fronts of a text.
 
-use crate::asking::{Told, answer_to};
+use crate::asking::{Told, answer_to_bytes};
 use std::alloc::Global;
 use wc_syntax::SynWhy;
 use wc_tokens::lex;
@@ -18,7 +18,7 @@ const COMMENTED: &str = "(module
 ";
 
 /// The tokens of the text.
-const TOKENS: u64 = 60;
+const TOKENS: usize = 60;
 
 /// Where a token stops; none where there is none of this number.
 fn stop_of(alloc: Global, text: &str, number: usize) -> Option<usize> {
@@ -28,22 +28,30 @@ fn stop_of(alloc: Global, text: &str, number: usize) -> Option<usize> {
     }
 }
 
-/// What is told of so many tokens, at least one.
-fn told_of_front(alloc: Global, count: u64) -> Told {
-    match stop_of(alloc, COMMENTED, count as usize - 1) {
-        Some(stop) => answer_to(alloc, &COMMENTED[..stop]),
+/// What is told of the bytes before this place.
+fn told_before(alloc: Global, stop: usize) -> Told {
+    match COMMENTED.as_bytes().get(..stop) {
+        Some(front) => answer_to_bytes(alloc, front),
+        None => Told::NoTokens,
+    }
+}
+
+/// What is told of the tokens up to the one of this number.
+fn told_of_front(alloc: Global, last: usize) -> Told {
+    match stop_of(alloc, COMMENTED, last) {
+        Some(stop) => told_before(alloc, stop),
         None => Told::NoTokens,
     }
 }
 
 #[test]
 fn fronts_of_a_text_end_too_soon(rt: HostRuntime) {
-    for count in 1..TOKENS {
+    for last in 0..TOKENS - 1 {
         assert_eq!(rt;
-            told_of_front(rt.alloc(), count),
-            Told::Bad(count, SynWhy::End)
+            told_of_front(rt.alloc(), last),
+            Told::Bad(last as u64 + 1, SynWhy::End)
         );
     }
-    assert_eq!(rt; told_of_front(rt.alloc(), TOKENS), Told::Text);
-    assert_eq!(rt; told_of_front(rt.alloc(), TOKENS + 1), Told::NoTokens);
+    assert_eq!(rt; told_of_front(rt.alloc(), TOKENS - 1), Told::Text);
+    assert_eq!(rt; told_of_front(rt.alloc(), TOKENS), Told::NoTokens);
 }
