@@ -19,7 +19,10 @@ fn told(alloc: Global, text: &str) -> Result<String, Fail> {
 fn is_raw(alloc: Global, text: &str) -> Result<bool, Fail> {
     let words: Vec<&str> = text.split(' ').collect(alloc)?;
     let raw = match lines(alloc, words.as_slice()) {
-        Ok(Some(lines)) => lines.iter().any(|line| line.is_raw()),
+        Ok(Some(lines)) => match lines.first() {
+            Some(line) => line.is_raw(),
+            None => false,
+        },
         _ => false,
     };
     Ok(raw)
