@@ -37,12 +37,14 @@ fn fault_text(alloc: Global, fault: RunFault) -> Result<String, AllocError> {
     }
 }
 
-/// Whether a reader of so many bytes a call is accepted, in words.
-fn accepted<R: Read>(alloc: Global, r: &mut Device<R>) -> Result<String, AllocError> {
-    match accept_from(alloc, r) {
-        Ok(()) => "ok".to_string(alloc),
-        Err(fault) => fault_text(alloc, fault),
-    }
+/// Whether a reader is accepted, in words, and how many bytes were read of it.
+fn accepted<R: Read + Drop>(alloc: Global, reader: R) -> Result<(String, u64), AllocError> {
+    let mut r = Device::new(reader);
+    let text = match accept_from(alloc, &mut r) {
+        Ok(()) => "ok".to_string(alloc)?,
+        Err(fault) => fault_text(alloc, fault)?,
+    };
+    Ok((text, r.count()))
 }
 
 #[test]
@@ -62,17 +64,16 @@ fn readers_are_judged(rt: HostRuntime) -> Result<(), Fail> {
         (PADDED, 2, "read 5"),
         (b"\0asn\x01\0\0\0".as_slice(), 2, "byte 3: bad magic"),
     ] {
-        let mut r = Device::new(Reader::new(input, 5, fails_at));
-        assert_eq!(rt; accepted(rt.alloc(), &mut r)?.as_str(), text);
+        let told = accepted(rt.alloc(), Reader::new(input, 5, fails_at))?;
+        assert_eq!(rt; told.0.as_str(), text);
     }
     Ok(())
 }
 
 #[test]
 fn an_endless_reader_is_refused(rt: HostRuntime) -> Result<(), Fail> {
-    let mut r = Device::new(Zeros {});
-    assert_eq!(rt; accepted(rt.alloc(), &mut r)?.as_str(), "byte 1: bad magic");
-    assert_eq!(rt; r.count(), 4096);
+    let told = accepted(rt.alloc(), Zeros {})?;
+    assert_eq!(rt; (told.0.as_str(), told.1), ("byte 1: bad magic", 4096));
     Ok(())
 }
 

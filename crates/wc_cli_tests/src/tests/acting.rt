@@ -68,6 +68,22 @@ const ONE_IS_REFUSED: &str = "wcanon: one: byte 9: section size differs from its
 
 const TWO_IS_REFUSED: &str = "wcanon: two: byte 9: section size differs from its content\n";
 
+/// The line that wants the canonical bytes of an input.
+fn making(output: Option<&'static str>) -> Line<'static> {
+    Line::Make {
+        job: Job::Binary,
+        input: "in",
+        output,
+    }
+}
+
+#[test]
+fn bytes_on_standard_output_are_raw(rt: HostRuntime) {
+    assert!(rt; making(None).is_raw());
+    assert!(rt; !making(Some("out")).is_raw());
+    assert!(rt; !telling(Ask::Hash, false).is_raw());
+}
+
 /// What came of a line.
 #[derive(Drop)]
 struct Told {

@@ -15,29 +15,6 @@ fn told(alloc: Global, text: &str) -> Result<String, Fail> {
     Ok(told)
 }
 
-/// Whether the first line that words ask for answers in bytes on the standard output.
-fn is_raw(alloc: Global, text: &str) -> Result<bool, Fail> {
-    let words: Vec<&str> = text.split(' ').collect(alloc)?;
-    let raw = match lines(alloc, words.as_slice()) {
-        Ok(Some(lines)) => lines.iter().any(|line| line.is_raw()),
-        _ => false,
-    };
-    Ok(raw)
-}
-
-#[test]
-fn bytes_on_standard_output_are_raw(rt: HostRuntime) -> Result<(), Fail> {
-    for (text, raw) in [
-        ("wcanon binary a.wasm", true),
-        ("wcanon binary a.wasm -o b.wasm", false),
-        ("wcanon hash a.wasm", false),
-        ("wcanon compare a.wasm b.wasm", false),
-    ] {
-        assert_eq!(rt; is_raw(rt.alloc(), text)?, raw);
-    }
-    Ok(())
-}
-
 #[test]
 fn words_are_read(rt: HostRuntime) -> Result<(), Fail> {
     for (text, what) in [
