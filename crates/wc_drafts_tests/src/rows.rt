@@ -1,7 +1,8 @@
 //! Rows worked out by hand from the standard.
 
 use crate::said::{body_of, use_of};
-use crate::shown::{code, key, lists, names};
+use crate::shown::{code, code_and_lists, signature_and_names, type_use};
+use std::alloc::{AllocError, Global};
 use std::test::Fail;
 
 /// Of each text the instructions in the order of the binary format, each with its immediates, and the lists that they
@@ -114,40 +115,61 @@ const BODIES: [(&str, &str, &str); 18] = [
     ),
 ];
 
+/// The instructions and the lists of the body of a text.
+fn shown(alloc: Global, text: &str) -> Result<(String, String), AllocError> {
+    let body = body_of(alloc, text, 0)?;
+    code_and_lists(alloc, &body)
+}
+
 #[test]
 fn bodies(rt: HostRuntime) -> Result<(), Fail> {
     for (text, wanted_code, wanted_lists) in &BODIES {
-        let body = body_of(rt.alloc(), text, 0)?;
-        let found = code(rt.alloc(), &body)?;
+        let (found, lists) = shown(rt.alloc(), text)?;
         assert!(rt; found.as_str() == *wanted_code, "{text}: {found}");
-        let found = lists(rt.alloc(), &body)?;
-        assert!(rt; found.as_str() == *wanted_lists, "{text}: {found}");
+        assert!(rt; lists.as_str() == *wanted_lists, "{text}: {lists}");
     }
     Ok(())
+}
+
+/// The instructions of the body of a text, without the last of its kept tokens.
+fn code_without(alloc: Global, text: &str, without: usize) -> Result<String, AllocError> {
+    let body = body_of(alloc, text, without)?;
+    code(alloc, &body)
 }
 
 /// What is still open ends: the last three kept tokens are the `end` of both blocks and the parenthesis of the field.
 #[test]
 fn what_is_open_ends(rt: HostRuntime) -> Result<(), Fail> {
-    let body = body_of(rt.alloc(), "(func block if nop else nop end end)", 3)?;
-    let found = code(rt.alloc(), &body)?;
+    let found = code_without(rt.alloc(), "(func block if nop else nop end end)", 3)?;
     assert_eq!(rt; found.as_str(), "block:0 if:1 nop else nop end end");
     Ok(())
 }
 
-/// The parameters, results and names of a type, and the same as a type use.
+/// A type field.
+const TYPE: &str = "(type $t (func (param $a i32) (param i64 i64) (param $b i32) (result i64)))";
+
+/// The parameters, results and names of a type.
+fn type_of(alloc: Global, text: &str) -> Result<String, AllocError> {
+    let (signature, found) = use_of(alloc, text)?.parts()?;
+    signature_and_names(alloc, &signature, found.as_slice())
+}
+
 #[test]
 fn types(rt: HostRuntime) -> Result<(), Fail> {
-    let text = "(type $t (func (param $a i32) (param i64 i64) (param $b i32) (result i64)))";
-    let (signature, found) = use_of(rt.alloc(), text)?.parts()?;
-    assert_eq!(rt; key(rt.alloc(), signature.key())?.as_str(), "=illi>l");
-    assert_eq!(rt;
-        names(rt.alloc(), found.as_slice())?.as_str(),
-        " 0:$a@7 3:$b@17"
-    );
-    let said = use_of(rt.alloc(), text)?.finish()?;
-    assert_eq!(rt; key(rt.alloc(), said.signature.key())?.as_str(), "=illi>l");
-    assert_eq!(rt; said.names.len(), 2);
-    assert_eq!(rt; said.token, 1);
+    let found = type_of(rt.alloc(), TYPE)?;
+    assert_eq!(rt; found.as_str(), "=illi>l 0:$a@7 3:$b@17");
+    Ok(())
+}
+
+/// The same type as a type use.
+fn said_of(alloc: Global, text: &str) -> Result<String, AllocError> {
+    let said = use_of(alloc, text)?.finish()?;
+    type_use(alloc, &said)
+}
+
+#[test]
+fn type_uses(rt: HostRuntime) -> Result<(), Fail> {
+    let found = said_of(rt.alloc(), TYPE)?;
+    assert_eq!(rt; found.as_str(), "1 func - =illi>l 0:$a@7 3:$b@17");
     Ok(())
 }

@@ -37,6 +37,25 @@ fn kept_of(alloc: Global, words: &[Word<'_>]) -> Result<Vec<Kept>, AllocError> {
     }
 }
 
+/// Says one kept token of a body.
+fn say<'a>(draft: &mut BodyDraft<'a>, one: &Kept, words: &[Word<'a>]) -> Result<(), AllocError> {
+    match words.get(one.at) {
+        Some(word) if one.role != Role::Field && one.role != Role::FieldEnd => {
+            draft.take(one.role, word)
+        }
+        _ => Ok(()),
+    }
+}
+
+/// The body that these kept tokens say.
+fn said<'a>(alloc: Global, words: &[Word<'a>], kept: &[Kept]) -> Result<TextBody<'a>, AllocError> {
+    let mut draft = BodyDraft::new(alloc);
+    for one in kept {
+        say(&mut draft, one, words)?;
+    }
+    draft.finish()
+}
+
 /// The body of a function without a type use, without the last of its kept tokens.
 pub fn body_of<'a>(
     alloc: Global,
@@ -46,26 +65,27 @@ pub fn body_of<'a>(
     let words = words_of(alloc, text)?;
     let kept = kept_of(alloc, words.as_slice())?;
     let count = kept.len().saturating_sub(without);
-    let mut draft = BodyDraft::new(alloc);
-    for one in kept.as_slice().iter().take(count) {
-        if one.role != Role::Field && one.role != Role::FieldEnd {
-            if let Some(word) = words.get(one.at) {
-                draft.take(one.role, word)?;
-            }
+    said(alloc, words.as_slice(), &kept.as_slice()[..count])
+}
+
+/// The type that these kept tokens say, as a type use.
+fn said_use<'a>(
+    alloc: Global,
+    words: &[Word<'a>],
+    kept: &[Kept],
+) -> Result<UseDraft<'a>, AllocError> {
+    let mut draft = UseDraft::new(alloc, User::Func, 1);
+    for one in kept {
+        if let Some(word) = words.get(one.at) {
+            draft.take(one.role, word)?;
         }
     }
-    draft.finish()
+    Ok(draft)
 }
 
 /// The type of a type field, as a type use.
 pub fn use_of<'a>(alloc: Global, text: &'a str) -> Result<UseDraft<'a>, AllocError> {
     let words = words_of(alloc, text)?;
     let kept = kept_of(alloc, words.as_slice())?;
-    let mut draft = UseDraft::new(alloc, User::Func, 1);
-    for one in kept.as_slice() {
-        if let Some(word) = words.get(one.at) {
-            draft.take(one.role, word)?;
-        }
-    }
-    Ok(draft)
+    said_use(alloc, words.as_slice(), kept.as_slice())
 }

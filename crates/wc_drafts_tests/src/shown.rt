@@ -3,7 +3,8 @@
 use std::alloc::{AllocError, Global};
 use wc_ast::{Kind, Op, ValType};
 use wc_surface::{
-    Head, HeadType, Id, Index, Operand, ParamName, TextBody, TextEntry, TextInstr, TypeUse, User,
+    Head, HeadType, Id, Index, Operand, ParamName, Signature, TextBody, TextEntry, TextInstr,
+    TypeUse, User,
 };
 
 /// An identifier and its token.
@@ -83,7 +84,7 @@ fn index(alloc: Global, index: &Option<Index<'_>>) -> Result<String, AllocError>
 }
 
 /// The key of a function type, a letter a byte.
-pub fn key(alloc: Global, bytes: &[u8]) -> Result<String, AllocError> {
+fn key(alloc: Global, bytes: &[u8]) -> Result<String, AllocError> {
     let mut text = format!(in alloc; "=")?;
     for byte in bytes {
         match *byte {
@@ -96,7 +97,7 @@ pub fn key(alloc: Global, bytes: &[u8]) -> Result<String, AllocError> {
 }
 
 /// The identifiers of parameters, each behind the place of its parameter.
-pub fn names(alloc: Global, names: &[ParamName<'_>]) -> Result<String, AllocError> {
+fn names(alloc: Global, names: &[ParamName<'_>]) -> Result<String, AllocError> {
     let mut text = String::new(alloc);
     for name in names {
         let one = format!(in alloc; " {}:{}@{}", name.place, name.id.text(), name.id.token())?;
@@ -105,17 +106,31 @@ pub fn names(alloc: Global, names: &[ParamName<'_>]) -> Result<String, AllocErro
     Ok(text)
 }
 
-/// A type use: its token and user, index, key and names.
-fn type_use(alloc: Global, said: &TypeUse<'_>) -> Result<String, AllocError> {
-    let user = match said.user {
+/// A function type, and the identifiers of its parameters.
+pub fn signature_and_names(
+    alloc: Global,
+    signature: &Signature,
+    found: &[ParamName<'_>],
+) -> Result<String, AllocError> {
+    let mut text = key(alloc, signature.key())?;
+    text.push_str(names(alloc, found)?.as_str())?;
+    Ok(text)
+}
+
+fn user(user: User) -> &'static str {
+    match user {
         User::Func => "func",
         User::CallIndirect => "call",
         User::Block => "block",
-    };
+    }
+}
+
+/// A type use: its token and user, index, key and names.
+pub fn type_use(alloc: Global, said: &TypeUse<'_>) -> Result<String, AllocError> {
+    let user = user(said.user);
     let index = index(alloc, &said.index)?;
-    let key = key(alloc, said.signature.key())?;
-    let names = names(alloc, said.names.as_slice())?;
-    Ok(format!(in alloc; "{} {user} {index} {key}{names}", said.token)?)
+    let signature = signature_and_names(alloc, &said.signature, said.names.as_slice())?;
+    Ok(format!(in alloc; "{} {user} {index} {signature}", said.token)?)
 }
 
 /// The instructions of a body.
@@ -130,20 +145,46 @@ pub fn code(alloc: Global, body: &TextBody<'_>) -> Result<String, AllocError> {
     Ok(text)
 }
 
-/// The lists of a body: its heads, uses, identifiers and labels.
-pub fn lists(alloc: Global, body: &TextBody<'_>) -> Result<String, AllocError> {
-    let mut text = String::new(alloc);
-    for one in body.heads.as_slice() {
+fn put_heads(text: &mut String, alloc: Global, heads: &[Head<'_>]) -> Result<(), AllocError> {
+    for one in heads {
         text.push_str(format!(in alloc; "head {}; ", head(alloc, one)?)?.as_str())?;
     }
-    for one in body.uses.as_slice() {
+    Ok(())
+}
+
+fn put_uses(text: &mut String, alloc: Global, uses: &[TypeUse<'_>]) -> Result<(), AllocError> {
+    for one in uses {
         text.push_str(format!(in alloc; "use {}; ", type_use(alloc, one)?)?.as_str())?;
     }
-    for one in body.ids.as_slice() {
+    Ok(())
+}
+
+fn put_ids(text: &mut String, alloc: Global, ids: &[Id<'_>]) -> Result<(), AllocError> {
+    for one in ids {
         text.push_str(format!(in alloc; "id {}@{}; ", one.text(), one.token())?.as_str())?;
     }
-    for one in body.labels.as_slice() {
+    Ok(())
+}
+
+fn put_labels(text: &mut String, alloc: Global, labels: &[Operand]) -> Result<(), AllocError> {
+    for one in labels {
         text.push_str(format!(in alloc; "label {}; ", operand(alloc, *one)?)?.as_str())?;
     }
+    Ok(())
+}
+
+/// The lists of a body: its heads, uses, identifiers and labels.
+fn lists(alloc: Global, body: &TextBody<'_>) -> Result<String, AllocError> {
+    let mut text = String::new(alloc);
+    put_heads(&mut text, alloc, body.heads.as_slice())?;
+    put_uses(&mut text, alloc, body.uses.as_slice())?;
+    put_ids(&mut text, alloc, body.ids.as_slice())?;
+    put_labels(&mut text, alloc, body.labels.as_slice())?;
     Ok(text)
+}
+
+/// Both.
+pub fn code_and_lists(alloc: Global, body: &TextBody<'_>) -> Result<(String, String), AllocError> {
+    let code = code(alloc, body)?;
+    Ok((code, lists(alloc, body)?))
 }
