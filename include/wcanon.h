@@ -24,7 +24,7 @@ enum {
 
 /* Writes the canonical bytes of the module that the input denotes to the front of out, and their number to *needed.
  * WCANON_DONE, WCANON_REFUSED, WCANON_NO_MEMORY or WCANON_SHORT; with any but WCANON_DONE nothing is written to out, and
- * *needed is 0 but with WCANON_SHORT. Room of the input's length is always enough. */
+ * *needed is 0 but with WCANON_SHORT. Room of a binary's length is always enough for its answer. */
 uint32_t wcanon_normalise(const uint8_t *input, size_t length, uint8_t *out, size_t room, size_t *needed);
 
 /* Tells whether the input is accepted: WCANON_DONE, WCANON_REFUSED or WCANON_NO_MEMORY. The text of a refusal, without a

@@ -1,35 +1,30 @@
 -- What is known where a read failed.
 use Rattle.std.proofs.Common.{◌≡◌, ℕ, List, [], Option, Some, None, Result, Ok, Err, IfSome, IfErr, IsErrAnd}
-use Rattle.std.proofs.Common.{false, subst, sym, refl, inl, inr, ◌∙◌}
+use Rattle.std.proofs.Common.{Bool, true, false, length, subst, sym, refl, inl, inr, ◌∙◌}
 use Rattle.std.specs.Option.{is_some}
 use Rattle.std.specs.Io.KnownBytes.{Keeps, IsAtEnd}
 use Rattle.wc_device.specs.Device.{first_failure}
 use Rattle.wc_binary.specs.declared.fault.BinFault.{BinFault}
 use Rattle.wc_binary.specs.declared.fault.BinFault.TheVariants.{Bad, Read as Unread, Memory as NoMemoryToDecode}
-use Rattle.wc_binary.specs.Standard.Module.{preamble}
-use Rattle.wc_binary.specs.Standard.Decoding.{IsCutShort, DecodesCut}
+use Rattle.wc_binary.specs.Standard.Decoding.{DecodesCut}
 use Rattle.wc_canon.specs.declared.fault.Refusal.{Refusal}
-use Rattle.wc_canon.specs.declared.fault.Refusal.TheVariants.{Binary, Check, Oversize, Memory as NoMemory}
+use Rattle.wc_canon.specs.declared.fault.Refusal.TheVariants.{Binary, Lex, Syntax, Names, Check, Oversize}
+use Rattle.wc_canon.specs.declared.fault.Refusal.TheVariants.{Memory as NoMemory}
 use Rattle.wc_canon.specs.declared.fault.RunFault.{RunFault}
-use Rattle.wc_canon.specs.declared.fault.RunFault.TheVariants.{Read}
+use Rattle.wc_canon.specs.declared.fault.RunFault.TheVariants.{Refused, Read, Write, Memory}
 use Rattle.wc_canon.specs.Inner.Faults.{decoding_fault, refusing_fault}
-use Rattle.wc_canon.specs.Run.{ReadsCut}
+use Rattle.wc_canon.specs.Input.{is_binary}
+use Rattle.wc_canon.specs.Run.{IsCut, ReadsCut}
 
 -- ---- the first read
 
--- of no byte the first is missing
-pub none-cut : IsCutShort [] 0
-unfolding preamble
-none-cut = inr (inl (0, inl (inl (inl refl))))
-
--- a read fails before any byte, where no more are told
+-- a read fails before any byte, where no more are told: then the input is an empty text
 pub first-cut : (old new : Option (List ℕ)) (at : ℕ) → at ≡ 0 → Keeps old new → IsAtEnd new
-    → IfSome old (λ x. DecodesCut x (Err (Unread at)))
+    → IfSome old (ReadsCut (Read at))
 first-cut None new at zero k e = tt
 first-cut (Some x) None at zero k e = absurd k
 first-cut (Some x) (Some y) at zero k e =
-    let none : x ≡ [] = sym k ∙ e in
-    let cut = subst (λ (n : ℕ). IsCutShort [] n) (sym zero) none-cut in subst (λ z. IsCutShort z at) (sym none) cut
+    let none : x ≡ [] = sym k ∙ e in subst (λ z. ReadsCut (Read at) z) (sym none) zero
 
 pub first-fails : (failed new : Option ℕ) (count : ℕ) → is_some failed ≡ false → new ≡ first_failure failed count
     → new ≡ Some count
@@ -38,20 +33,39 @@ first-fails (Some at) new count well e = absurd cc
 
 -- ---- what was told of decoding is told of the run
 
-cut-told : (x : List ℕ) (e : BinFault) → DecodesCut x (Err e) → ReadsCut (decoding_fault e) x
-cut-told x (Bad at why) p = tt
-cut-told x (Unread at) p = p
-cut-told x NoMemoryToDecode p = tt
+cut-told : (x : List ℕ) (e : BinFault) → is_binary x ≡ true → DecodesCut x (Err e) → ReadsCut (decoding_fault e) x
+cut-told x (Bad at why) s p = tt
+cut-told x (Unread at) s p = subst (λ t. IsCut t x at) (sym s) p
+cut-told x NoMemoryToDecode s p = tt
 
 pub cut-decoded : {V : Type 0} (a : Option (List ℕ)) (e : BinFault) (r : Result V RunFault)
-    → IfSome a (λ x. DecodesCut x (Err e)) → IsErrAnd r (λ f. f ≡ decoding_fault e)
+    → IfSome a (λ x. is_binary x ≡ true) → IfSome a (λ x. DecodesCut x (Err e)) → IsErrAnd r (λ f. f ≡ decoding_fault e)
     → IfErr r (λ f. IfSome a (ReadsCut f))
-cut-decoded a e (Ok v) p h = tt
-cut-decoded None e (Err f) p h = tt
-cut-decoded (Some x) e (Err f) p h = subst (λ g. ReadsCut g x) (sym h) (cut-told x e p)
+cut-decoded a e (Ok v) s p h = tt
+cut-decoded None e (Err f) s p h = tt
+cut-decoded (Some x) e (Err f) s p h = subst (λ g. ReadsCut g x) (sym h) (cut-told x e s p)
+
+-- a text was read to where the read failed
+pub text-cut : (x : Option (List ℕ)) (f : RunFault) → IfSome x (λ u. is_binary u ≡ false)
+    → ((at : ℕ) → f ≡ Read at → IfSome x (λ u. at ≡ length u)) → IfSome x (ReadsCut f)
+text-cut None f s p = tt
+text-cut (Some u) (Refused f) s p = tt
+text-cut (Some u) (Read at) s p = subst (λ t. IsCut t u at) (sym s) (p at refl)
+text-cut (Some u) (Write written) s p = tt
+text-cut (Some u) Memory s p = tt
+
+pub text-cut-told : {V : Type 0} (x : Option (List ℕ)) (f : RunFault) (r : Result V RunFault)
+    → IfSome x (λ u. is_binary u ≡ false) → ((at : ℕ) → f ≡ Read at → IfSome x (λ u. at ≡ length u))
+    → IsErrAnd r (λ g. g ≡ f) → IfErr r (λ e. IfSome x (ReadsCut e))
+text-cut-told x f (Ok v) s p h = absurd h
+text-cut-told x f (Err g) s p h =
+    let T : RunFault → Type 0 = λ e. IfSome x (ReadsCut e) in subst T (sym h) (text-cut x f s p)
 
 cut-refusing : (x : List ℕ) (f : Refusal) → ReadsCut (refusing_fault f) x
 cut-refusing x (Binary at why) = tt
+cut-refusing x (Lex at why) = tt
+cut-refusing x (Syntax token at why) = tt
+cut-refusing x (Names token at why) = tt
 cut-refusing x (Check item why) = tt
 cut-refusing x Oversize = tt
 cut-refusing x NoMemory = tt
@@ -76,6 +90,9 @@ fails-at failed e (Err f) p h = λ at is. p at (same-place e at (sym h ∙ is))
 
 never-unread : (f : Refusal) (at : ℕ) → refusing_fault f ≡ Read at → ⊥
 never-unread (Binary a why) at is = absurd cc
+never-unread (Lex a why) at is = absurd cc
+never-unread (Syntax token a why) at is = absurd cc
+never-unread (Names token a why) at is = absurd cc
 never-unread (Check item why) at is = absurd cc
 never-unread Oversize at is = absurd cc
 never-unread NoMemory at is = absurd cc
@@ -84,3 +101,8 @@ pub refused-fails-at : {V : Type 0} (failed : Option ℕ) (f : Refusal) (r : Res
     → IsErrAnd r (λ g. g ≡ refusing_fault f) → IfErr r (λ g. (at : ℕ) → g ≡ Read at → failed ≡ Some at)
 refused-fails-at failed f (Ok v) h = tt
 refused-fails-at failed f (Err g) h = λ at is. absurd (never-unread f at (sym h ∙ is))
+
+pub refused-reads-at : {V : Type 0} (count : ℕ) (f : Refusal) (r : Result V RunFault)
+    → IsErrAnd r (λ g. g ≡ refusing_fault f) → IfErr r (λ g. (at : ℕ) → g ≡ Read at → at ≡ count)
+refused-reads-at count f (Ok v) h = tt
+refused-reads-at count f (Err g) h = λ at is. absurd (never-unread f at (sym h ∙ is))

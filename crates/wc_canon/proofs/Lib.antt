@@ -1,4 +1,7 @@
+pub mod Sizes
 pub mod Laws
 pub mod Judged
+pub mod Again
+pub mod Streams
 pub mod FailedReads
 pub mod Comparisons

@@ -1,4 +1,5 @@
 pub mod Input
+pub mod Printing
 pub mod Comparing
 pub mod Fixed
 pub mod Run

@@ -5,10 +5,14 @@ use Rattle.std.specs.Io.KnownBytes.{Keeps, Appends}
 use Rattle.wc_binary.specs.Standard.Phrase.{halt}
 use Rattle.wc_binary.specs.Standard.Module.{StopB}
 use Rattle.wc_binary.specs.Standard.Decoding.{IsCutShort}
-use Rattle.wc_canon.specs.declared.fault.Refusal.TheVariants.{Binary, Check, Oversize, Memory as NoMemory}
+use Rattle.wc_canon.specs.declared.fault.Refusal.TheVariants.{Binary, Lex, Syntax, Names, Check, Oversize}
+use Rattle.wc_canon.specs.declared.fault.Refusal.TheVariants.{Memory as NoMemory}
 use Rattle.wc_canon.specs.declared.fault.RunFault.{RunFault}
 use Rattle.wc_canon.specs.declared.fault.RunFault.TheVariants.{Refused, Read, Write, Memory}
-use Rattle.wc_canon.specs.Input.{HasAnswer, HasFault}
+use Rattle.wc_canon.specs.declared.running.Job.{Job}
+use Rattle.wc_canon.specs.declared.running.Job.TheVariants as job
+use Rattle.wc_canon.specs.Input.{is_binary, HasAnswer, HasFault}
+use Rattle.wc_canon.specs.Printing.{HasText}
 
 -- the run ended by its reader
 abbrev pub is_read_fault : {V : Type 0} → Result V RunFault → Bool
@@ -20,10 +24,19 @@ abbrev pub is_write_fault : {V : Type 0} → Result V RunFault → Bool
 is_write_fault (Err (Write written)) = true
 is_write_fault _ = false
 
+-- b is what the job writes for the input: its canonical bytes, or its printed text
+abbrev pub HasOutput : Job → List ℕ → List ℕ → Type 0
+HasOutput job.Binary x b = HasAnswer x b
+HasOutput job.Text x b = HasText x b
+
+-- the same where the bytes of the input are known, and else of some input
+abbrev pub IsOutputOf : Job → Option (List ℕ) → List ℕ → Type 0
+IsOutputOf j None b = (x : List ℕ) × HasOutput j x b
+IsOutputOf j (Some x) b = HasOutput j x b
+
 -- b is the answer to the input, where its bytes are known, and else to some input
 abbrev pub IsAnswerOf : Option (List ℕ) → List ℕ → Type 0
-IsAnswerOf None b = (x : List ℕ) × HasAnswer x b
-IsAnswerOf (Some x) b = HasAnswer x b
+IsAnswerOf input b = IsOutputOf job.Binary input b
 
 -- what holds of the value that is answered to the input; or f is its fault, where its bytes are known
 abbrev pub Judges : {V : Type 0} → Option (List ℕ) → (V → Type 0) → Result V RunFault → Type 0
@@ -33,14 +46,15 @@ Judges input P (Err (Read at)) = ⊤
 Judges input P (Err (Write written)) = ⊤
 Judges input P (Err Memory) = ⊤
 
--- the whole answer to the input went out, n bytes; or f is its fault, where its bytes are known; or exactly the first n
--- bytes of the answer went out
-abbrev pub Answers : Option (List ℕ) → Option (List ℕ) → Option (List ℕ) → Result ℕ RunFault → Type 0
-Answers input old new (Ok n) = (b : List ℕ) × IsAnswerOf input b × (n ≡ length b) × Appends old new b
-Answers input old new (Err (Refused f)) = IfSome input (λ x. HasFault x f)
-Answers input old new (Err (Read at)) = ⊤
-Answers input old new (Err (Write n)) = (b : List ℕ) × IsAnswerOf input b × (n ≤ length b) × Appends old new (take n b)
-Answers input old new (Err Memory) = ⊤
+-- the whole output of the job for the input went out, n bytes; or f is its fault, where its bytes are known; or exactly
+-- the first n bytes of the output went out
+abbrev pub Answers : Job → Option (List ℕ) → Option (List ℕ) → Option (List ℕ) → Result ℕ RunFault → Type 0
+Answers j input old new (Ok n) = (b : List ℕ) × IsOutputOf j input b × (n ≡ length b) × Appends old new b
+Answers j input old new (Err (Refused f)) = IfSome input (λ x. HasFault x f)
+Answers j input old new (Err (Read at)) = ⊤
+Answers j input old new (Err (Write n)) =
+    (b : List ℕ) × IsOutputOf j input b × (n ≤ length b) × Appends old new (take n b)
+Answers j input old new (Err Memory) = ⊤
 
 -- nothing went out without an answer
 abbrev pub IsQuiet : Option (List ℕ) → Option (List ℕ) → Result ℕ RunFault → Type 0
@@ -50,10 +64,13 @@ IsQuiet old new (Err (Read at)) = Keeps old new
 IsQuiet old new (Err (Write n)) = ⊤
 IsQuiet old new (Err Memory) = Keeps old new
 
--- at most 4,096 bytes were read past those behind which the fault of the bytes x showed, which for a module that is
--- refused are all bytes
+-- at most 4,096 bytes were read past those behind which the fault of the binary x showed, which for a module that is
+-- refused are all bytes; of a text all bytes were read
 abbrev pub RefusesNear : ℕ → RunFault → List ℕ → Type 0
 RefusesNear count (Refused (Binary at why)) x = (taken : ℕ) × StopB x (halt at why taken) × (count ≤ taken + 4096)
+RefusesNear count (Refused (Lex at why)) x = count ≡ length x
+RefusesNear count (Refused (Syntax token at why)) x = count ≡ length x
+RefusesNear count (Refused (Names token at why)) x = count ≡ length x
 RefusesNear count (Refused (Check item why)) x = count ≡ length x
 RefusesNear count (Refused Oversize) x = count ≡ length x
 RefusesNear count (Refused NoMemory) x = ⊤
@@ -61,9 +78,14 @@ RefusesNear count (Read at) x = ⊤
 RefusesNear count (Write written) x = ⊤
 RefusesNear count Memory x = ⊤
 
+-- where a read fails behind the bytes x: a binary has no fault that shows before their end, and a text was read so far
+abbrev pub IsCut : Bool → List ℕ → ℕ → Type 0
+IsCut true x at = IsCutShort x at
+IsCut false x at = at ≡ length x
+
 -- a failed read was told, and no fault of the bytes that were read before it
 abbrev pub ReadsCut : RunFault → List ℕ → Type 0
 ReadsCut (Refused f) x = ⊤
-ReadsCut (Read at) x = IsCutShort x at
+ReadsCut (Read at) x = IsCut (is_binary x) x at
 ReadsCut (Write written) x = ⊤
 ReadsCut Memory x = ⊤

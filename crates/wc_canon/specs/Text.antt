@@ -3,6 +3,12 @@ use Rattle.std.specs.Prelude.{ℕ, List, ◌++◌, codes}
 use Rattle.std.specs.Fmt.{decimal}
 use Rattle.wc_binary.specs.declared.fault.BinWhy.{BinWhy}
 use Rattle.wc_binary.specs.declared.fault.BinWhy.TheVariants as bin
+use Rattle.wc_tokens.specs.declared.fault.LexWhy.{LexWhy}
+use Rattle.wc_tokens.specs.declared.fault.LexWhy.TheVariants as lex
+use Rattle.wc_syntax.specs.declared.why.SynWhy.{SynWhy}
+use Rattle.wc_syntax.specs.declared.why.SynWhy.TheVariants as syn
+use Rattle.wc_targets.specs.declared.why.NameWhy.{NameWhy}
+use Rattle.wc_targets.specs.declared.why.NameWhy.TheVariants as names
 use Rattle.wc_check.specs.declared.fault.Item.{Item}
 use Rattle.wc_check.specs.declared.fault.Item.TheVariants.{Import, Func, Instr, Table, Memory, Global}
 use Rattle.wc_check.specs.declared.fault.Item.TheVariants.{Export, Start, Elem, Data}
@@ -30,6 +36,39 @@ reason_text bin.Depth = codes "nesting too deep"
 reason_text bin.Locals = codes "too many locals"
 reason_text bin.BodySize = codes "body size differs from its content"
 reason_text bin.Counts = codes "function and code counts differ"
+
+-- why characters are no tokens
+abbrev pub character_text : LexWhy → List ℕ
+character_text lex.NotUtf8 = codes "text is not UTF-8"
+character_text lex.Character = codes "unexpected character"
+character_text lex.CommentOpen = codes "comment is not closed"
+character_text lex.StringOpen = codes "string is not closed"
+character_text lex.Escape = codes "bad escape or character in string"
+character_text lex.TooLong = codes "text too long"
+
+-- why tokens are no text of the grammar
+abbrev pub grammar_text : SynWhy → List ℕ
+grammar_text syn.Unexpected = codes "unexpected token"
+grammar_text syn.End = codes "unexpected end"
+grammar_text syn.Range = codes "integer out of range"
+grammar_text syn.Align = codes "alignment is not a power of two"
+grammar_text syn.Float = codes "float is not supported"
+grammar_text syn.NoInstruction = codes "unknown instruction"
+grammar_text syn.Depth = codes "nesting too deep"
+grammar_text syn.NameNotUtf8 = codes "name is not UTF-8"
+
+-- why the names of a text denote nothing
+abbrev pub name_text : NameWhy → List ℕ
+name_text names.UnknownId = codes "unknown identifier"
+name_text names.DuplicateId = codes "duplicate identifier"
+name_text names.LateImport = codes "import after a definition"
+name_text names.TypeDiffers = codes "type differs from its use"
+name_text names.SecondStart = codes "second start"
+name_text names.LabelDiffers = codes "label differs"
+name_text names.NoSuchType = codes "no such type"
+name_text names.NamedParam = codes "parameter name in call_indirect"
+name_text names.TooManyLocals = codes "too many locals"
+name_text names.BlockParam = codes "parameter name in a block type"
 
 -- which rule is broken
 abbrev pub rule_text : CheckWhy → List ℕ
@@ -61,9 +100,20 @@ broken_text Start text = codes "start: " ++ text
 broken_text (Elem n) text = numbered (codes "elem ") n text
 broken_text (Data n) text = numbered (codes "data ") n text
 
+-- a byte by its number, and a text behind it
+abbrev pub at_byte : ℕ → List ℕ → List ℕ
+at_byte at text = numbered (codes "byte ") at text
+
+-- a token by its number and its byte, and a text behind it
+abbrev pub at_token : ℕ → ℕ → List ℕ → List ℕ
+at_token token at text = codes "token " ++ (decimal token ++ numbered (codes " at byte ") at text)
+
 -- the place of a fault, in decimal digits, and its reason; or an item and the rule that it breaks
 abbrev pub refusal_text : Refusal → List ℕ
-refusal_text (refusal.Binary at why) = codes "byte " ++ (decimal at ++ (codes ": " ++ reason_text why))
+refusal_text (refusal.Binary at why) = at_byte at (reason_text why)
+refusal_text (refusal.Lex at why) = at_byte at (character_text why)
+refusal_text (refusal.Syntax token at why) = at_token token at (grammar_text why)
+refusal_text (refusal.Names token at why) = at_token token at (name_text why)
 refusal_text (refusal.Check item why) = broken_text item (rule_text why)
 refusal_text refusal.Oversize = codes "module too large"
 refusal_text refusal.Memory = codes "out of memory"

@@ -1,6 +1,6 @@
 //! The canonical bytes of a module that breaks no rule.
 
-ghost use Rattle.std.specs.Prelude.{IfOk, IfErr};
+ghost use Rattle.std.specs.Prelude.{IfOk, IfErr, OnOk};
 ghost use Rattle.wc_binary.specs.Standard.Module.{Canon, IsShortestOf};
 ghost use Rattle.wc_canon.specs.Input.{KeepsRules};
 ghost use Rattle.wc_canon.specs.Inner.Steps.{IsModuleFault};
@@ -11,6 +11,15 @@ use wc_ast::Module;
 use wc_binary::encode;
 use wc_check::check;
 
+/// That the module breaks no rule.
+pub(crate) fn judge_module(alloc: Global, module: &Module) -> Result<(), Refusal>
+    ensures keeps { OnOk result (KeepsRules «module».now) }
+    ensures err { IfErr result (IsModuleFault «module».now) }
+{
+    check(alloc, module)?;
+    Ok(())
+}
+
 /// The canonical bytes of the module, where it breaks no rule.
 pub(crate) fn canonical_bytes(alloc: Global, module: &Module) -> Result<Vec<u8>, Refusal>
     ensures keeps { IfOk result (λ b. KeepsRules «module».now) }
@@ -18,6 +27,6 @@ pub(crate) fn canonical_bytes(alloc: Global, module: &Module) -> Result<Vec<u8>,
     ensures shortest { IfOk result (λ b. IsShortestOf b.items «module».now) }
     ensures err { IfErr result (IsModuleFault «module».now) }
 {
-    check(alloc, module)?;
+    judge_module(alloc, module)?;
     Ok(encode(alloc, module)?)
 }

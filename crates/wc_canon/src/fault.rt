@@ -1,15 +1,29 @@
 //! Why an input is refused, and why a run gave no answer.
 
+use std::alloc::AllocError;
 use thiserror::Error;
 use wc_binary::{BinFault, BinWhy, EncFault};
 use wc_check::{CheckFault, CheckWhy, Item};
+use wc_source::TextFault;
+use wc_syntax::SynWhy;
+use wc_targets::NameWhy;
+use wc_tokens::LexWhy;
 
 /// Why an input has no canonical bytes. [`render`](crate::render) gives the text.
 #[derive(Debug, Drop)]
 pub enum Refusal {
-    /// The input is no binary (WebAssembly Core Specification 1.0, chapter 5). `at` is the byte of its first fault,
-    /// counted from 0, and `why` says which byte that is.
+    /// The input begins with the byte 00 and is no binary (WebAssembly Core Specification 1.0, chapter 5). `at` is the
+    /// byte of its first fault, counted from 0, and `why` says which byte that is.
     Binary { at: u64, why: BinWhy },
+    /// Any other input: it isn't made of white space, comments and tokens (6.2 and 6.3). `at` is the byte of its first
+    /// fault, and `why` says which byte that is.
+    Lex { at: u64, why: LexWhy },
+    /// Its tokens are no text of the grammar (6.4 to 6.6). `token` is the number of the first one with which no text goes
+    /// on, counted from 0, or the number of all where one is missing, and `at` is its first byte, or the length of the
+    /// input.
+    Syntax { token: u64, at: u64, why: SynWhy },
+    /// Its names are wrong (6.6). `token` is the number of the token that `why` says, and `at` is its first byte.
+    Names { token: u64, at: u64, why: NameWhy },
     /// The input denotes a module that breaks a rule (WebAssembly Core Specification 1.0, chapter 3): the first item
     /// that breaks one, and the first rule that it breaks.
     Check { item: Item, why: CheckWhy },
@@ -35,6 +49,33 @@ pub enum RunFault {
     /// A growth of memory was refused. Nothing was written.
     #[error("out of memory")]
     Memory,
+}
+
+impl From<AllocError> for Refusal {
+    ghost use Rattle.std.specs.Prelude.{◌≡◌};
+    ghost use Rattle.wc_canon.specs.declared.fault.Refusal.TheVariants.{Memory};
+
+    ghost from_gives = { λ _ refusal. refusal ≡ Memory };
+
+    fn from(_error: AllocError) -> Refusal {
+        Refusal::Memory
+    }
+}
+
+impl From<TextFault> for Refusal {
+    ghost use Rattle.std.specs.Prelude.{◌≡◌};
+    ghost use Rattle.wc_canon.specs.Inner.Faults.{reading_refusal};
+
+    ghost from_gives = { λ fault refusal. refusal ≡ reading_refusal fault };
+
+    fn from(fault: TextFault) -> Refusal {
+        match fault {
+            TextFault::Lex { at, why } => Refusal::Lex { at, why },
+            TextFault::Syntax { token, at, why } => Refusal::Syntax { token, at, why },
+            TextFault::Names { token, at, why } => Refusal::Names { token, at, why },
+            TextFault::Memory => Refusal::Memory,
+        }
+    }
 }
 
 impl From<CheckFault> for Refusal {
@@ -65,6 +106,17 @@ impl From<EncFault> for Refusal {
     }
 }
 
+impl From<AllocError> for RunFault {
+    ghost use Rattle.std.specs.Prelude.{◌≡◌};
+    ghost use Rattle.wc_canon.specs.declared.fault.RunFault.TheVariants.{Memory};
+
+    ghost from_gives = { λ _ run_fault. run_fault ≡ Memory };
+
+    fn from(_error: AllocError) -> RunFault {
+        RunFault::Memory
+    }
+}
+
 impl From<Refusal> for RunFault {
     ghost use Rattle.std.specs.Prelude.{◌≡◌};
     ghost use Rattle.wc_canon.specs.Inner.Faults.{refusing_fault};
@@ -76,6 +128,17 @@ impl From<Refusal> for RunFault {
             Refusal::Memory => RunFault::Memory,
             refusal => RunFault::Refused(refusal),
         }
+    }
+}
+
+impl From<TextFault> for RunFault {
+    ghost use Rattle.std.specs.Prelude.{◌≡◌};
+    ghost use Rattle.wc_canon.specs.Inner.Faults.{reading_refusal, refusing_fault};
+
+    ghost from_gives = { λ fault run_fault. run_fault ≡ refusing_fault (reading_refusal fault) };
+
+    fn from(fault: TextFault) -> RunFault {
+        RunFault::from(Refusal::from(fault))
     }
 }
 

@@ -1,10 +1,10 @@
 //! Laws of answers and faults, each proved for all inputs and all modules.
 
-ghost use Rattle.std.specs.Prelude.{◌≡◌, ◌⊎◌, ◌↔◌, List, ℕ};
+ghost use Rattle.std.specs.Prelude.{◌≡◌, ◌⊎◌, ◌↔◌, List, ℕ, true};
 ghost use Rattle.wc_ast.specs.declared.module.Module.{Module};
 ghost use Rattle.wc_binary.specs.Standard.Module.{Bin};
 ghost use Rattle.wc_canon.specs.declared.fault.Refusal.{Refusal};
-ghost use Rattle.wc_canon.specs.Input.{Means, HasAnswer, HasFault};
+ghost use Rattle.wc_canon.specs.Input.{is_binary, Means, HasAnswer, HasFault};
 
 /// An input denotes at most one module.
 pub fn one_meaning()
@@ -49,5 +49,5 @@ pub fn always_judged()
 
 /// What bytes spell is never too large for its canonical bytes.
 pub fn never_oversize()
-    ensures { (x : List ℕ) → HasFault x Refusal.Oversize → ⊥ }
+    ensures { (x : List ℕ) → is_binary x ≡ true → HasFault x Refusal.Oversize → ⊥ }
 {}

@@ -6,14 +6,16 @@ mod accepting;
 mod canonical;
 mod comparing;
 mod comparing_from;
+mod denoted;
 mod fault;
 mod fixed;
+mod from_reader;
 mod law;
 mod normalising;
+mod printing;
 mod reading;
 mod rendering;
 mod running;
-mod spelled;
 
 pub use accepting::accept;
 pub use comparing::{Comparison, Side, compare};
@@ -25,6 +27,7 @@ pub use law::{
     one_fault, one_meaning, same_bytes_same_module,
 };
 pub use normalising::normalise;
-pub use reading::{accept_from, normalise_from};
+pub use printing::to_text;
+pub use reading::{accept_from, normalise_from, text_from};
 pub use rendering::render;
 pub use running::{Job, run};

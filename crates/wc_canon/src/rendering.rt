@@ -1,12 +1,16 @@
 //! The texts of refusals.
 
 ghost use Rattle.std.specs.Prelude.{◌≡◌, IfOk, string_bytes};
-ghost use Rattle.wc_canon.specs.Text.{reason_text, rule_text, broken_text, refusal_text};
+ghost use Rattle.wc_canon.specs.Text.{reason_text, character_text, grammar_text, name_text, rule_text};
+ghost use Rattle.wc_canon.specs.Text.{broken_text, refusal_text};
 
 use crate::fault::Refusal;
 use std::alloc::{AllocError, Global};
 use wc_binary::BinWhy;
 use wc_check::{CheckWhy, Item};
+use wc_syntax::SynWhy;
+use wc_targets::NameWhy;
+use wc_tokens::LexWhy;
 
 fn reason(why: BinWhy) -> &'static str
     ensures { result.now ≡ reason_text why }
@@ -29,6 +33,51 @@ fn reason(why: BinWhy) -> &'static str
         BinWhy::Locals => "too many locals",
         BinWhy::BodySize => "body size differs from its content",
         BinWhy::Counts => "function and code counts differ",
+    }
+}
+
+fn character(why: LexWhy) -> &'static str
+    ensures { result.now ≡ character_text why }
+{
+    match why {
+        LexWhy::NotUtf8 => "text is not UTF-8",
+        LexWhy::Character => "unexpected character",
+        LexWhy::CommentOpen => "comment is not closed",
+        LexWhy::StringOpen => "string is not closed",
+        LexWhy::Escape => "bad escape or character in string",
+        LexWhy::TooLong => "text too long",
+    }
+}
+
+fn grammar(why: SynWhy) -> &'static str
+    ensures { result.now ≡ grammar_text why }
+{
+    match why {
+        SynWhy::Unexpected => "unexpected token",
+        SynWhy::End => "unexpected end",
+        SynWhy::Range => "integer out of range",
+        SynWhy::Align => "alignment is not a power of two",
+        SynWhy::Float => "float is not supported",
+        SynWhy::NoInstruction => "unknown instruction",
+        SynWhy::Depth => "nesting too deep",
+        SynWhy::NameNotUtf8 => "name is not UTF-8",
+    }
+}
+
+fn name(why: NameWhy) -> &'static str
+    ensures { result.now ≡ name_text why }
+{
+    match why {
+        NameWhy::UnknownId => "unknown identifier",
+        NameWhy::DuplicateId => "duplicate identifier",
+        NameWhy::LateImport => "import after a definition",
+        NameWhy::TypeDiffers => "type differs from its use",
+        NameWhy::SecondStart => "second start",
+        NameWhy::LabelDiffers => "label differs",
+        NameWhy::NoSuchType => "no such type",
+        NameWhy::NamedParam => "parameter name in call_indirect",
+        NameWhy::TooManyLocals => "too many locals",
+        NameWhy::BlockParam => "parameter name in a block type",
     }
 }
 
@@ -69,8 +118,9 @@ fn render_broken(alloc: Global, item: Item, rule: &str) -> Result<String, AllocE
     }
 }
 
-/// The text of a refusal, without a line end. Numbers are in decimal digits. `byte AT: TEXT` where the input is no
-/// binary; `ITEM: TEXT` where a rule is broken, as in `func 0 instruction 1: label out of range`.
+/// The text of a refusal, without a line end. Numbers are in decimal digits. `byte AT: TEXT` where the bytes of a binary
+/// or the characters of a text are wrong; `token N at byte AT: TEXT` where the grammar or the names of a text are;
+/// `ITEM: TEXT` where a rule is broken, as in `func 0 instruction 1: label out of range`.
 ///
 /// # Errors
 /// A growth of memory was refused.
@@ -79,6 +129,13 @@ pub fn render(alloc: Global, refusal: &Refusal) -> Result<String, AllocError>
 {
     match refusal {
         Refusal::Binary { at, why } => format!(in alloc; "byte {at}: {}", reason(*why)),
+        Refusal::Lex { at, why } => format!(in alloc; "byte {at}: {}", character(*why)),
+        Refusal::Syntax { token, at, why } => {
+            format!(in alloc; "token {token} at byte {at}: {}", grammar(*why))
+        }
+        Refusal::Names { token, at, why } => {
+            format!(in alloc; "token {token} at byte {at}: {}", name(*why))
+        }
         Refusal::Check { item, why } => render_broken(alloc, *item, rule(*why)),
         Refusal::Oversize => "module too large".to_string(alloc),
         Refusal::Memory => "out of memory".to_string(alloc),

@@ -7,7 +7,7 @@ ghost use Rattle.wc_canon.specs.declared.fault.Refusal.TheVariants as refusals;
 ghost use Rattle.wc_canon.specs.Run.{Answers, RefusesNear, ReadsCut, IsQuiet, is_read_fault, is_write_fault};
 
 use crate::fault::RunFault;
-use crate::reading::normalise_from;
+use crate::reading::{normalise_from, text_from};
 use std::alloc::Global;
 use std::io::{Read, Write};
 use wc_device::Device;
@@ -17,6 +17,8 @@ use wc_device::Device;
 pub enum Job {
     /// The canonical bytes.
     Binary,
+    /// The printed text.
+    Text,
 }
 
 /// Writes all the bytes, and flushes once.
@@ -37,8 +39,8 @@ fn send<W: Write>(w: &mut Device<W>, bytes: &[u8]) -> Result<u64, RunFault>
 
 /// Reads an input, writes the answer to it and nothing else, flushes once, and answers how many bytes it wrote.
 ///
-/// Nothing is written before the whole answer stands. Where an input is refused before its end, the rest isn't read: at
-/// most 4,096 bytes are read past the byte where the fault shows.
+/// Nothing is written before the whole answer stands. Where a binary is refused before its end, the rest isn't read: at
+/// most 4,096 bytes are read past the byte where the fault shows. A text is read to its end, and then judged.
 ///
 /// # Errors
 /// `RunFault::Refused` where the input isn't accepted. `RunFault::Read` exactly where the reader failed, and
@@ -69,12 +71,12 @@ pub fn run<R: Read, W: Write>(
         (λ e. IfSome (R.remaining (device_inner r.old)) (ReadsCut e)) }
 
     ensures quiet { IsQuiet (W.contents (device_inner w.old)) (W.contents (device_inner w.new)) result }
-    ensures answers { Answers (R.remaining (device_inner r.old)) (W.contents (device_inner w.old))
+    ensures answers { Answers job (R.remaining (device_inner r.old)) (W.contents (device_inner w.old))
         (W.contents (device_inner w.new)) result }
     ensures near { IfErr result (λ e. IfSome (R.remaining (device_inner r.old)) (RefusesNear (read_count r.new) e)) }
 {
-    let bytes = match job {
-        Job::Binary => normalise_from(alloc, r)?,
-    };
-    send(w, &bytes)
+    match job {
+        Job::Binary => send(w, &normalise_from(alloc, r)?),
+        Job::Text => send(w, text_from(alloc, r)?.as_bytes()),
+    }
 }

@@ -1,6 +1,11 @@
 -- What an exit status says of the inputs.
 use Rattle.std.proofs.Common.{◌≡◌, ℕ, List, Bool, Option, Some, None, Result, Ok, Err, inl, inr}
 use Rattle.wc_canon.specs.declared.fault.Refusal.{Refusal}
+use Rattle.wc_canon.specs.Input.{IsAccepted}
+use Rattle.wc_canon.specs.Printing.{HasText}
+use Rattle.wc_canon.specs.Run.{HasOutput}
+use Rattle.wc_canon.specs.declared.running.Job.{Job}
+use Rattle.wc_canon.specs.declared.running.Job.TheVariants as jobs
 use Rattle.wc_canon.proofs.Comparisons.{answer-accepted}
 use Rattle.wc_cli.specs.declared.command_line.Ask.TheVariants.{Check, Canonical, Hash}
 use Rattle.wc_cli.specs.declared.command_line.Line.{Line}
@@ -23,12 +28,21 @@ two-tells (Compare p q) None y status e = tt
 two-tells (Compare p q) (Some u) None status e = tt
 two-tells (Compare p q) (Some u) (Some v) status e = (λ h. absurd (cc), λ h. absurd (cc))
 
+-- what is written of an input is of an accepted one
+text-accepted : (x text : List ℕ) → HasText x text → IsAccepted x
+unfolding HasText
+text-accepted x text p = (p.0, p.1)
+
+output-accepted : (j : Job) (x text : List ℕ) → HasOutput j x text → IsAccepted x
+output-accepted jobs.Binary x text p = answer-accepted x text p
+output-accepted jobs.Text x text p = text-accepted x text p
+
 -- a whole answer
 answer-tells : (line : Line) (x y : Option (List ℕ)) (text : List ℕ) (s status : ℕ) → IsAnswer line x y text s
     → status ≡ s → TellsLine line status x y
 answer-tells (Make job input output) None y text s status p e = tt
-answer-tells (Make job input output) (Some u) y text s status p e =
-    let zero : s ≡ 0 = p.1 in (λ h. answer-accepted u text p.0, λ h. absurd (cc))
+answer-tells (Make j input output) (Some u) y text s status p e =
+    let zero : s ≡ 0 = p.1 in (λ h. output-accepted j u text p.0, λ h. absurd (cc))
 answer-tells (Tell ask input named) None y text s status p e = tt
 answer-tells (Tell Check input named) (Some u) y text s status p e =
     let zero : s ≡ 0 = p.2 in (λ h. p.0, λ h. absurd (cc))

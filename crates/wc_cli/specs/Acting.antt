@@ -7,7 +7,7 @@ use denote.Ref.{Bor}
 use Rattle.wc_canon.specs.declared.fault.Refusal.{Refusal}
 use Rattle.wc_canon.specs.Input.{IsAccepted, HasFault}
 use Rattle.wc_canon.specs.Comparing.{IsSame, IsDifferent}
-use Rattle.wc_canon.specs.Run.{IsAnswerOf}
+use Rattle.wc_canon.specs.Run.{IsOutputOf}
 use Rattle.wc_canon.specs.declared.running.Job.TheVariants.{Binary}
 use Rattle.wc_cli.specs.declared.command_line.Line.{Line}
 use Rattle.wc_cli.specs.declared.command_line.Line.TheVariants.{Make, Tell, Compare}
@@ -25,7 +25,7 @@ IfBoth x y P = IfSome x (λ u. IfSome y (P u))
 
 -- the text that answers a line, and its status
 abbrev pub IsAnswer : Line → Option (List ℕ) → Option (List ℕ) → List ℕ → ℕ → Type 0
-IsAnswer (Make job input output) x y text status = IsAnswerOf x text × (status ≡ 0)
+IsAnswer (Make job input output) x y text status = IsOutputOf job x text × (status ≡ 0)
 IsAnswer (Tell ask input named) x y text status = AnswersAsk ask input.now named x text status
 IsAnswer (Compare p q) x y text status =
     (IfBoth x y IsSame × (text ≡ word_line (codes "same")) × (status ≡ 0))

@@ -9,7 +9,7 @@ use Rattle.wc_cli.specs.declared.command_line.Ask.TheVariants.{Check, Canonical,
 use Rattle.wc_cli.specs.declared.command_line.Line.{Line}
 use Rattle.wc_cli.specs.declared.command_line.Line.TheVariants as line
 use Rattle.wc_canon.specs.declared.running.Job.{Job}
-use Rattle.wc_canon.specs.declared.running.Job.TheVariants.{Binary}
+use Rattle.wc_canon.specs.declared.running.Job.TheVariants as job
 
 -- a line with its paths as texts
 pub data Asked : Type 0 where
@@ -28,9 +28,8 @@ abbrev pub asked_in : Option (Vec Line Global) → Option (List Asked)
 asked_in answer = option_map (λ v. map asked_by v.items) answer
 
 -- IN, and OUT where it is given
-abbrev pub binary_of : List Row → Option (List Asked)
-binary_of rows =
-    option_map (λ p. Make Binary p (first_of (codes "OUT") rows) ∷ []) (first_of (codes "IN") rows)
+abbrev pub make_of : Job → List Row → Option (List Asked)
+make_of job rows = option_map (λ p. Make job p (first_of (codes "OUT") rows) ∷ []) (first_of (codes "IN") rows)
 
 -- a line for each path, named where there are several
 abbrev pub told_of : Ask → List Text → List Asked
@@ -48,12 +47,13 @@ compare_of rows =
 -- the lines that a subcommand's name and matches name
 abbrev pub asked_at : Text → List Row → Option (List Asked)
 asked_at name rows =
-    if bytes_eq name (codes "binary") then binary_of rows
+    if bytes_eq name (codes "binary") then make_of job.Binary rows
+    else (if bytes_eq name (codes "text") then make_of job.Text rows
     else (if bytes_eq name (codes "check") then each_of Check rows
     else (if bytes_eq name (codes "canonical") then each_of Canonical rows
     else (if bytes_eq name (codes "hash") then each_of Hash rows
     else (if bytes_eq name (codes "compare") then compare_of rows
-    else None))))
+    else None)))))
 
 -- the lines that the matched subcommand names, where there is one
 abbrev pub asked_of : Option (Text × List Row) → Option (List Asked)

@@ -15,9 +15,9 @@ paths_rule id = record (new_rule id) { required = true; action = Some Append }
 abbrev pub output_rule : Rule
 output_rule = record (new_rule (codes "OUT")) { short = Some 111; long = Some (codes "output"); action = Some Set }
 
--- `binary IN`, with OUT where it is wanted
-abbrev pub binary_app : App
-binary_app = with_rule (with_rule (new_app (codes "binary")) (path_rule (codes "IN"))) output_rule
+-- a subcommand of this name with IN, and OUT where it is wanted: `binary IN`, `text IN`
+abbrev pub make_app : Text → App
+make_app name = with_rule (with_rule (new_app name) (path_rule (codes "IN"))) output_rule
 
 -- a subcommand of this name with its paths: `check IN..`, `canonical IN..`, `hash IN..`
 abbrev pub each_app : Text → App
@@ -36,8 +36,8 @@ top_app =
 -- the subcommands
 abbrev pub subcommands : List Shape
 subcommands =
-    binary_app.top ∷ (each_app (codes "check")).top ∷ (each_app (codes "canonical")).top ∷ (each_app (codes "hash")).top
-    ∷ compare_app.top ∷ []
+    (make_app (codes "binary")).top ∷ (make_app (codes "text")).top ∷ (each_app (codes "check")).top
+    ∷ (each_app (codes "canonical")).top ∷ (each_app (codes "hash")).top ∷ compare_app.top ∷ []
 
 -- the whole command line
 abbrev pub program : App

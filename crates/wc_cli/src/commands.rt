@@ -3,7 +3,7 @@
 ghost use Rattle.std.specs.Prelude.{◌≡◌, IfOk, false, codes};
 ghost use Rattle.clap.specs.Words.{app_of, rule_of};
 ghost use Rattle.clap.specs.declared.Command.TheViews.{out-Command as fields_of};
-ghost use Rattle.wc_cli.specs.Program.{path_rule, paths_rule, output_rule, top_app, binary_app};
+ghost use Rattle.wc_cli.specs.Program.{path_rule, paths_rule, output_rule, top_app, make_app};
 ghost use Rattle.wc_cli.specs.Program.{each_app, compare_app, program};
 
 use clap::{Arg, ArgAction, Command};
@@ -47,12 +47,23 @@ fn output<'a>(alloc: Global) -> Arg<'a>
 }
 
 fn binary<'a>(alloc: Global) -> Result<Command<'a>, AllocError>
-    ensures app { IfOk result (λ c. app_of c ≡ binary_app) }
+    ensures app { IfOk result (λ c. app_of c ≡ make_app (codes "binary")) }
     ensures own { IfOk result (λ c. (fields_of c).has_globals ≡ false) }
 {
     Command::new(alloc, "binary")
         .about("Write the canonical bytes of a module")
         .after_help("Example: wcanon binary in.wasm -o out.wasm")
+        .arg(path(alloc, "IN", "The module to read"))?
+        .arg(output(alloc))
+}
+
+fn text<'a>(alloc: Global) -> Result<Command<'a>, AllocError>
+    ensures app { IfOk result (λ c. app_of c ≡ make_app (codes "text")) }
+    ensures own { IfOk result (λ c. (fields_of c).has_globals ≡ false) }
+{
+    Command::new(alloc, "text")
+        .about("Write the text of a module")
+        .after_help("Example: wcanon text in.wasm -o out.wat")
         .arg(path(alloc, "IN", "The module to read"))?
         .arg(output(alloc))
 }
@@ -106,8 +117,8 @@ fn top<'a>(alloc: Global) -> Command<'a>
         .version(VERSION)
         .about("Gives WebAssembly modules one canonical binary form")
         .after_help(
-            "Examples:\n  wcanon binary in.wasm -o out.wasm\n  wcanon check in.wasm\n  wcanon compare a.wasm b.wasm\n  \
-            wcanon canonical in.wasm\n  wcanon hash a.wasm b.wasm",
+            "Examples:\n  wcanon binary in.wat -o out.wasm\n  wcanon text in.wasm -o out.wat\n  wcanon check in.wasm\n  \
+            wcanon compare a.wasm b.wat\n  wcanon canonical in.wasm\n  wcanon hash a.wasm b.wasm",
         )
         .subcommand_required(true)
 }
@@ -118,6 +129,7 @@ pub(crate) fn wcanon<'a>(alloc: Global) -> Result<Command<'a>, AllocError>
 {
     top(alloc)
         .subcommand(binary(alloc)?)?
+        .subcommand(text(alloc)?)?
         .subcommand(check(alloc)?)?
         .subcommand(canonical(alloc)?)?
         .subcommand(hash(alloc)?)?

@@ -4,7 +4,7 @@ ghost use Rattle.std.specs.Prelude.{◌≡◌, ◌≢◌, [], ◌∷◌, IfOk, I
 ghost use Rattle.clap.specs.Words.{rows_of, found_of, first_of, all_of, subcommand_of, takes, kind_of};
 ghost use Rattle.wc_cli.specs.Program.{program};
 ghost use Rattle.wc_cli.specs.Asked.{asked_by, asked_in, asked_at, asked_of, told_of};
-ghost use Rattle.wc_cli.specs.Asked.{binary_of, each_of, compare_of};
+ghost use Rattle.wc_cli.specs.Asked.{make_of, each_of, compare_of};
 
 use crate::command_line::{Ask, Line};
 use crate::commands::wcanon;
@@ -36,16 +36,17 @@ fn texts_at<'m, 'a>(found: &'m ArgMatches<'a>, id: &str) -> Option<&'m [&'a str]
     found.get_strs(id)
 }
 
-fn binary_lines<'a>(
+fn make_lines<'a>(
     alloc: Global,
+    job: Job,
     found: &ArgMatches<'a>,
 ) -> Result<Option<Vec<Line<'a>>>, AllocError>
-    ensures { IfOk result (λ r. asked_in r ≡ binary_of (rows_of (found_of found.now))) }
+    ensures { IfOk result (λ r. asked_in r ≡ make_of job (rows_of (found_of found.now))) }
 {
     match text_at(found, "IN") {
         Some(input) => {
             let line = Line::Make {
-                job: Job::Binary,
+                job,
                 input,
                 output: text_at(found, "OUT"),
             };
@@ -104,7 +105,9 @@ fn lines_at<'a>(
     ensures { IfOk result (λ r. asked_in r ≡ asked_at name.now (rows_of (found_of found.now))) }
 {
     if name == "binary" {
-        binary_lines(alloc, found)
+        make_lines(alloc, Job::Binary, found)
+    } else if name == "text" {
+        make_lines(alloc, Job::Text, found)
     } else if name == "check" {
         each_lines(alloc, Ask::Check, found)
     } else if name == "canonical" {
@@ -118,8 +121,8 @@ fn lines_at<'a>(
     }
 }
 
-/// The lines that the words ask for, in order, the program's name first: one of `binary IN`, with `-o OUT` or
-/// `--output OUT`, or of `compare A B`; and one for each path of `check IN..`, `canonical IN..` and `hash IN..`.
+/// The lines that the words ask for, in order, the program's name first: one of `binary IN` or `text IN`, with
+/// `-o OUT` or `--output OUT`, or of `compare A B`; and one for each path of `check IN..`, `canonical IN..` and `hash IN..`.
 ///
 /// # Errors
 /// Help or the version that is asked for, words that name no subcommand with its paths, or `ErrorKind::OutOfMemory`.

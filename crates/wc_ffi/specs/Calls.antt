@@ -10,6 +10,9 @@ use Rattle.wc_ffi.specs.Memory.{in_front, told}
 -- the status of a refusal
 abbrev pub refusal_status : Refusal → ℕ
 refusal_status (refusals.Binary at why) = 1
+refusal_status (refusals.Lex at why) = 1
+refusal_status (refusals.Syntax token at why) = 1
+refusal_status (refusals.Names token at why) = 1
 refusal_status (refusals.Check item why) = 1
 refusal_status refusals.Oversize = 1
 refusal_status refusals.Memory = 2

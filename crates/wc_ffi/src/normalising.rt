@@ -1,6 +1,7 @@
 //! The canonical bytes of an input.
 
-ghost use Rattle.std.specs.Prelude.{◌≡◌, ◌≢◌, ◌≤◌, length};
+ghost use Rattle.std.specs.Prelude.{◌≡◌, ◌≢◌, ◌≤◌, length, true};
+ghost use Rattle.wc_canon.specs.Input.{is_binary};
 ghost use Rattle.wc_ffi.specs.Calls.{Normalises, refusal_status};
 
 use crate::putting::put;
@@ -12,7 +13,8 @@ use wc_canon::{Refusal, normalise};
 ///
 /// The status is 0 where this was done; 1 where the input is refused; 2 where a growth of memory was refused; 3 where
 /// there are canonical bytes, and `out` has less room than they need. With any but 0 nothing is written to `out`, and
-/// with 1 and 2 `needed` is 0. The length of the input is always room enough.
+/// with 1 and 2 `needed` is 0. The length of a binary is always room enough for its
+/// answer; that of a text may be too little, as for one without a byte.
 #[unsafe(no_mangle)]
 pub extern "C" fn wcanon_normalise(
     alloc: Global,
@@ -22,7 +24,7 @@ pub extern "C" fn wcanon_normalise(
 ) -> u32
     ensures answers { Normalises input.now out.old out.new needed.new result }
     ensures most { result ≤ 3 }
-    ensures room { length input.now ≤ length out.old → result ≢ 3 }
+    ensures room { is_binary input.now ≡ true → length input.now ≤ length out.old → result ≢ 3 }
 {
     match normalise(alloc, input) {
         Ok(bytes) => {

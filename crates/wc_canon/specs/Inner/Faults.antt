@@ -5,10 +5,20 @@ use Rattle.wc_binary.specs.declared.fault.EncFault.{EncFault}
 use Rattle.wc_binary.specs.declared.fault.EncFault.TheVariants.{Oversize as TooLarge, Memory as NoMemoryToEncode}
 use Rattle.wc_check.specs.declared.fault.CheckFault.{CheckFault}
 use Rattle.wc_check.specs.declared.fault.CheckFault.TheVariants.{Broken, Memory as NoMemoryToCheck}
+use Rattle.wc_source.specs.declared.fault.TextFault.{TextFault}
+use Rattle.wc_source.specs.declared.fault.TextFault.TheVariants as text
 use Rattle.wc_canon.specs.declared.fault.Refusal.{Refusal}
-use Rattle.wc_canon.specs.declared.fault.Refusal.TheVariants.{Binary, Check, Oversize, Memory as NoMemory}
+use Rattle.wc_canon.specs.declared.fault.Refusal.TheVariants.{Binary, Lex, Syntax, Names, Check, Oversize}
+use Rattle.wc_canon.specs.declared.fault.Refusal.TheVariants.{Memory as NoMemory}
 use Rattle.wc_canon.specs.declared.fault.RunFault.{RunFault}
 use Rattle.wc_canon.specs.declared.fault.RunFault.TheVariants.{Refused, Read, Memory}
+
+-- the refusal of a text that denotes no module
+abbrev pub reading_refusal : TextFault → Refusal
+reading_refusal (text.Lex at why) = Lex at why
+reading_refusal (text.Syntax token at why) = Syntax token at why
+reading_refusal (text.Names token at why) = Names token at why
+reading_refusal text.Memory = NoMemory
 
 -- the refusal of a module that the check didn't pass
 abbrev pub checking_refusal : CheckFault → Refusal

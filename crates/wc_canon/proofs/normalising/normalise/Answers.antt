@@ -1,5 +1,6 @@
 use Rattle.wc_canon.proofs.Judged.{module-judged, judged-only, judged-fault, match-error, never-meant, that-fault}
 use Rattle.wc_canon.proofs.Judged.{none-longer}
+use Rattle.wc_canon.proofs.Laws.{denotes-binary}
 use Rattle.wc_canon.proofs.normalising.normalise.Goals as goal
 
 pub returns-in_err-module-clause-only : goal.returns-in_err-module-clause-only
@@ -33,5 +34,5 @@ returns-clause-only_fault c =
     (module-judged (λ v. v.items) _ _ _ c.in_ok-module.ensures.ok e.keeps e.canonical e.err)
 
 pub returns-clause-shortest : goal.returns-clause-shortest
-returns-clause-shortest c =
-    none-longer (λ v. v.items) _ _ _ c.in_ok-module.ensures.ok c.canonical_bytes.ensures.shortest
+returns-clause-shortest c = λ e.
+    none-longer (λ v. v.items) _ _ _ (denotes-binary _ _ e c.in_ok-module.ensures.ok) c.canonical_bytes.ensures.shortest

@@ -1,5 +1,5 @@
 use Rattle.wc_canon.proofs.Judged.{if-error, keeps-rules, broken-refusal}
-use Rattle.wc_canon.proofs.canonical.canonical_bytes.Goals as goal
+use Rattle.wc_canon.proofs.canonical.judge_module.Goals as goal
 
 pub returns-in_err-check-clause-err : goal.returns-in_err-check-clause-err
 returns-in_err-check-clause-err c =

@@ -1,0 +1,164 @@
+//! The module that the bytes of a reader denote.
+
+ghost use Rattle.std.specs.Prelude.{ℕ, List, Option as Maybe, ◌≡◌, ◌≤◌, ◌<◌, length, IfOk, IfErr, IfSome, IsErrOf, OnOk};
+ghost use Rattle.std.specs.Prelude.{[], Some, true, false};
+ghost use Rattle.std.specs.Io.KnownBytes.{Consumes, IsAtEnd};
+ghost use Rattle.wc_device.specs.Device.{device_inner, failed_at, has_failed, has_ended, was_asked_again, read_count};
+ghost use Rattle.wc_binary.specs.Standard.Decoding.{buffer_size};
+ghost use Rattle.wc_canon.specs.declared.fault.Refusal.{Refusal};
+ghost use Rattle.wc_canon.specs.declared.fault.Refusal.TheVariants as refusals;
+ghost use Rattle.wc_canon.specs.Input.{is_binary as begins_with_zero};
+ghost use Rattle.wc_canon.specs.Run.{ReadsCut, is_read_fault, is_write_fault};
+ghost use Rattle.wc_canon.specs.Inner.Steps.{JudgesModule, ReadsNear};
+
+use crate::denoted::is_binary;
+use crate::fault::RunFault;
+use std::alloc::Global;
+use std::io::Read;
+use wc_ast::Module;
+use wc_binary::decode_from;
+use wc_device::Device;
+use wc_source::read;
+
+/// How many bytes a read is offered.
+const PIECE: usize = 4096;
+
+/// The front, and then the reader's bytes to its end.
+fn read_rest<R: Read>(
+    alloc: Global,
+    front: &[u8],
+    r: &mut Device<R>,
+) -> Result<Vec<u8>, RunFault>
+    requires well { has_failed r.old ≡ false }
+    requires counted { length front.now ≡ read_count r.old }
+    ensures all { OnOk result (IsAtEnd (R.remaining (device_inner r.new))) }
+    ensures whole { IfOk result (λ bytes. (x : Maybe (List ℕ))
+        → Consumes x (R.remaining (device_inner r.old)) front.now
+        → Consumes x (R.remaining (device_inner r.new)) bytes.items) }
+    ensures count { IfOk result (λ bytes. length bytes.items ≡ read_count r.new) }
+    ensures read { is_read_fault result ≡ has_failed r.new }
+    ensures read_at { IfErr result (λ e. (at : ℕ) → e ≡ RunFault.Read at → at ≡ read_count r.new) }
+    ensures first_failure { IfErr result (λ e. (at : ℕ) → e ≡ RunFault.Read at → failed_at r.new ≡ Some at) }
+    ensures again { has_ended r.old ≡ false → was_asked_again r.new ≡ was_asked_again r.old }
+    ensures cut { IfErr result (λ e. (at : ℕ) → e ≡ RunFault.Read at → (x : Maybe (List ℕ))
+        → Consumes x (R.remaining (device_inner r.old)) front.now → IsAtEnd (R.remaining (device_inner r.new))
+        → IfSome x (λ u. at ≡ length u)) }
+    ensures unwritten { is_write_fault result ≡ false }
+    ensures unjudged { (f : Refusal) → ¬ (IsErrOf result (RunFault.Refused f)) }
+{
+    let mut bytes = Vec::new(alloc);
+    bytes.extend_from_slice(front)?;
+    let mut piece = [0u8; PIECE];
+    loop {
+        let given = match r.read(&mut piece) {
+            Ok(n) => n,
+            Err(_) => return Err(RunFault::Read { at: r.count() }),
+        };
+        if given == 0 {
+            return Ok(bytes);
+        }
+        bytes.extend_from_slice(&piece[..given])?;
+    }
+}
+
+/// The module of the text that begins with `front` and goes on with the reader's bytes, to its end. The second part of
+/// the answer is false: it is no binary.
+fn read_text<R: Read>(
+    alloc: Global,
+    front: &[u8],
+    r: &mut Device<R>,
+) -> Result<(Module, bool), RunFault>
+    requires well { has_failed r.old ≡ false }
+    requires counted { length front.now ≡ read_count r.old }
+    requires some { 0 < length front.now }
+    requires is_text { begins_with_zero front.now ≡ false }
+    ensures judges { (x : Maybe (List ℕ)) → Consumes x (R.remaining (device_inner r.old)) front.now
+        → JudgesModule x result }
+    ensures near { (x : Maybe (List ℕ)) → Consumes x (R.remaining (device_inner r.old)) front.now
+        → IfSome x (ReadsNear (read_count r.new) result) }
+    ensures read { is_read_fault result ≡ has_failed r.new }
+    ensures read_at { IfErr result (λ e. (at : ℕ) → e ≡ RunFault.Read at → at ≡ read_count r.new) }
+    ensures first_failure { IfErr result (λ e. (at : ℕ) → e ≡ RunFault.Read at → failed_at r.new ≡ Some at) }
+    ensures again { has_ended r.old ≡ false → was_asked_again r.new ≡ was_asked_again r.old }
+    ensures cut { (x : Maybe (List ℕ)) → Consumes x (R.remaining (device_inner r.old)) front.now
+        → IsAtEnd (R.remaining (device_inner r.new)) → IfErr result (λ e. IfSome x (ReadsCut e)) }
+    ensures unwritten { is_write_fault result ≡ false }
+    ensures memory { ¬ (IsErrOf result (RunFault.Refused refusals.Memory)) }
+{
+    let text = read_rest(alloc, front, r)?;
+    Ok((read(alloc, &text)?, false))
+}
+
+/// The module of the binary that begins with `front` and goes on with the reader's bytes, to its end. The second part of
+/// the answer is true.
+fn read_binary<R: Read>(
+    alloc: Global,
+    front: &[u8],
+    r: &mut Device<R>,
+) -> Result<(Module, bool), RunFault>
+    requires well { has_failed r.old ≡ false }
+    requires short { length front.now ≤ buffer_size }
+    requires counted { length front.now ≡ read_count r.old }
+    requires some { 0 < length front.now }
+    requires is_binary { begins_with_zero front.now ≡ true }
+    ensures judges { (x : Maybe (List ℕ)) → Consumes x (R.remaining (device_inner r.old)) front.now
+        → JudgesModule x result }
+    ensures near { (x : Maybe (List ℕ)) → Consumes x (R.remaining (device_inner r.old)) front.now
+        → IfSome x (ReadsNear (read_count r.new) result) }
+    ensures read { is_read_fault result ≡ has_failed r.new }
+    ensures read_at { IfErr result (λ e. (at : ℕ) → e ≡ RunFault.Read at → at ≡ read_count r.new) }
+    ensures first_failure { IfErr result (λ e. (at : ℕ) → e ≡ RunFault.Read at → failed_at r.new ≡ Some at) }
+    ensures again { has_ended r.old ≡ false → was_asked_again r.new ≡ was_asked_again r.old }
+    ensures cut { (x : Maybe (List ℕ)) → Consumes x (R.remaining (device_inner r.old)) front.now
+        → IsAtEnd (R.remaining (device_inner r.new)) → IfErr result (λ e. IfSome x (ReadsCut e)) }
+    ensures unwritten { is_write_fault result ≡ false }
+    ensures memory { ¬ (IsErrOf result (RunFault.Refused refusals.Memory)) }
+{
+    Ok((decode_from(alloc, front, r)?, true))
+}
+
+/// The module of a text without a byte, which is the empty one.
+fn read_nothing(alloc: Global) -> Result<(Module, bool), RunFault>
+    ensures judges { JudgesModule (Some []) result }
+    ensures near { ReadsNear 0 result [] }
+    ensures read { is_read_fault result ≡ false }
+    ensures unwritten { is_write_fault result ≡ false }
+    ensures memory { ¬ (IsErrOf result (RunFault.Refused refusals.Memory)) }
+{
+    Ok((read(alloc, &[])?, false))
+}
+
+/// The module that the reader's bytes denote, to the reader's end, and whether they are a binary; or else their first
+/// fault. One piece is read, and its first byte tells a binary, which is read no further than its fault shows; a text is
+/// read to its end.
+pub(crate) fn read_module<R: Read>(
+    alloc: Global,
+    r: &mut Device<R>,
+) -> Result<(Module, bool), RunFault>
+    requires well { has_failed r.old ≡ false }
+    requires unread { read_count r.old ≡ 0 }
+    ensures judges { JudgesModule (R.remaining (device_inner r.old)) result }
+    ensures near { IfSome (R.remaining (device_inner r.old)) (ReadsNear (read_count r.new) result) }
+    ensures read { is_read_fault result ≡ has_failed r.new }
+    ensures read_at { IfErr result (λ e. (at : ℕ) → e ≡ RunFault.Read at → at ≡ read_count r.new) }
+    ensures first_failure { IfErr result (λ e. (at : ℕ) → e ≡ RunFault.Read at → failed_at r.new ≡ Some at) }
+    ensures again { has_ended r.old ≡ false → was_asked_again r.new ≡ was_asked_again r.old }
+    ensures cut { IsAtEnd (R.remaining (device_inner r.new)) → IfErr result
+        (λ e. IfSome (R.remaining (device_inner r.old)) (ReadsCut e)) }
+    ensures unwritten { is_write_fault result ≡ false }
+    ensures memory { ¬ (IsErrOf result (RunFault.Refused refusals.Memory)) }
+{
+    let mut buffer = [0u8; PIECE];
+    let given = match r.read(&mut buffer) {
+        Ok(n) => n,
+        Err(_) => return Err(RunFault::Read { at: r.count() }),
+    };
+    let front = &buffer[..given];
+    if front.is_empty() {
+        read_nothing(alloc)
+    } else if is_binary(front) {
+        read_binary(alloc, front, r)
+    } else {
+        read_text(alloc, front, r)
+    }
+}
