@@ -37,7 +37,7 @@ pub use crate::name::Name;
 pub use crate::segment::{Data, Elem};
 pub use wc_body::{
     BlockType, Body, BodyBuilder, BodyRef, BuildFault, Entries, Entry, Instr, Kind, Labels, MemArg,
-    NESTING_LIMIT, Needs, OwnNeeds, TryClone, entries_tell_bodies,
+    NESTING_LIMIT, Needs, OwnNeeds, Short, TryClone, entries_tell_bodies,
 };
 pub use wc_ops::{
     IndexOp, MemOp, Op, OpByte, OpName, SimpleOp, ValType, leads_back, one_meaning, rows_differ,

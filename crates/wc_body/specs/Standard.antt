@@ -9,4 +9,5 @@ pub mod Pieces
 pub mod ValueBytes
 pub mod InstructionBytes
 pub mod Needed
+pub mod Short
 pub mod Grammar

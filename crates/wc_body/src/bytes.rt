@@ -3,3 +3,4 @@
 pub(crate) mod find;
 pub(crate) mod number;
 pub(crate) mod put;
+pub(crate) mod short;

@@ -5,7 +5,9 @@ ghost use Rattle.std.specs.Iterator.{YieldsFirstBy, item_count};
 ghost use Rattle.wc_body.specs.Standard.Entries.{mark};
 
 use crate::bytes::find::entry_at;
+use crate::bytes::short::short_at;
 use crate::entry::Entry;
+use crate::short::Short;
 use std::marker::Model;
 
 /// The entries of a body that are left, in order. A contract sees their marks. Taking one takes no memory.
@@ -39,6 +41,8 @@ impl<'a> Model for Entries<'a> {
 impl<'a> Entries<'a> {
     ghost use Rattle.std.specs.Prelude.{[], ◌∷◌, IsNone, IfSome};
     ghost use Rattle.wc_body.specs.Standard.Entries.{marks};
+    ghost use Rattle.wc_body.specs.Standard.Nested.{plain};
+    ghost use Rattle.wc_body.specs.Standard.Short.{instruction};
     ghost use Rattle.wc_body.specs.Reading.Unpacked.{unpacked, IsPacked};
 
     pub(crate) fn of_bytes(bytes: &'a [u8]) -> Entries<'a>
@@ -57,6 +61,18 @@ impl<'a> Entries<'a> {
         let (entry, rest) = entry_at(self.bytes)?;
         self.bytes = rest;
         Some(entry)
+    }
+
+    /// The first entry that is left, where it is an instruction of at most two bytes: it is taken. What is short, most
+    /// of a body, is had in registers by it. Where it answers none, nothing is taken, and `next` tells what is left.
+    #[inline(always)]
+    pub fn next_short(&mut self) -> Option<Short>
+        ensures some { IfSome result (λ short. self.old ≡ plain (instruction short) ∷ self.new) }
+        ensures none { IsNone result → self.new ≡ self.old }
+    {
+        let (short, behind) = short_at(self.bytes)?;
+        self.bytes = behind;
+        Some(short)
     }
 }
 

@@ -13,6 +13,7 @@ pub mod entry;
 pub mod instr;
 pub mod labels;
 pub mod needs;
+pub mod short;
 pub mod try_clone;
 
 pub use crate::bodies::Bodies;
@@ -25,4 +26,5 @@ pub use crate::entry::{Entry, Kind};
 pub use crate::instr::{BlockType, Instr, MemArg};
 pub use crate::labels::Labels;
 pub use crate::needs::{Needs, OwnNeeds};
+pub use crate::short::Short;
 pub use crate::try_clone::TryClone;

@@ -72,6 +72,11 @@ pub leaves-less : {first left all : List Item} {out mid old : List ℕ} → Put 
     → Leaves left all mid old
 leaves-less h k = record { finish = λ new p. k.finish new (chain h p) }
 
+-- some of those that were left, and then others
+pub leaves-then : {less left all : List Item} {out mid old : List ℕ} → Leaves less left out mid → Leaves left all mid old
+    → Leaves less all out old
+leaves-then h k = record { finish = λ new p. k.finish new (h.finish new p) }
+
 pub leaves-none : {all : List Item} {out old : List ℕ} → Leaves [] all out old → Put all old out
 leaves-none {out = out} k = k.finish out (nothing out)
 

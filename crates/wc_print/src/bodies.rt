@@ -1,12 +1,13 @@
 //! Instructions: a line for each, or all behind one another.
 
-ghost use Rattle.std.specs.Prelude.{◌≡◌, ◌∷◌, [], ◌++◌, OnOk};
+ghost use Rattle.std.specs.Prelude.{◌≡◌, ◌≤◌, ◌∷◌, [], ◌++◌, length, OnOk};
 ghost use Rattle.std.specs.List.{flat_map};
 ghost use Rattle.wc_body.specs.Standard.Entries.{mark, begin_of};
 ghost use Rattle.wc_body.specs.Standard.Nested.{flatten, plain};
+ghost use Rattle.wc_body.specs.Standard.Short.{instruction};
 ghost use Rattle.wc_ops.specs.Standard.Opcodes.{memory};
 ghost use Rattle.wc_print.specs.Printed.{Printed, number, after, below, printed};
-ghost use Rattle.wc_print.specs.Printable.{IsSpelled, Put};
+ghost use Rattle.wc_print.specs.Printable.{IsSpelled, Put, Leaves};
 ghost use Rattle.wc_print.specs.Lines.{block_items, number_items, offset_items, bytes_of, align_items, mark_items};
 ghost use Rattle.wc_print.specs.Lines.{body_items, expr_items};
 ghost use Rattle.wc_print.specs.Places.{item_at};
@@ -15,7 +16,7 @@ use crate::lines::{head_line, index_line, memory_line, simple_line};
 use crate::numbers::{put_integer, put_natural, put_number};
 use crate::types::{put_result, put_type_use};
 use std::alloc::AllocError;
-use wc_ast::{BlockType, Body, BodyRef, Entry, Instr, Kind, Labels, MemArg, MemOp};
+use wc_ast::{BlockType, Body, BodyRef, Entries, Entry, Instr, Kind, Labels, MemArg, MemOp, Short};
 
 /// Where an instruction stands.
 #[derive(Clone, Copy)]
@@ -163,6 +164,45 @@ fn put_entry(out: &mut Vec<u8>, place: Place, entry: Entry<'_>) -> Result<(), Al
     }
 }
 
+/// A short instruction.
+#[inline(always)]
+fn put_short(out: &mut Vec<u8>, place: Place, short: Short) -> Result<(), AllocError>
+    ensures { OnOk result (Put (mark_items (item_at place) (plain (instruction short))) out.old.items out.new.items) }
+{
+    match short {
+        Short::Simple(op) => put_at(out, place, simple_line(op)),
+        Short::Index(op, index) => {
+            put_at(out, place, index_line(op))?;
+            put_number(out, u32::from(index))
+        }
+        Short::I32Const(value) => {
+            put_at(out, place, "\n    i32.const")?;
+            put_integer(out, i64::from(value))
+        }
+        Short::I64Const(value) => {
+            put_at(out, place, "\n    i64.const")?;
+            put_integer(out, i64::from(value))
+        }
+    }
+}
+
+/// The short instructions up to the first entry that isn't one.
+#[inline(always)]
+fn put_all_short(
+    out: &mut Vec<u8>,
+    place: Place,
+    entries: &mut Entries<'_>,
+) -> Result<(), AllocError>
+    ensures puts { OnOk result (Leaves (flat_map (mark_items (item_at place)) entries.new)
+        (flat_map (mark_items (item_at place)) entries.old) out.new.items out.old.items) }
+    ensures fewer { length entries.new ≤ length entries.old }
+{
+    while let Some(short) = entries.next_short() {
+        put_short(out, place, short)?;
+    }
+    Ok(())
+}
+
 /// The instructions of a body.
 #[inline(always)]
 fn put_entries(out: &mut Vec<u8>, place: Place, body: &BodyRef<'_>) -> Result<(), AllocError>
@@ -172,6 +212,7 @@ fn put_entries(out: &mut Vec<u8>, place: Place, body: &BodyRef<'_>) -> Result<()
     let mut entries = body.entries();
     while let Some(entry) = entries.next() {
         put_entry(out, place, entry)?;
+        put_all_short(out, place, &mut entries)?;
     }
     Ok(())
 }
