@@ -24,11 +24,7 @@ use wc_source::read;
 const PIECE: usize = 4096;
 
 /// The front, and then the reader's bytes to its end.
-fn read_rest<R: Read>(
-    alloc: Global,
-    front: &[u8],
-    r: &mut Device<R>,
-) -> Result<Vec<u8>, RunFault>
+fn read_rest<R: Read>(alloc: Global, front: &[u8], r: &mut Device<R>) -> Result<Vec<u8>, RunFault>
     requires well { has_failed r.old ≡ false }
     requires counted { length front.now ≡ read_count r.old }
     ensures all { OnOk result (IsAtEnd (R.remaining (device_inner r.new))) }
