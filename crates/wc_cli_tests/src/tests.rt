@@ -2,5 +2,6 @@
 mod acting;
 mod devices;
 mod lines;
+mod rows;
 mod samples;
 mod turns;

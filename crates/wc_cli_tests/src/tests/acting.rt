@@ -1,7 +1,8 @@
 //! Lines carried out between readers and writers of the tests.
 
 use super::devices::{Reader, Writer};
-use super::samples::{EMPTY, LONGER, PADDED, SHORT};
+use super::rows::{ASKED, INPUTS, PAIRS};
+use super::samples::{EMPTY, LONGER, PADDED, PRINTED, SHORT, TEXT, UNKNOWN};
 use std::alloc::Global;
 use std::io::Read;
 use std::process::Abort;
@@ -9,69 +10,14 @@ use wc_canon::Job;
 use wc_cli::{Ask, Line, act};
 use wc_device::Device;
 
-/// An input, its status, its answer, what a check of it says, and the line of its fault.
-const INPUTS: [(&[u8], u8, &[u8], &str, &str); 2] = [
-    // accepted
-    (PADDED, 0, SHORT, "ok\n", ""),
-    // refused
-    (LONGER, 1, b"", "", IN_IS_REFUSED),
-];
-
-/// What is asked of an input, whether its path is wanted, the status, and what is written: to standard output and to
-/// standard error.
-const ASKED: [(Ask, bool, &[u8], u8, &str, &str); 12] = [
-    (Ask::Check, false, PADDED, 0, "ok\n", ""),
-    (Ask::Check, true, PADDED, 0, "in: ok\n", ""),
-    (Ask::Check, true, LONGER, 1, "", IN_IS_REFUSED),
-    // canonical, and the same module in other bytes
-    (Ask::Canonical, false, SHORT, 0, "canonical\n", ""),
-    (Ask::Canonical, false, PADDED, 1, "not canonical\n", ""),
-    (Ask::Canonical, true, SHORT, 0, "in: canonical\n", ""),
-    (Ask::Canonical, true, PADDED, 1, "in: not canonical\n", ""),
-    (Ask::Canonical, false, LONGER, 1, "", IN_IS_REFUSED),
-    // of the canonical bytes, with the path at any rate
-    (Ask::Hash, false, SHORT, 0, HASH_OF_SHORT, ""),
-    (Ask::Hash, false, PADDED, 0, HASH_OF_SHORT, ""),
-    (Ask::Hash, true, EMPTY, 0, HASH_OF_EMPTY, ""),
-    (Ask::Hash, false, LONGER, 1, "", IN_IS_REFUSED),
-];
-
-const IN_IS_REFUSED: &str = "wcanon: in: byte 9: section size differs from its content\n";
-
-/// By `sha256sum` of the bytes of `SHORT`.
-const HASH_OF_SHORT: &str =
-    "0fff4047f18e1fff908e8ce862cb48847cdee5e0c466357132da2f8c47075267  in\n";
-
-/// By `sha256sum` of the bytes of `EMPTY`.
-const HASH_OF_EMPTY: &str =
-    "93a44bbb96c751218e4c00d479e4c14358122a389acca16205b1e4d0dc5f9476  in\n";
-
-/// The same, as `sha256sum` writes it of a path with a line feed, a carriage return and a backslash.
+/// The SHA-256 of `EMPTY`, as `sha256sum` writes it of a path with a line feed, a carriage return and a backslash.
 const HASH_AT_ODD_PATH: &str =
     "\\93a44bbb96c751218e4c00d479e4c14358122a389acca16205b1e4d0dc5f9476  a\\nb\\rc\\\\d\n";
 
-/// Two inputs, their status, and what is written of them: to standard output and to standard error.
-const PAIRS: [(&[u8], &[u8], u8, &str, &str); 5] = [
-    // the same, padded
-    (PADDED, SHORT, 0, "same\n", ""),
-    // different
-    (PADDED, EMPTY, 1, "different\n", ""),
-    // both refused
-    (LONGER, LONGER, 1, "", ONE_IS_REFUSED),
-    // A refused
-    (LONGER, EMPTY, 1, "", ONE_IS_REFUSED),
-    // B refused
-    (EMPTY, LONGER, 1, "", TWO_IS_REFUSED),
-];
-
-const ONE_IS_REFUSED: &str = "wcanon: one: byte 9: section size differs from its content\n";
-
-const TWO_IS_REFUSED: &str = "wcanon: two: byte 9: section size differs from its content\n";
-
-/// The line that wants the canonical bytes of an input.
-fn making(output: Option<&'static str>) -> Line<'static> {
+/// The line that wants the answer to an input.
+fn making(job: Job, output: Option<&'static str>) -> Line<'static> {
     Line::Make {
-        job: Job::Binary,
+        job,
         input: "in",
         output,
     }
@@ -79,8 +25,9 @@ fn making(output: Option<&'static str>) -> Line<'static> {
 
 #[test]
 fn bytes_on_standard_output_are_raw(rt: HostRuntime) {
-    assert!(rt; making(None).is_raw());
-    assert!(rt; !making(Some("out")).is_raw());
+    assert!(rt; making(Job::Binary, None).is_raw());
+    assert!(rt; !making(Job::Binary, Some("out")).is_raw());
+    assert!(rt; !making(Job::Text, None).is_raw());
     assert!(rt; !telling(Ask::Hash, false).is_raw());
 }
 
@@ -144,22 +91,12 @@ fn carried_out(
     }
 }
 
-fn to_output(alloc: Global, input: Reader<'static>, answer: Writer) -> Told {
-    let line = Line::Make {
-        job: Job::Binary,
-        input: "in",
-        output: None,
-    };
-    carried_out(alloc, line, Some(input), None, answer)
+fn to_output(alloc: Global, job: Job, input: Reader<'static>, answer: Writer) -> Told {
+    carried_out(alloc, making(job, None), Some(input), None, answer)
 }
 
-fn to_file(alloc: Global, input: Reader<'static>, answer: Writer) -> Told {
-    let line = Line::Make {
-        job: Job::Binary,
-        input: "in",
-        output: Some("out"),
-    };
-    carried_out(alloc, line, Some(input), None, answer)
+fn to_file(alloc: Global, job: Job, input: Reader<'static>, answer: Writer) -> Told {
+    carried_out(alloc, making(job, Some("out")), Some(input), None, answer)
 }
 
 fn checked(alloc: Global, input: Reader<'static>, answer: Writer) -> Told {
@@ -200,14 +137,36 @@ fn is_told(rt: &impl Abort, told: Told, status: u8, answer: &[u8], fault: &str) 
 #[test]
 fn one_input_is_answered(rt: HostRuntime) {
     let alloc = rt.alloc();
-    for &(input, status, answer, word, fault) in &INPUTS {
-        let told = to_output(alloc, whole(input), writer(alloc, 4096, 0));
+    for &(input, status, answer, text, word, fault) in &INPUTS {
+        let told = to_output(alloc, Job::Binary, whole(input), writer(alloc, 4096, 0));
         is_told(&rt, told, status, answer, fault);
-        let told = to_file(alloc, whole(input), writer(alloc, 4096, 0));
+        let told = to_file(alloc, Job::Binary, whole(input), writer(alloc, 4096, 0));
         is_told(&rt, told, status, answer, fault);
+        let told = to_output(alloc, Job::Text, whole(input), writer(alloc, 4096, 0));
+        is_told(&rt, told, status, text.as_bytes(), fault);
         let told = checked(alloc, whole(input), writer(alloc, 4096, 0));
         is_told(&rt, told, status, word.as_bytes(), fault);
     }
+}
+
+#[test]
+fn texts_are_read_to_their_end(rt: HostRuntime) {
+    let alloc = rt.alloc();
+    let told = to_file(
+        alloc,
+        Job::Text,
+        Reader::new(TEXT, 5, 0),
+        writer(alloc, 7, 0),
+    );
+    is_told(&rt, told, 0, PRINTED.as_bytes(), "");
+    // that a read fails comes before a fault of what was read
+    let told = to_file(
+        alloc,
+        Job::Text,
+        Reader::new(UNKNOWN, 5, 2),
+        writer(alloc, 7, 0),
+    );
+    is_told(&rt, told, 2, b"", "wcanon: in: cannot read\n");
 }
 
 #[test]
@@ -246,8 +205,15 @@ fn paths_of_hashes_are_escaped(rt: HostRuntime) {
 #[test]
 fn a_refused_input_makes_no_call_of_the_writer(rt: HostRuntime) {
     let alloc = rt.alloc();
-    let told = to_file(alloc, whole(LONGER), writer(alloc, 4096, 0));
-    assert_eq!(rt; told.answer.calls, 0);
+    for (job, input) in [
+        (Job::Binary, LONGER),
+        (Job::Binary, UNKNOWN),
+        (Job::Text, LONGER),
+        (Job::Text, UNKNOWN),
+    ] {
+        let told = to_file(alloc, job, whole(input), writer(alloc, 4096, 0));
+        assert_eq!(rt; told.answer.calls, 0);
+    }
 }
 
 #[test]
@@ -281,8 +247,10 @@ fn inputs_that_are_not_opened_are_told(rt: HostRuntime) {
 #[test]
 fn failing_reads_are_told(rt: HostRuntime) {
     let alloc = rt.alloc();
-    let told = to_file(alloc, slow(2), writer(alloc, 99, 0));
-    is_told(&rt, told, 2, b"", "wcanon: in: cannot read\n");
+    for job in [Job::Binary, Job::Text] {
+        let told = to_file(alloc, job, slow(2), writer(alloc, 99, 0));
+        is_told(&rt, told, 2, b"", "wcanon: in: cannot read\n");
+    }
     let told = checked(alloc, slow(2), writer(alloc, 99, 0));
     is_told(&rt, told, 2, b"", "wcanon: in: cannot read\n");
     let told = hashed(alloc, slow(2), writer(alloc, 99, 0));
@@ -300,15 +268,20 @@ fn failing_writes_are_told(rt: HostRuntime) {
     let fault = "wcanon: standard output: cannot write\n";
     // a write that fails, and one that takes nothing
     for (piece, fails_at) in [(99, 1), (0, 0)] {
-        let told = to_output(alloc, slow(0), writer(alloc, piece, fails_at));
-        is_told(&rt, told, 2, b"", fault);
+        for job in [Job::Binary, Job::Text] {
+            let told = to_output(alloc, job, slow(0), writer(alloc, piece, fails_at));
+            is_told(&rt, told, 2, b"", fault);
+            let told = to_file(alloc, job, slow(0), writer(alloc, piece, fails_at));
+            is_told(&rt, told, 2, b"", "wcanon: out: cannot write\n");
+        }
         let told = checked(alloc, slow(0), writer(alloc, piece, fails_at));
         is_told(&rt, told, 2, b"", fault);
         let told = compared(alloc, slow(0), slow(0), writer(alloc, piece, fails_at));
         is_told(&rt, told, 2, b"", fault);
-        let told = to_file(alloc, slow(0), writer(alloc, piece, fails_at));
-        is_told(&rt, told, 2, b"", "wcanon: out: cannot write\n");
     }
+    // what went out before
+    let told = to_output(alloc, Job::Text, whole(TEXT), writer(alloc, 7, 2));
+    is_told(&rt, told, 2, b"(module", fault);
 }
 
 #[test]
@@ -330,16 +303,17 @@ fn a_failing_line_of_a_fault_is_dropped(rt: HostRuntime) {
 /// A line of each kind that has an answer.
 fn answered(alloc: Global, which: u32, answer: Writer) -> Told {
     match which {
-        0 => to_output(alloc, whole(SHORT), answer),
-        1 => checked(alloc, whole(SHORT), answer),
-        2 => hashed(alloc, whole(SHORT), answer),
+        0 => to_output(alloc, Job::Binary, whole(SHORT), answer),
+        1 => to_output(alloc, Job::Text, whole(TEXT), answer),
+        2 => checked(alloc, whole(SHORT), answer),
+        3 => hashed(alloc, whole(SHORT), answer),
         _ => compared(alloc, whole(SHORT), whole(EMPTY), answer),
     }
 }
 
 #[test]
 fn answers_are_flushed_once(rt: HostRuntime) {
-    for which in 0..4 {
+    for which in 0..5 {
         let told = answered(rt.alloc(), which, writer(rt.alloc(), 4096, 0));
         assert_eq!(rt; (told.answer.calls, told.answer.flushes), (1, 1));
     }
@@ -347,7 +321,7 @@ fn answers_are_flushed_once(rt: HostRuntime) {
 
 #[test]
 fn a_failing_flush_is_told(rt: HostRuntime) {
-    for which in 0..4 {
+    for which in 0..5 {
         let mut answer = writer(rt.alloc(), 4096, 0);
         answer.flush_fails = true;
         let told = answered(rt.alloc(), which, answer);

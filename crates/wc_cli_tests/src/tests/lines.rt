@@ -33,6 +33,15 @@ fn words_are_read(rt: HostRuntime) -> Result<(), Fail> {
             "wcanon binary --output b.wasm a.wasm",
             "[Make { job: Binary, input: \"a.wasm\", output: Some(\"b.wasm\") }]",
         ),
+        // the text, without OUT and with it
+        (
+            "wcanon text a.wasm",
+            "[Make { job: Text, input: \"a.wasm\", output: None }]",
+        ),
+        (
+            "wcanon text -o b.wat a.wasm",
+            "[Make { job: Text, input: \"a.wasm\", output: Some(\"b.wat\") }]",
+        ),
         // check
         (
             "wcanon check a.wasm",
@@ -79,8 +88,10 @@ fn errors_have_their_status(rt: HostRuntime) -> Result<(), Fail> {
         ("wcanon convert a.wasm", "status 2"),
         // path missing
         ("wcanon binary", "status 2"),
+        ("wcanon text", "status 2"),
         // a path too many
         ("wcanon binary a.wasm b.wasm", "status 2"),
+        ("wcanon text a.wasm b.wat", "status 2"),
         // OUT missing
         ("wcanon binary a.wasm -o", "status 2"),
         // path missing
@@ -96,6 +107,7 @@ fn errors_have_their_status(rt: HostRuntime) -> Result<(), Fail> {
         ("wcanon -h", "status 0"),
         ("wcanon help", "status 0"),
         ("wcanon compare --help", "status 0"),
+        ("wcanon text --help", "status 0"),
         // the version, two ways
         ("wcanon --version", "status 0"),
         ("wcanon -V", "status 0"),
@@ -129,18 +141,25 @@ fn help_names_each_subcommand(rt: HostRuntime) -> Result<(), Fail> {
     let help = shown(&rt, "wcanon --help")?;
     for part in [
         "  binary     Write the canonical bytes of a module\n",
+        "  text       Write the text of a module\n",
         "  check      Tell whether modules are accepted, or the first fault of each\n",
         "  canonical  Tell whether modules are their own canonical bytes\n",
         "  hash       Tell the SHA-256 of the canonical bytes of modules\n",
         "  compare    Tell whether two files denote the same module\n",
-        "  wcanon binary in.wasm -o out.wasm\n",
+        "  wcanon binary in.wat -o out.wasm\n",
+        "  wcanon text in.wasm -o out.wat\n",
         "  wcanon check in.wasm\n",
-        "  wcanon compare a.wasm b.wasm\n",
+        "  wcanon compare a.wasm b.wat\n",
         "  wcanon canonical in.wasm\n",
         "  wcanon hash a.wasm b.wasm",
     ] {
         assert!(rt; help.contains(part), "{help}");
     }
+    let help = shown(&rt, "wcanon text --help")?;
+    assert!(rt;
+        help.contains("Usage: wcanon text [OPTIONS] <IN>"),
+        "{help}"
+    );
     let help = shown(&rt, "wcanon compare --help")?;
     assert!(rt; help.contains("Usage: wcanon compare <A> <B>"), "{help}");
     assert!(rt;

@@ -1,7 +1,7 @@
 //! Several lines, carried out in order.
 
 use super::devices::{Reader, Writer};
-use super::samples::{CUSTOM, EMPTY, LONGER};
+use super::samples::{CUSTOM, EMPTY, FUNCTION, LONGER, TEXT, UNKNOWN};
 use std::alloc::Global;
 use wc_cli::{Ask, Line, Opens, act_each};
 use wc_device::Device;
@@ -20,6 +20,9 @@ impl Opens<Reader<'static>> for Shelf {
             "empty" => EMPTY,
             "custom" => CUSTOM,
             "longer" => LONGER,
+            "text" => TEXT,
+            "function" => FUNCTION,
+            "unknown" => UNKNOWN,
             _ => return None,
         };
         Some(Device::new(Reader::new(bytes, 4096, 0)))
@@ -27,7 +30,7 @@ impl Opens<Reader<'static>> for Shelf {
 }
 
 /// What is asked of inputs, the status, and what is written: to standard output and to standard error.
-const ROWS: [(Ask, &[&str], u8, &str, &str); 6] = [
+const ROWS: [(Ask, &[&str], u8, &str, &str); 8] = [
     // all well
     (
         Ask::Check,
@@ -67,6 +70,21 @@ const ROWS: [(Ask, &[&str], u8, &str, &str); 6] = [
         1,
         "93a44bbb96c751218e4c00d479e4c14358122a389acca16205b1e4d0dc5f9476  custom\n",
         "wcanon: longer: byte 9: section size differs from its content\n",
+    ),
+    // texts among binaries
+    (
+        Ask::Check,
+        &["text", "unknown", "custom"],
+        1,
+        "text: ok\ncustom: ok\n",
+        "wcanon: unknown: token 3 at byte 11: unknown identifier\n",
+    ),
+    (
+        Ask::Canonical,
+        &["function", "text"],
+        1,
+        "function: canonical\ntext: not canonical\n",
+        "",
     ),
     // no lines
     (Ask::Check, &[], 0, "", ""),
