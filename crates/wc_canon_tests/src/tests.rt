@@ -2,9 +2,13 @@
 mod accepted;
 mod comparing;
 mod devices;
+mod nesting;
 mod reading;
 mod refused;
 mod rendering;
+mod running;
+mod texts;
+mod written;
 
 use accepted::ACCEPTED;
 use devices::{Reader, Writer};

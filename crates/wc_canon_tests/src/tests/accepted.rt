@@ -1,7 +1,9 @@
 //! Worked inputs that are accepted.
 
 /// Inputs that denote a module, and their canonical bytes.
-pub const ACCEPTED: [(&[u8], &[u8]); 26] = [
+pub const ACCEPTED: [(&[u8], &[u8]); 27] = [
+    // no byte: a text without a field
+    (&[], &[0x00, 0x61, 0x73, 0x6d, 0x01, 0x00, 0x00, 0x00]),
     // no section
     (
         &[0x00, 0x61, 0x73, 0x6d, 0x01, 0x00, 0x00, 0x00],

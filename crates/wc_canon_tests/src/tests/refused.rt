@@ -1,9 +1,7 @@
 //! Worked inputs that are refused.
 
 /// Inputs that are refused, and the texts.
-pub const REFUSED: [(&[u8], &str); 26] = [
-    // no byte
-    (&[], "byte 0: unexpected end"),
+pub const REFUSED: [(&[u8], &str); 25] = [
     // one byte
     (&[0x00], "byte 1: unexpected end"),
     // preamble cut
