@@ -3,6 +3,7 @@ use Rattle.std.specs.Prelude.{◌≡◌, ◌⊎◌, ℕ, ◌≤◌, ◌<◌, Lis
 use Rattle.wc_canon.specs.declared.fault.Refusal.{Refusal}
 use Rattle.wc_canon.specs.declared.fault.Refusal.TheVariants as refusals
 use Rattle.wc_canon.specs.Input.{IsAccepted, HasAnswer, HasFault}
+use Rattle.wc_canon.specs.Printing.{HasText}
 use Rattle.wc_canon.specs.Comparing.{IsSame, IsDifferent}
 use Rattle.wc_canon.specs.Text.{refusal_text}
 use Rattle.wc_ffi.specs.Memory.{in_front, told}
@@ -26,6 +27,14 @@ pub record Normalises (input old new : List ℕ) (needed status : ℕ) : Type 0 
   pub done : status ≡ 0 → (b : List ℕ) × HasAnswer input b × (needed ≡ length b) × (length b ≤ length old)
       × (new ≡ in_front b old)
   pub short : status ≡ 3 → (b : List ℕ) × HasAnswer input b × (needed ≡ length b) × (length old < length b) × (new ≡ old)
+  pub refused : status ≡ 1 → ((f : Refusal) × HasFault input f) × IsUntouched old new needed
+  pub memory : status ≡ 2 → IsUntouched old new needed
+
+-- the text was written; or there is one, and less room; or the input is refused; or memory was refused
+pub record Prints (input old new : List ℕ) (needed status : ℕ) : Type 0 where
+  pub done : status ≡ 0 → (t : List ℕ) × HasText input t × (needed ≡ length t) × (length t ≤ length old)
+      × (new ≡ in_front t old)
+  pub short : status ≡ 3 → (t : List ℕ) × HasText input t × (needed ≡ length t) × (length old < length t) × (new ≡ old)
   pub refused : status ≡ 1 → ((f : Refusal) × HasFault input f) × IsUntouched old new needed
   pub memory : status ≡ 2 → IsUntouched old new needed
 

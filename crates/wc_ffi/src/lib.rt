@@ -4,6 +4,7 @@
 mod checking;
 mod comparing;
 mod normalising;
+mod printing;
 mod putting;
 mod status;
 mod version;
@@ -11,4 +12,5 @@ mod version;
 pub use checking::wcanon_check;
 pub use comparing::wcanon_compare;
 pub use normalising::wcanon_normalise;
+pub use printing::wcanon_to_text;
 pub use version::wcanon_version;
