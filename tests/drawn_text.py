@@ -460,11 +460,20 @@ class Text:
             return " " if must or self.random.random() < 0.5 and (before, after) != ("(", ";") else ""
         return self.random.choice([" ", "\n", "\t", "\r\n", " ;; comment (; \n", "(; a (; b ;) ;)", "  "])
 
-    def made(self):
+    def tokens(self):
         fields = [it for field in self.fields() for it in field]
         name = self.new_id()
-        tokens = ["(", "module", *([name] if name else []), *fields, ")"] if self.random.random() < 0.5 else fields
-        out = []
+        return ["(", "module", *([name] if name else []), *fields, ")"] if self.random.random() < 0.5 else fields
+
+    def spelled(self, tokens):
+        """The bytes of these tokens with gaps between them, and the places where the tokens begin and end."""
+        out, places, length = [], [], 0
         for before, token in zip(["(", *tokens], tokens):
             out += [self.gap(before, token), token]
-        return "".join(out).encode("utf-8")
+            start = length + len(out[-2].encode("utf-8"))
+            length = start + len(token.encode("utf-8"))
+            places.append((start, length))
+        return "".join(out).encode("utf-8"), places
+
+    def made(self):
+        return self.spelled(self.tokens())[0]
