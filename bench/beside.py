@@ -57,7 +57,7 @@ def bytes_to_text(path, out):
 
 
 def comparison(path, canonical, out):
-    one, other = ("wasm2wat --no-check $%d | wat2wasm --no-check /dev/stdin -o $%d" % it for it in ((1, 3), (2, 4)))
+    one, other = ("wasm2wat --no-check $%d | wat2wasm --no-check - -o $%d" % it for it in ((1, 3), (2, 4)))
     return {
         "wcanon compare": [PROGRAM, "compare", path, canonical],
         "wasm2wat | wat2wasm": ["sh", "-c", f"{one} && {other} && cmp $3 $4", "sh", path, canonical, out, out + "2"],
