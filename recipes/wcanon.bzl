@@ -7,19 +7,29 @@
 The program is a label of the workspace, so that remote execution sends it along.
 """
 
-def canonical_module(name, src, wcanon = "//tools:wcanon"):
-    native.genrule(
-        name = name,
-        srcs = [src],
-        outs = [name + ".canonical.wasm"],
-        cmd = "$(location %s) binary $< -o $@" % wcanon,
-        tools = [wcanon],
+def _canonical_module(ctx):
+    out = ctx.actions.declare_file(ctx.label.name + ".canonical.wasm")
+    ctx.actions.run(
+        executable = ctx.executable.wcanon,
+        arguments = ["binary", ctx.file.src.path, "-o", out.path],
+        inputs = [ctx.file.src],
+        outputs = [out],
+        mnemonic = "Canonical",
     )
+    return [DefaultInfo(files = depset([out]))]
 
-def canonical_test(name, src, wcanon = "//tools:wcanon"):
-    native.sh_test(
-        name = name,
-        srcs = [wcanon],
-        args = ["canonical", "$(location %s)" % src],
-        data = [src],
-    )
+def _canonical_test(ctx):
+    script = ctx.actions.declare_file(ctx.label.name)
+    words = [ctx.executable.wcanon.short_path, "canonical", ctx.file.src.short_path]
+    ctx.actions.write(script, "#!/bin/sh\nexec ./%s %s %s\n" % tuple(words), is_executable = True)
+    files = ctx.runfiles(files = [ctx.executable.wcanon, ctx.file.src])
+    return [DefaultInfo(executable = script, runfiles = files)]
+
+_ATTRIBUTES = {
+    "src": attr.label(mandatory = True, allow_single_file = True),
+    "wcanon": attr.label(default = "//tools:wcanon", allow_single_file = True, executable = True, cfg = "exec"),
+}
+
+canonical_module = rule(implementation = _canonical_module, attrs = _ATTRIBUTES)
+
+canonical_test = rule(implementation = _canonical_test, attrs = _ATTRIBUTES, test = True)
