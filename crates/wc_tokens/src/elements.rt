@@ -40,6 +40,7 @@ fn escaped(letter: u8) -> Option<u8>
 }
 
 /// A byte by its two hexadecimal digits.
+#[inline(always)]
 #[tactic(auto, unfolding(crate::specs::Reading::Elements::read_byte))]
 fn read_byte(high: u8, text: &[u8]) -> Option<Element<'_>>
     ensures { option_map first_element result ≡ read_byte high text.now }
@@ -54,6 +55,8 @@ fn read_byte(high: u8, text: &[u8]) -> Option<Element<'_>>
 }
 
 /// A character by its number in braces.
+// It is rare, so its loop stays out of those over elements.
+#[inline(never)]
 #[tactic(auto, unfolding(crate::specs::Reading::Elements::read_unicode))]
 fn read_unicode(text: &[u8]) -> Option<Element<'_>>
     ensures { option_map first_element result ≡ read_unicode text.now }
@@ -67,6 +70,7 @@ fn read_unicode(text: &[u8]) -> Option<Element<'_>>
 }
 
 /// What a backslash begins.
+#[inline(always)]
 #[tactic(auto, unfolding(crate::specs::Reading::Elements::read_escape))]
 fn read_escape(text: &[u8]) -> Option<Element<'_>>
     ensures { option_map first_element result ≡ read_escape text.now }
@@ -83,6 +87,7 @@ fn read_escape(text: &[u8]) -> Option<Element<'_>>
 }
 
 /// The element at the front of a text.
+#[inline(always)]
 #[tactic(auto, unfolding(crate::specs::Reading::Elements::read_element))]
 pub fn read_element(text: &[u8]) -> Option<Element<'_>>
     ensures { option_map first_element result ≡ read_element text.now }
