@@ -2,6 +2,7 @@
 pub mod Judging
 pub mod Phrases
 pub mod Types
+pub mod Utf8Bytes
 pub mod Externals
 pub mod Codes
 pub mod Opcodes

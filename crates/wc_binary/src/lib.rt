@@ -2,6 +2,7 @@
 //! modules.
 #![tactic(auto)]
 
+mod byte_range;
 mod decoder;
 mod encoder;
 mod fault;

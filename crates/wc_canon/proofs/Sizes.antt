@@ -27,6 +27,7 @@ use Rattle.wc_binary.specs.declared.section.SectionKind.TheVariants as kinds
 use Rattle.wc_binary.specs.declared.parts.Parts.{Parts}
 use Rattle.wc_leb128.specs.Writing.Bytes.{unsigned_bytes}
 use Rattle.wc_ast.specs.Standard.LocalGroups.{locals_limit}
+use Rattle.wc_binary.specs.Standard.Values.{IsByte}
 use Rattle.wc_binary.specs.Writing.Values.{Anything, FitsSized, FitsFuncType, FitsMaximum, FitsLimits, FitsName, FitsDesc}
 use Rattle.wc_binary.specs.Writing.Values.{FitsImport, FitsExport, FitsSection, FitsStart, func_type_bytes, import_bytes}
 use Rattle.wc_binary.specs.Writing.Values.{table_type_bytes, limits_bytes, export_bytes}
@@ -169,7 +170,7 @@ held kinds.Element v =
     section_of elem_bytes FitsElem (λ e. both (fits e.table) (both (expr e.offset) (vector Fits32 fits e.funcs))) v
 held kinds.Code v = section_of code_bytes FitsCode (λ f. both (less (length (func_bytes f)) (2 ^ 32)) (both (at-most (length f.locals) locals_limit) (expr f.body))) v
 held kinds.Data v =
-    section_of data_bytes FitsData (λ d. both (fits d.memory) (both (expr d.offset) (fits (length d.bytes)))) v
+    section_of data_bytes FitsData (λ d. both (fits d.memory) (both (expr d.offset) (both (fits (length d.bytes)) (each IsByte (λ b. less b 256) d.bytes)))) v
 
 all-held : (p : Parts) (ks : List SectionKind) → Decided (FitsFrom p ks)
 all-held p [] = inl tt

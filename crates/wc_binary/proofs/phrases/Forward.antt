@@ -14,6 +14,7 @@ use Rattle.wc_binary.specs.declared.fault.BinFault.{BinFault}
 use Rattle.wc_binary.specs.declared.fault.BinFault.TheVariants.{Bad, Read, Memory}
 use Rattle.wc_binary.specs.Reading.Source.{Input, Fails, Gave}
 use Rattle.wc_binary.proofs.reading.Going.{Stopped-behind, ReadFailed-behind}
+use Rattle.wc_binary.proofs.phrases.AnyByte.{byte-told}
 use Rattle.wc_binary.proofs.phrases.Laws.{read-told}
 
 raw-spelled : (n : ℕ) (a bytes : List ℕ) → Spells (times n any_byte) a bytes → a ≡ bytes
@@ -22,7 +23,7 @@ raw-spelled zero a bytes h = h.0 ∙ sym h.1
 raw-spelled (suc n) a bytes h =
     let k = h.5 in
     let ih = raw-spelled n k.0 k.2 k.4 in
-    let head : h.4.0 ≡ h.2 = cc in
+    let head : h.4.0 ≡ h.2 = (byte-told h.4.0 h.2 h.4.2).0 in
     let rest : h.1 ≡ k.2 = rw (k.3, k.5.0, append-nil) ih in
     rw (h.3, h.4.1, head, rest, k.5.1) refl
 

@@ -1,7 +1,8 @@
 -- Reading items one after the other, as a loop does.
 use Rattle.std.proofs.Common.{◌≡◌, ℕ, zero, suc, ap, ◌-◌, ◌+◌, ◌≤◌, ◌<◌, List, [], ◌∷◌, ◌++◌, Some, None, Result, Ok}
 use Rattle.std.proofs.Common.{Err, refl}
-use Rattle.std.proofs.Common.{sym, ◌∙◌, append_assoc, length, drop, arith}
+use Rattle.std.proofs.Common.{sym, ◌∙◌, append_assoc, length, take, drop, arith}
+use Rattle.std.specs.List.{AllByRecursion}
 use Rattle.std.specs.Prelude.{IsTrue}
 use native.Mathlib.Numerals.{unary_clauses}
 use Rattle.std.proofs.lemmas.List.{length-append}
@@ -11,8 +12,9 @@ use Rattle.wc_binary.specs.declared.fault.BinWhy.TheVariants.{End}
 use Rattle.wc_binary.specs.Standard.Phrase.{Halt, halt, Phrase, ◌>>=◌}
 use Rattle.wc_binary.specs.Reading.Reading.{Got, got, fault, ◌and_then◌, read}
 use Rattle.wc_binary.specs.Reading.Source.{Input, GoesOn, NextGives, Takes, Passes, Fails, Gave}
-use Rattle.wc_binary.specs.Standard.Values.{times, any_byte}
+use Rattle.wc_binary.specs.Standard.Values.{times, any_byte, IsByte}
 use Rattle.wc_binary.specs.Standard.Sections.{skip}
+use Rattle.wc_binary.proofs.phrases.AnyByte.{byte-stands}
 use Rattle.wc_binary.proofs.reading.Going.{GoesOn-trans, Stopped-behind, ReadFailed-behind}
 
 -- what is still read from new on gives what is read from old on
@@ -88,19 +90,19 @@ module _ (old new : Input) where
   -- the next byte, read by its phrase
   pub byte-gave : (b : ℕ) → NextGives old new (Ok (Some b)) → Gave old new (Ok b) (read any_byte old.place old.left)
   unfolding any_byte
-  byte-gave b next = (next.0, λ w. let e = next.2 w in (e.0, rw (e.1, next.1) refl))
+  byte-gave b next = (next.0, λ w. let e = next.2 w in (e.0, rw (e.1, next.1, byte-stands b next.3) refl))
 
 -- bytes that are there, in front of what follows them
-behind-bytes : (bytes : List ℕ) (count o : ℕ) (x : List ℕ) → length bytes ≤ count
+behind-bytes : (bytes : List ℕ) (count o : ℕ) (x : List ℕ) → length bytes ≤ count → AllByRecursion IsByte bytes
     → read (times count any_byte) o (bytes ++ x)
     ≡ with_first bytes (read (times (count - length bytes) any_byte) (o + length bytes) x)
 unfolding any_byte
-behind-bytes [] count o x le = simp unary_clauses (sym (whole_first (read (times count any_byte) o x)))
-behind-bytes (b ∷ bs) zero o x le = absurd (omega arith)
-behind-bytes (b ∷ bs) (suc n) o x le =
+behind-bytes [] count o x le are = simp unary_clauses (sym (whole_first (read (times count any_byte) o x)))
+behind-bytes (b ∷ bs) zero o x le are = absurd (omega arith)
+behind-bytes (b ∷ bs) (suc n) o x le are =
     let fewer : suc n - length (b ∷ bs) ≡ n - length bs = omega arith in
     let place : o + length (b ∷ bs) ≡ o + 1 + length bs = omega arith in
-    rw (fewer, place, behind-bytes bs n (o + 1) x (omega (arith, le)))
+    rw (fewer, place, byte-stands b are.0, behind-bytes bs n (o + 1) x (omega (arith, le)) are.1)
     (with-cons b bs (read (times (n - length bs) any_byte) (o + 1 + length bs) x))
 
 -- the bytes taken at once, behind those read before
@@ -111,7 +113,7 @@ pub times-bytes : (first : List ℕ) (count : ℕ) (old mid new : Input) (total 
 times-bytes first count old mid new total so_far bytes le takes = record {
   going = GoesOn-trans old mid new so_far.going takes.0;
   same = λ w. let s = so_far.same w in let e = takes.2 s.0 in
-      let there = behind-bytes bytes count mid.place new.left le in
+      let there = behind-bytes bytes count mid.place new.left le takes.3 in
       let joined = sym (with-first-twice first bytes _) ∙ ap (with_first first) (sym there) in
       (e.0, rw takes.1 (joined ∙ rw e.1 refl ∙ s.1));
 }
@@ -153,15 +155,17 @@ times-round first count old mid next total so_far lt b gave pushed one now bytes
 
 -- bytes that are there are skipped
 skip-first : (dropped count o : ℕ) (x : List ℕ) → dropped ≤ count → dropped ≤ length x
+    → AllByRecursion IsByte (take dropped x)
     → read (skip count) o x ≡ read (skip (count - dropped)) (o + dropped) (drop dropped x)
 unfolding any_byte
-skip-first zero count o x le has = simp unary_clauses refl
-skip-first (suc n) zero o x le has = absurd (omega (arith, le))
-skip-first (suc n) (suc m) o [] le has = absurd (omega (arith, has))
-skip-first (suc n) (suc m) o (b ∷ x) le has =
+skip-first zero count o x le has are = simp unary_clauses refl
+skip-first (suc n) zero o x le has are = absurd (omega (arith, le))
+skip-first (suc n) (suc m) o [] le has are = absurd (omega (arith, has))
+skip-first (suc n) (suc m) o (b ∷ x) le has are =
     let fewer : suc m - suc n ≡ m - n = omega arith in
     let place : o + suc n ≡ o + 1 + n = omega arith in
-    rw (fewer, place) (skip-first n m (o + 1) x (omega (arith, le)) (omega (arith, has)))
+    rw (fewer, place, byte-stands b are.0)
+    (skip-first n m (o + 1) x (omega (arith, le)) (omega (arith, has)) are.1)
 
 module _ (old mid new : Input) (total : Result (Got (Unit {0})) Halt) where
   module _ (count : ℕ) (lt : 0 < count) (so_far : Leads old mid (read (skip count) mid.place mid.left) total) where
@@ -174,7 +178,7 @@ module _ (old mid new : Input) (total : Result (Got (Unit {0})) Halt) where
           going = GoesOn-trans old mid new so_far.going next.0;
           same = λ w. let s = so_far.same w in let e = next.2 s.0 in
               let one : read (skip (suc (count - 1))) mid.place mid.left ≡ read (skip (count - 1)) new.place new.left =
-              rw (e.1, next.1) refl in
+              rw (e.1, next.1, byte-stands b next.3) refl in
               (e.0, sym one ∙ ap (λ n. read (skip n) mid.place mid.left) (sym k) ∙ s.1);
         }
 
@@ -202,7 +206,7 @@ skip-round count old mid next total lt so_far b gave now dropped passes =
     record {
       going = GoesOn-trans old next now so_on.going passes.0;
       same = λ w. let s = so_on.same w in let e = passes.3 s.0 in
-          let one = skip-first dropped (count - 1) next.place next.left passes.1 e.1 in
+          let one = skip-first dropped (count - 1) next.place next.left passes.1 e.1 e.3 in
           (e.0, rw (passes.2, e.2) (sym one ∙ s.1));
     }
 

@@ -17,7 +17,7 @@ use Rattle.wc_binary.specs.Writing.Values.{global_type_bytes, sized_bytes, Anyth
 use Rattle.wc_body.specs.Standard.InstructionBytes.{expr_bytes, FitsExpr}
 use Rattle.wc_binary.specs.Writing.Locals.{locals_bytes, FitsLocals}
 use Rattle.wc_binary.specs.Writing.Contents.{global_bytes, elem_bytes, data_bytes, func_bytes, code_bytes, FitsGlobal}
-use Rattle.wc_binary.specs.Writing.Contents.{FitsElem, FitsData, FitsFunc, FitsCode}
+use Rattle.wc_binary.specs.Writing.Contents.{FitsElem, FitsBytes, FitsData, FitsFunc, FitsCode}
 use Rattle.wc_binary.proofs.spelling.Judging.{HasBytes}
 use Rattle.wc_binary.proofs.spelling.Phrases.{of, writes-as, u32-writes, then-writes, seen-writes, vector-writes, sized-writes}
 use Rattle.wc_binary.proofs.spelling.Types.{global_type-writes}
@@ -47,20 +47,17 @@ global-writes =
 indices-writes : HasBytes (of (vector u32)) (FitsVector Fits32) (vector_bytes unsigned_bytes)
 indices-writes = vector-writes u32 Fits32 unsigned_bytes u32-writes
 
-abbrev FitsBytes : List ℕ → Type 0
-FitsBytes bytes = Fits32 (length bytes)
-
 bytes-writes : HasBytes (of (vector any_byte)) FitsBytes sized_bytes
 unfolding vector
 bytes-writes = record {
-  written = λ v h. (unsigned_bytes (length v), v, length v, refl, u32-writes.written (length v) h, raw-written v);
+  written = λ v h. (unsigned_bytes (length v), v, length v, refl, u32-writes.written (length v) h.0, raw-written v h.1);
   told = λ s V j b v h.
       let n = u32-writes.told s V j h.0 h.2 h.4 in
       let r = raw-told s h.2 h.1 v h.5 in
       let long = r.0 in
       let split = h.3 in
       let whole = j.join h.0 h.1 (unsigned_bytes h.2) v n.1 (j.equal h.1 v r.1) in
-      (rw long at n.0, rw split (rw long at whole));
+      ((rw long at n.0, r.2), rw split (rw long at whole));
 }
 
 abbrev elem_fits : Elem → Type 0

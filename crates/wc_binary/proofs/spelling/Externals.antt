@@ -1,6 +1,7 @@
 -- The canonical bytes of names, imports and exports.
 use Rattle.std.proofs.Common.{◌≡◌, ℕ, zero, suc, Bool, true, false, nat_eq, List, [], ◌∷◌, ◌++◌, length, Option, None}
-use Rattle.std.proofs.Common.{Result, Ok, refl, sym, ap}
+use Rattle.std.proofs.Common.{Result, Ok, refl, sym, ap, subst}
+use Rattle.std.specs.List.{AllByRecursion}
 use Rattle.std.specs.Str.{IsUtf8, is_utf8}
 use Rattle.std.proofs.lemmas.Str.{IsUtf8-from_is_utf8, is_utf8-from_IsUtf8}
 use Rattle.std.proofs.lemmas.List.{append-nil}
@@ -17,36 +18,46 @@ use Rattle.wc_ast.specs.declared.import.Import.{Import}
 use Rattle.wc_binary.specs.declared.fault.BinWhy.{BinWhy}
 use Rattle.wc_binary.specs.Standard.Style.{Style, canonical}
 use Rattle.wc_binary.specs.Standard.Phrase.{gives, ◌>>=◌, SpellsBy}
-use Rattle.wc_binary.specs.Standard.Values.{u32, times, any_byte, name, utf8_fault}
+use Rattle.wc_binary.specs.Standard.Values.{IsByte, u32, times, any_byte, name, utf8_fault}
 use Rattle.wc_binary.specs.Standard.Types.{limits, table_type, global_type}
 use Rattle.wc_binary.specs.Standard.Externals.{kind, kind_of, desc, desc_of, import, export}
 use Rattle.wc_binary.specs.Writing.Values.{limits_bytes, table_type_bytes, global_type_bytes, name_bytes, kind_bytes}
 use Rattle.wc_body.specs.Standard.ValueBytes.{Fits32}
 use Rattle.wc_binary.specs.Writing.Values.{desc_bytes, import_bytes, export_bytes, FitsLimits, FitsName, FitsDesc}
 use Rattle.wc_binary.specs.Writing.Values.{FitsImport, FitsExport, Anything}
+use Rattle.wc_binary.proofs.phrases.AnyByte.{byte-stands, byte-told}
 use Rattle.wc_binary.proofs.spelling.Judging.{HasBytes}
+use Rattle.wc_binary.proofs.spelling.Utf8Bytes.{utf8-bytes}
 use Rattle.wc_binary.proofs.spelling.Phrases.{of, writes-as, u32-writes, byte-writes, then-writes, seen-writes, made-writes}
 use Rattle.wc_binary.proofs.spelling.Types.{limits-writes, table_type-writes, global_type-writes}
 
 -- ---- names
 
-pub raw-written : (bytes : List ℕ) → SpellsBy canonical (times (length bytes) any_byte) bytes bytes
+pub raw-written : (bytes : List ℕ) → AllByRecursion IsByte bytes
+    → SpellsBy canonical (times (length bytes) any_byte) bytes bytes
 unfolding any_byte
-raw-written [] = (refl, refl)
-raw-written (x ∷ bytes) =
-    (x ∷ [], bytes, x, refl, (x, refl, refl), (bytes, [], bytes, sym (append-nil bytes), raw-written bytes, (refl, refl)))
+raw-written [] are = (refl, refl)
+raw-written (x ∷ bytes) are = (
+  x ∷ [],
+  bytes,
+  x,
+  refl,
+  (x, refl, byte-stands x are.0),
+  (bytes, [], bytes, sym (append-nil bytes), raw-written bytes are.1, (refl, refl)),
+)
 
 pub raw-told : (s : Style) (n : ℕ) (b bytes : List ℕ) → SpellsBy s (times n any_byte) b bytes
-    → (n ≡ length bytes) × (b ≡ bytes)
+    → (n ≡ length bytes) × (b ≡ bytes) × AllByRecursion IsByte bytes
 unfolding any_byte
-raw-told s zero b bytes h = let is = h.1 in rw is (refl, h.0)
+raw-told s zero b bytes h = let is = h.1 in rw is (refl, h.0, tt)
 raw-told s (suc n) b bytes h =
     let k = h.5 in
     let ih = raw-told s n k.0 k.2 k.4 in
-    let head : h.4.0 ≡ h.2 = let e = h.4.2 in cc in
+    let one = byte-told h.4.0 h.2 h.4.2 in
+    let head : h.4.0 ≡ h.2 = one.0 in
     let rest : h.1 ≡ k.2 = rw (k.3, k.5.0, append-nil) ih.1 in
     let is : bytes ≡ h.2 ∷ k.2 = k.5.1 in
-    rw is (ap suc ih.0, rw (h.3, h.4.1, head, rest) refl)
+    rw is (ap suc ih.0, rw (h.3, h.4.1, head, rest) refl, (subst IsByte head one.1, ih.2))
 
 abbrev no_fault : Option (ℕ × BinWhy)
 no_fault = None
@@ -64,7 +75,7 @@ name-writes = record {
   written =
       λ v h. let good = is_utf8-from_IsUtf8 v h.1
       in
-      (unsigned_bytes (length v), v, length v, refl, u32-writes.written (length v) h.0, (raw-written v, rw good refl));
+      (unsigned_bytes (length v), v, length v, refl, u32-writes.written (length v) h.0, (raw-written v (utf8-bytes v h.1), rw good refl));
   told = λ s V j b v h.
       let n = u32-writes.told s V j h.0 h.2 h.4 in
       let r = raw-told s h.2 h.1 v h.5.0 in

@@ -1,10 +1,12 @@
 -- What a source of bytes is to contracts, what it answers, and what a reader of a phrase answers over it.
 use Rattle.std.specs.Prelude.{◌≡◌, ℕ, ◌+◌, ◌≤◌, Bool, false, IsTrue, List, [], ◌∷◌, ◌++◌, length, drop, Option, Some}
-use Rattle.std.specs.Prelude.{None, is_some, Result, Ok, Err}
+use Rattle.std.specs.Prelude.{None, is_some, take, Result, Ok, Err}
+use Rattle.std.specs.List.{AllByRecursion}
 use Rattle.wc_binary.specs.declared.fault.BinFault.{BinFault}
 use Rattle.wc_binary.specs.declared.fault.BinFault.TheVariants.{Bad, Read, Memory}
 use Rattle.wc_binary.specs.declared.fault.BinWhy.TheVariants.{End}
 use Rattle.wc_binary.specs.Standard.Phrase.{Phrase, Halt, halt}
+use Rattle.wc_binary.specs.Standard.Values.{IsByte}
 use Rattle.wc_binary.specs.Reading.Reading.{Got, got, read}
 
 -- an input in the course of reading
@@ -58,6 +60,7 @@ NextGives old new (Ok None) =
     Stopped old new × (new.place ≡ old.place) × (IsTrue old.known → IsTrue new.known × (old.left ≡ [])) × IsEnded new
 NextGives old new (Ok (Some b)) =
     GoesOn old new × (new.place ≡ old.place + 1) × (IsTrue old.known → IsTrue new.known × (old.left ≡ b ∷ new.left))
+    × IsByte b
 NextGives old new (Err (Read at)) =
     ReadFailed old new at × (IsTrue old.known → IsTrue new.over → old.left ≡ []) × (at ≡ old.place)
 NextGives old new (Err e) = ⊥
@@ -73,7 +76,7 @@ ByteGives old new (Err Memory) = ⊥
 abbrev pub Takes : Input → Input → List ℕ → Type 0
 Takes old new bytes =
     GoesOn old new × (new.place ≡ old.place + length bytes)
-    × (IsTrue old.known → IsTrue new.known × (old.left ≡ bytes ++ new.left))
+    × (IsTrue old.known → IsTrue new.known × (old.left ≡ bytes ++ new.left)) × AllByRecursion IsByte bytes
 
 -- at most so many bytes were taken, and put behind those before
 abbrev pub TakesBehind : {E : Type 0} → ℕ → Input → Input → List ℕ → List ℕ → Result (Unit {0}) E → Type 0
@@ -85,7 +88,8 @@ TakesBehind most old new before after (Err e) = GoesOn old new
 abbrev pub Passes : ℕ → Input → Input → ℕ → Type 0
 Passes most old new count =
     GoesOn old new × (count ≤ most) × (new.place ≡ old.place + count)
-    × (IsTrue old.known → IsTrue new.known × (count ≤ length old.left) × (new.left ≡ drop count old.left))
+    × (IsTrue old.known → IsTrue new.known × (count ≤ length old.left) × (new.left ≡ drop count old.left)
+    × AllByRecursion IsByte (take count old.left))
 
 -- what was told in place of what the reading `r` gives: its fault; or that a read failed, where the bytes before it
 -- have no fault but that the next one is missing, which `r` says where no more are to come

@@ -1,14 +1,23 @@
 -- Values of the binary format: integers, vectors, names and sizes (Core 1.0, 5.1.3 and 5.2).
-use Rattle.std.specs.Prelude.{ℕ, zero, suc, ◌==◌, List, [], ◌∷◌, Option, Some, None, Result, Ok, Err, if◌then◌else◌}
+use Rattle.std.specs.Prelude.{ℕ, zero, suc, ◌==◌, ◌<◌, nat_lt, List, [], ◌∷◌, Option, Some, None, Result, Ok, Err}
+use Rattle.std.specs.Prelude.{if◌then◌else◌}
 use Rattle.std.specs.Str.{is_utf8}
 use Rattle.std.specs.Str.Lossy.{utf8_valid_len}
 use Rattle.wc_binary.specs.declared.fault.BinWhy.{BinWhy}
-use Rattle.wc_binary.specs.declared.fault.BinWhy.TheVariants.{NotUtf8}
+use Rattle.wc_binary.specs.declared.fault.BinWhy.TheVariants.{End, NotUtf8}
 use Rattle.wc_binary.specs.Standard.Phrase.{Phrase, gives, byte, unsigned, ◌>>=◌, judged, measured}
+
+-- a byte is a number from 0 to 255 (5.2.1)
+abbrev pub IsByte : ℕ → Type 0
+IsByte x = x < 256
+
+-- a byte by itself; where another number stands, a byte is missing
+abbrev pub byte_itself : ℕ → Result ℕ BinWhy
+byte_itself x = if nat_lt x 256 then Ok x else Err End
 
 -- any byte (5.2.1)
 unfoldable pub any_byte : Phrase ℕ
-any_byte = byte (λ x. Ok x)
+any_byte = byte byte_itself
 
 -- this byte, or else this reason
 abbrev pub only : ℕ → BinWhy → ℕ → Result (Unit {0}) BinWhy

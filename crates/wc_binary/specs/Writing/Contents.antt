@@ -1,11 +1,13 @@
 -- The canonical bytes of globals, segments and codes, and which of them have any.
 use Rattle.std.specs.Prelude.{ℕ, List, length, ◌++◌}
+use Rattle.std.specs.List.{AllByRecursion}
 use Rattle.wc_leb128.specs.Writing.Bytes.{unsigned_bytes}
 use Rattle.wc_ast.specs.declared.func.Global.{Global}
 use Rattle.wc_ast.specs.declared.segment.Elem.{Elem}
 use Rattle.wc_ast.specs.declared.segment.Data.{Data}
 use Rattle.wc_ast.specs.declared.codes.FuncCode.{FuncCode}
 use Rattle.wc_body.specs.Standard.ValueBytes.{vector_bytes, Fits32, FitsVector}
+use Rattle.wc_binary.specs.Standard.Values.{IsByte}
 use Rattle.wc_binary.specs.Writing.Values.{global_type_bytes, sized_bytes, FitsSized}
 use Rattle.wc_body.specs.Standard.InstructionBytes.{expr_bytes, FitsExpr}
 use Rattle.wc_binary.specs.Writing.Locals.{locals_bytes, FitsLocals}
@@ -38,9 +40,13 @@ FitsGlobal g = FitsExpr g.init
 abbrev pub FitsElem : Elem → Type 0
 FitsElem e = Fits32 e.table × (FitsExpr e.offset × FitsVector Fits32 e.funcs)
 
+-- bytes, and as many as a count tells
+abbrev pub FitsBytes : List ℕ → Type 0
+FitsBytes bytes = Fits32 (length bytes) × AllByRecursion IsByte bytes
+
 -- a data segment that has them
 abbrev pub FitsData : Data → Type 0
-FitsData d = Fits32 d.memory × (FitsExpr d.offset × Fits32 (length d.bytes))
+FitsData d = Fits32 d.memory × (FitsExpr d.offset × FitsBytes d.bytes)
 
 -- locals and a body that have them
 abbrev pub FitsFunc : FuncCode → Type 0

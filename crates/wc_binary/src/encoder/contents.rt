@@ -3,6 +3,7 @@
 ghost use Rattle.wc_binary.specs.Writing.Contents.{global_bytes, elem_bytes, data_bytes};
 ghost use Rattle.wc_binary.specs.Writing.Contents.{FitsGlobal, FitsElem, FitsData};
 
+use crate::byte_range::are_bytes;
 use crate::encoder::expression::expr_size;
 use crate::encoder::item::{Item, write_vector};
 use crate::encoder::measured::Measured;
@@ -48,8 +49,10 @@ impl Measured for Data {
     fn write(&self, out: &mut Vec<u8>) -> Result<(), EncFault> {
         write_u32(out, self.memory)?;
         self.offset.write(out)?;
-        write_length(out, self.bytes.len())?;
-        out.extend_from_slice(self.bytes.as_slice())?;
+        let bytes = self.bytes.as_slice();
+        are_bytes(bytes);
+        write_length(out, bytes.len())?;
+        out.extend_from_slice(bytes)?;
         Ok(())
     }
 }

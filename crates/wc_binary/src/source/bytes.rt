@@ -2,6 +2,7 @@
 
 ghost use Rattle.std.specs.Prelude.{◌≤◌, ◌-◌, length};
 
+use crate::byte_range::are_bytes;
 use crate::fault::BinFault;
 use crate::source::Source;
 use std::alloc::AllocError;
@@ -49,13 +50,16 @@ impl Source for Bytes<'_> {
 
     fn take(&mut self, most: usize, out: &mut Vec<u8>) -> Result<(), AllocError> {
         let count = most.min(self.bytes.len() - self.at);
-        out.extend_from_slice(&self.bytes[self.at..self.at + count])?;
+        let taken = &self.bytes[self.at..self.at + count];
+        are_bytes(taken);
+        out.extend_from_slice(taken)?;
         self.at += count;
         Ok(())
     }
 
     fn pass(&mut self, most: u64) -> u64 {
         let count = most.min((self.bytes.len() - self.at) as u64);
+        are_bytes(&self.bytes[self.at..self.at + count as usize]);
         self.at += count as usize;
         count
     }

@@ -4,6 +4,7 @@ ghost use Rattle.std.specs.Prelude.{◌≤◌, ◌-◌};
 ghost use Rattle.wc_device.specs.Device.{read_count};
 ghost use Rattle.wc_binary.specs.Standard.Decoding.{buffer_size};
 
+use crate::byte_range::are_bytes;
 use crate::fault::BinFault;
 use crate::source::Source;
 use std::alloc::AllocError;
@@ -59,13 +60,16 @@ impl<R: Read> Source for Feed<'_, R> {
 
     fn take(&mut self, most: usize, out: &mut Vec<u8>) -> Result<(), AllocError> {
         let count = most.min(self.end - self.at);
-        out.extend_from_slice(&self.buffer[self.at..self.at + count])?;
+        let taken = &self.buffer[self.at..self.at + count];
+        are_bytes(taken);
+        out.extend_from_slice(taken)?;
         self.at += count;
         Ok(())
     }
 
     fn pass(&mut self, most: u64) -> u64 {
         let count = most.min((self.end - self.at) as u64);
+        are_bytes(&self.buffer[self.at..self.at + count as usize]);
         self.at += count as usize;
         count
     }

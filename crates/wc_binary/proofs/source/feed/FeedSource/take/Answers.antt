@@ -18,5 +18,6 @@ returns-clause-taken g c =
         record { forward = omega (arith, le, f.ordered, f.counted); failed = refl; spent = refl; asked = λ e. refl; lender = refl },
         rw split.0 (omega (arith, le, f.ordered, f.counted)),
         λ w. (w, split.1 _),
+        c.are_bytes.ensures,
       ),
     )
