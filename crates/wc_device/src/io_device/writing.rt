@@ -3,6 +3,7 @@ ghost use Rattle.std.specs.Prelude.{◌≡◌, ◌<◌, ◌≤◌, length, take,
 ghost use Rattle.std.specs.Io.{WritesAtMost};
 ghost use Rattle.std.specs.Io.KnownBytes.{Appends, WriteAppends, Keeps};
 ghost use Rattle.wc_device.specs.Device.{device_inner, has_failed, read_count};
+ghost use Rattle.wc_device.specs.Device.{was_asked_again, has_ended};
 
 use super::Device;
 use std::io;
@@ -21,6 +22,8 @@ impl<W: Write> Device<W> {
         ensures bytes { WriteAppends (W.contents (device_inner self.old)) (W.contents (device_inner self.new))
             result buf.now }
         ensures count { read_count self.new ≡ read_count self.old }
+        ensures ended { has_ended self.new ≡ has_ended self.old }
+        ensures again { was_asked_again self.new ≡ was_asked_again self.old }
 
         ensures fails { OnErr result (has_failed self.new ≡ true) }
         ensures takes_none { IfOk result (λ n. n ≡ 0 → 0 < length buf.now → has_failed self.new ≡ true) }
@@ -43,6 +46,8 @@ impl<W: Write> Device<W> {
     pub fn flush(&mut self) -> io::Result<()>
         ensures bytes { Keeps (W.contents (device_inner self.old)) (W.contents (device_inner self.new)) }
         ensures count { read_count self.new ≡ read_count self.old }
+        ensures ended { has_ended self.new ≡ has_ended self.old }
+        ensures again { was_asked_again self.new ≡ was_asked_again self.old }
         ensures fails { OnErr result (has_failed self.new ≡ true) }
         ensures goes_on { OnOk result (has_failed self.new ≡ has_failed self.old) }
     {
@@ -62,6 +67,8 @@ impl<W: Write> Device<W> {
         ensures front { IfErr result (λ n. (n ≤ length bytes.now)
             × Appends (W.contents (device_inner self.old)) (W.contents (device_inner self.new)) (take n bytes.now)) }
         ensures count { read_count self.new ≡ read_count self.old }
+        ensures ended { has_ended self.new ≡ has_ended self.old }
+        ensures again { was_asked_again self.new ≡ was_asked_again self.old }
 
         ensures fails { OnErr result (has_failed self.new ≡ true) }
         ensures goes_on { OnOk result (has_failed self.new ≡ has_failed self.old) }
@@ -86,6 +93,8 @@ impl<W: Write> Device<W> {
         ensures front { IfErr result (λ n. (n ≤ length bytes.now)
             × Appends (W.contents (device_inner self.old)) (W.contents (device_inner self.new)) (take n bytes.now)) }
         ensures count { read_count self.new ≡ read_count self.old }
+        ensures ended { has_ended self.new ≡ has_ended self.old }
+        ensures again { was_asked_again self.new ≡ was_asked_again self.old }
 
         ensures fails { OnErr result (has_failed self.new ≡ true) }
         ensures goes_on { OnOk result (has_failed self.new ≡ has_failed self.old) }

@@ -7,5 +7,7 @@ loop-sent-preserved g c = record {
   within = search rules;
   same = search rules;
   counted = search rules;
+  ended = search rules;
+  again = search rules;
   appended = appends_more _ _ _ _ _ _ c.loop-sent.invariant.appended c.in-Ok.ensures.bytes;
 }
