@@ -17,3 +17,4 @@ pub mod Chain
 pub mod ModuleBytes
 pub mod Modules
 pub mod Encoding
+pub mod Measuring

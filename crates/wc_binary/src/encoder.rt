@@ -5,19 +5,23 @@ mod expression;
 mod externals;
 mod funcs;
 mod index;
-mod item;
 mod locals;
 mod measured;
+mod section;
 mod sections;
+mod table_types;
 mod types;
 mod value;
 
-ghost use Rattle.wc_binary.specs.Standard.Encoding.{EncodesModule};
+ghost use Rattle.wc_binary.specs.Standard.Encoding.{EncodesModule, HasLength};
 
 use crate::fault::EncFault;
-use sections::write_sections;
+use sections::{sections_size, write_sections};
 use std::alloc::Global;
 use wc_ast::Module;
+
+/// The magic bytes, and the version.
+const PREAMBLE: [u8; 8] = [0x00, 0x61, 0x73, 0x6d, 0x01, 0x00, 0x00, 0x00];
 
 /// The canonical bytes of a module: no other list of bytes that spells it is as short. `Oversize` where no list of
 /// bytes spells it, because a count or a size would reach `2^32`.
@@ -25,7 +29,16 @@ pub fn encode(alloc: Global, m: &Module) -> Result<Vec<u8>, EncFault>
     ensures { EncodesModule m.now result }
 {
     let mut out = Vec::new(alloc);
-    out.extend_from_slice(&[0x00, 0x61, 0x73, 0x6d, 0x01, 0x00, 0x00, 0x00])?;
-    write_sections(alloc, &mut out, m)?;
+    out.extend_from_slice(&PREAMBLE)?;
+    write_sections(&mut out, m)?;
     Ok(out)
+}
+
+/// How many canonical bytes a module has: the length of what `encode` answers, where memory suffices. None exactly where
+/// that answer is `Oversize`. No byte is written, and it takes no memory.
+pub fn encoded_length(m: &Module) -> Option<u64>
+    ensures { HasLength m.now result }
+{
+    let sections = sections_size(m)?;
+    Some((PREAMBLE.len() + sections) as u64)
 }

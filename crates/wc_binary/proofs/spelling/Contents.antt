@@ -1,5 +1,5 @@
 -- The canonical bytes of globals, segments and codes.
-use Rattle.std.proofs.Common.{◌≡◌, ℕ, List, ◌++◌, length, refl, sym, ap}
+use Rattle.std.proofs.Common.{◌≡◌, ◌++◌, length, refl, sym, ap}
 use Rattle.wc_leb128.specs.Writing.Bytes.{unsigned_bytes}
 use Rattle.wc_ast.specs.declared.func.Global.{Global}
 use Rattle.wc_ast.specs.declared.segment.Elem.{Elem}

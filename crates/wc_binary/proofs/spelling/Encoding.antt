@@ -1,14 +1,13 @@
 -- How the encoder's answers follow.
 use Rattle.std.proofs.Common.{◌≡◌, ℕ, zero, suc, ◌<◌, List, [], ◌∷◌, ◌++◌, length, get_or, Result, Ok, Err, refl}
-use Rattle.std.proofs.Common.{sym, ap, subst, ◌∙◌, ◌+◌, ◌-◌, ◌^◌, append_assoc, arith}
-use Rattle.std.specs.Prelude.{min}
-use Rattle.std.proofs.lemmas.List.{append-nil, length-append}
+use Rattle.std.proofs.Common.{sym, ap, subst, ◌∙◌, append_assoc, arith}
+use Rattle.std.proofs.lemmas.List.{append-nil}
 use Rattle.std.specs.List.{AllByRecursion, flat_map}
 use Rattle.wc_ast.specs.declared.module.Module.{Module}
 use Rattle.wc_binary.specs.declared.fault.EncFault.{EncFault}
 use Rattle.wc_binary.specs.declared.fault.EncFault.TheVariants.{Oversize, Memory}
 use Rattle.wc_binary.specs.Standard.Module.{parts_of, Canon, IsShortestOf}
-use Rattle.wc_body.specs.Standard.ValueBytes.{vector_bytes, FitsVector}
+use Rattle.wc_body.specs.Standard.ValueBytes.{FitsVector}
 use Rattle.wc_binary.specs.Writing.Sections.{held_bytes, FitsHeld, bytes_from, FitsFrom, sections_bytes}
 use Rattle.wc_binary.proofs.spelling.ModuleBytes.{module_bytes}
 use Rattle.wc_binary.specs.Writing.Sections.{FitsSections}
@@ -17,7 +16,7 @@ use Rattle.wc_binary.specs.declared.parts.Parts.{Parts}
 use Rattle.wc_binary.specs.declared.section.SectionKind.{SectionKind}
 use Rattle.wc_binary.specs.Standard.Sections.{held_by}
 use Rattle.wc_binary.specs.Standard.Encoding.{EncodesModule}
-use Rattle.wc_binary.specs.Writing.Writes.{Writes, Measures}
+use Rattle.wc_binary.specs.Writing.Writes.{Writes}
 use Rattle.wc_binary.proofs.spelling.Modules.{canon-written, shortest-and-only, bin-longer}
 
 -- where a part doesn't fit, nothing that has it does
@@ -55,14 +54,6 @@ pub module-written : (m : Module) → FitsModule m → (b : List ℕ) → b ≡ 
 module-written m fits b is =
     let c : Canon b m = rw is (canon-written m fits) in
     (c, shortest-and-only b m c)
-
--- where an item has no size, no vector that has it does
-pub item-unmeasured : {A : Type 0} (Fits : A → Type 0) (items : List A) (i : ℕ) (v : A) → v ≡ get_or items i v
-    → i < length items → (count whole : ℕ) (e : EncFault)
-    → Measures (Fits v) count (Err e) → Measures (FitsVector Fits items) whole (Err e)
-item-unmeasured Fits items i v is lt count whole Oversize h =
-    λ f. h (subst Fits (sym is) (fits-at Fits items i v lt f.1))
-item-unmeasured Fits items i v is lt count whole Memory h = tt
 
 -- ---- sections one after the other
 
@@ -117,15 +108,6 @@ next-put w ys v old mid new u before is =
     (is ∙ ap (λ (x : List ℕ). x ++ w v) before ∙ append_assoc old (u ++ flat_map w ys) (w v)
     ∙ ap (λ (x : List ℕ). old ++ x) (append_assoc u (flat_map w ys) (w v)))
 
--- its bytes were counted
-pub next-counted : {A : Type 0} (w : A → List ℕ) (ys : List A) (v : A) (u : List ℕ) (size more new : ℕ)
-    → size ≡ min (length (u ++ flat_map w ys)) (2 ^ 64 - 1) → more ≡ min (length (w v)) (2 ^ 64 - 1)
-    → new ≡ min (size + more) (2 ^ 64 - 1) → new ≡ min (length (u ++ flat_map w (ys ++ v ∷ []))) (2 ^ 64 - 1)
-next-counted w ys v u size more new before one is =
-    let e : length (u ++ flat_map w (ys ++ v ∷ [])) ≡ length (u ++ flat_map w ys) + length (w v) =
-    rw (flat-more w ys v) (simp length-append (omega arith)) in
-    rw e (omega (arith, before, one, is))
-
 -- where the next one doesn't fit, no vector that has it does
 pub next-fails : {A : Type 0} (Fits : A → Type 0) (items ys : List A) (v : A) (rest : List A) → ys ++ v ∷ rest ≡ items
     → (mid new bytes old last whole : List ℕ) (e : EncFault)
@@ -135,7 +117,5 @@ next-fails Fits items ys v rest is mid new bytes old last whole e h =
 
 -- where it has no size, neither has such a vector
 pub next-unmeasured : {A : Type 0} (Fits : A → Type 0) (items ys : List A) (v : A) (rest : List A)
-    → ys ++ v ∷ rest ≡ items → (count whole : ℕ) (e : EncFault)
-    → Measures (Fits v) count (Err e) → Measures (FitsVector Fits items) whole (Err e)
-next-unmeasured Fits items ys v rest is count whole Oversize h = λ f. h (all-of Fits ys v rest (rw is f.1))
-next-unmeasured Fits items ys v rest is count whole Memory h = tt
+    → ys ++ v ∷ rest ≡ items → (Fits v → ⊥) → FitsVector Fits items → ⊥
+next-unmeasured Fits items ys v rest is h f = h (all-of Fits ys v rest (rw is f.1))

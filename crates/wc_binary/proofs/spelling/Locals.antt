@@ -1,6 +1,6 @@
 -- The canonical bytes of the locals that a function declares.
 use Rattle.std.proofs.Common.{◌≡◌, ℕ, zero, suc, ◌+◌, ◌<◌, ◌≤◌, List, [], ◌∷◌, ◌++◌, length, arith}
-use Rattle.std.proofs.Common.{Option, None, Result, Ok, Err, inl, inr, refl, sym, ap, subst}
+use Rattle.std.proofs.Common.{Option, Some, None, Result, Ok, Err, inl, inr, refl, sym, ap, subst}
 use Rattle.std.specs.List.{AllByRecursion, flat_map}
 use Rattle.std.proofs.lemmas.List.{append-nil, length-append}
 use Rattle.std.proofs.lemmas.Bool.{cases_lt, lt-ltb, le-ltb}
@@ -195,9 +195,8 @@ module _ (gs : List Group) (grouped : IsGrouped gs) (within : length (written_ou
   locals-written old new (Err Memory) h = tt
 
   -- and so is what counting their bytes answers
-  pub locals-counted : (r : Result ℕ EncFault)
+  pub locals-counted : (r : Option ℕ)
       → Measures (FitsVector Anything gs) (length (vector_bytes group_bytes gs)) r
       → Measures (FitsLocals (written_out gs)) (length (locals_bytes (written_out gs))) r
-  locals-counted (Ok n) h = let is = merged-grouped gs grouped in rw is h
-  locals-counted (Err Oversize) h = λ f. h (omega (arith, grouped-few gs grouped), anything gs)
-  locals-counted (Err Memory) h = tt
+  locals-counted (Some n) h = let is = merged-grouped gs grouped in (within, rw is h.1)
+  locals-counted None h = λ f. h (omega (arith, grouped-few gs grouped), anything gs)

@@ -4,29 +4,36 @@ ghost use Rattle.wc_binary.specs.Writing.Contents.{global_bytes, elem_bytes, dat
 ghost use Rattle.wc_binary.specs.Writing.Contents.{FitsGlobal, FitsElem, FitsData};
 
 use crate::byte_range::are_bytes;
-use crate::encoder::expression::expr_size;
-use crate::encoder::item::{Item, write_vector};
-use crate::encoder::measured::Measured;
-use crate::encoder::types::write_global_type;
-use crate::encoder::value::{length_size, u32_size, write_length, write_u32};
+use crate::encoder::measured::{Measured, vector_size, write_vector};
+use crate::encoder::value::{sized_size, u32_size, write_length, write_u32};
 use crate::fault::EncFault;
 use wc_ast::{Data, Elem, Global};
 
-impl Item for Global {
+impl Measured for Global {
     ghost bytes = { global_bytes };
 
     ghost Fits = { FitsGlobal };
 
+    fn size(&self) -> Option<usize> {
+        let head = self.ty.size()?;
+        Some(head.saturating_add(self.init.size()?))
+    }
+
     fn write(&self, out: &mut Vec<u8>) -> Result<(), EncFault> {
-        write_global_type(out, &self.ty)?;
+        self.ty.write(out)?;
         self.init.write(out)
     }
 }
 
-impl Item for Elem {
+impl Measured for Elem {
     ghost bytes = { elem_bytes };
 
     ghost Fits = { FitsElem };
+
+    fn size(&self) -> Option<usize> {
+        let head = u32_size(self.table).saturating_add(self.offset.size()?);
+        Some(head.saturating_add(vector_size(self.funcs.as_slice())?))
+    }
 
     fn write(&self, out: &mut Vec<u8>) -> Result<(), EncFault> {
         write_u32(out, self.table)?;
@@ -40,10 +47,11 @@ impl Measured for Data {
 
     ghost Fits = { FitsData };
 
-    fn size(&self) -> Result<usize, EncFault> {
-        let head = u32_size(self.memory).saturating_add(expr_size(&self.offset.as_ref()));
-        let count = length_size(self.bytes.len())?;
-        Ok(head.saturating_add(count).saturating_add(self.bytes.len()))
+    fn size(&self) -> Option<usize> {
+        let head = u32_size(self.memory).saturating_add(self.offset.size()?);
+        let bytes = self.bytes.as_slice();
+        are_bytes(bytes);
+        Some(head.saturating_add(sized_size(bytes.len())?))
     }
 
     fn write(&self, out: &mut Vec<u8>) -> Result<(), EncFault> {

@@ -1,16 +1,20 @@
 //! Expressions (Core 1.0, 5.4.6).
 
-ghost use Rattle.std.specs.Prelude.{◌≡◌, length};
 ghost use Rattle.wc_body.specs.Standard.InstructionBytes.{expr_bytes, FitsExpr};
 
-use crate::encoder::item::Item;
+use crate::encoder::measured::Measured;
 use crate::fault::EncFault;
 use wc_ast::{Body, BodyRef};
 
-impl Item for Body {
+impl<'a> Measured for BodyRef<'a> {
     ghost bytes = { expr_bytes };
 
     ghost Fits = { FitsExpr };
+
+    /// How many bytes the instructions take, and the byte that ends them.
+    fn size(&self) -> Option<usize> {
+        Some(self.bytes().len() + 1)
+    }
 
     /// Writes the instructions, and the byte that ends them.
     fn write(&self, out: &mut Vec<u8>) -> Result<(), EncFault> {
@@ -20,22 +24,16 @@ impl Item for Body {
     }
 }
 
-impl<'a> Item for BodyRef<'a> {
+impl Measured for Body {
     ghost bytes = { expr_bytes };
 
     ghost Fits = { FitsExpr };
 
-    /// Writes the instructions, and the byte that ends them.
-    fn write(&self, out: &mut Vec<u8>) -> Result<(), EncFault> {
-        out.extend_from_slice(self.bytes())?;
-        out.push(0x0b)?;
-        Ok(())
+    fn size(&self) -> Option<usize> {
+        self.as_ref().size()
     }
-}
 
-/// How many bytes the instructions take, and the byte that ends them.
-pub fn expr_size(body: &BodyRef<'_>) -> usize
-    ensures { result ≡ length (expr_bytes body.now) }
-{
-    body.bytes().len() + 1
+    fn write(&self, out: &mut Vec<u8>) -> Result<(), EncFault> {
+        self.as_ref().write(out)
+    }
 }

@@ -4,56 +4,82 @@ ghost use Rattle.std.specs.Prelude.{◌≡◌, ◌∷◌, []};
 ghost use Rattle.wc_binary.specs.Writing.Values.{name_bytes, kind_bytes, desc_bytes};
 ghost use Rattle.wc_binary.specs.Writing.Values.{import_bytes, export_bytes, FitsName};
 ghost use Rattle.wc_binary.specs.Writing.Values.{FitsDesc, FitsImport, FitsExport};
-ghost use Rattle.wc_binary.specs.Writing.Writes.{Writes};
 
-use crate::encoder::item::Item;
-use crate::encoder::types::{write_global_type, write_table_type};
-use crate::encoder::value::{write_length, write_u32};
+use crate::encoder::measured::Measured;
+use crate::encoder::types::{table_type_size, write_table_type};
+use crate::encoder::value::{sized_size, u32_size, write_length, write_u32};
 use crate::fault::EncFault;
 use wc_ast::{Desc, Export, ExportKind, Import, Name};
 
-fn write_name(out: &mut Vec<u8>, name: &Name) -> Result<(), EncFault>
-    ensures { Writes (FitsName name.now) out.old.items out.new.items (name_bytes name.now) result }
-{
-    let bytes = name.as_str().as_bytes();
-    write_length(out, bytes.len())?;
-    out.extend_from_slice(bytes)?;
-    Ok(())
+impl Measured for Name {
+    ghost bytes = { name_bytes };
+
+    ghost Fits = { FitsName };
+
+    fn size(&self) -> Option<usize> {
+        sized_size(self.as_str().len())
+    }
+
+    fn write(&self, out: &mut Vec<u8>) -> Result<(), EncFault> {
+        let bytes = self.as_str().as_bytes();
+        write_length(out, bytes.len())?;
+        out.extend_from_slice(bytes)?;
+        Ok(())
+    }
 }
 
-fn write_desc(out: &mut Vec<u8>, desc: &Desc) -> Result<(), EncFault>
-    ensures { Writes (FitsDesc desc.now) out.old.items out.new.items (desc_bytes desc.now) result }
-{
-    match desc {
-        Desc::Func(index) => {
-            out.push(0)?;
-            write_u32(out, *index)?;
-            Ok(())
-        }
-        Desc::Table(limits) => {
-            out.push(1)?;
-            write_table_type(out, limits)
-        }
-        Desc::Memory(limits) => {
-            out.push(2)?;
-            limits.write(out)
-        }
-        Desc::Global(ty) => {
-            out.push(3)?;
-            write_global_type(out, ty)
+impl Measured for Desc {
+    ghost bytes = { desc_bytes };
+
+    ghost Fits = { FitsDesc };
+
+    fn size(&self) -> Option<usize> {
+        let size = match self {
+            Desc::Func(index) => u32_size(*index),
+            Desc::Table(limits) => table_type_size(limits)?,
+            Desc::Memory(limits) => limits.size()?,
+            Desc::Global(ty) => ty.size()?,
+        };
+        Some(size.saturating_add(1))
+    }
+
+    fn write(&self, out: &mut Vec<u8>) -> Result<(), EncFault> {
+        match self {
+            Desc::Func(index) => {
+                out.push(0)?;
+                write_u32(out, *index)?;
+                Ok(())
+            }
+            Desc::Table(limits) => {
+                out.push(1)?;
+                write_table_type(out, limits)
+            }
+            Desc::Memory(limits) => {
+                out.push(2)?;
+                limits.write(out)
+            }
+            Desc::Global(ty) => {
+                out.push(3)?;
+                ty.write(out)
+            }
         }
     }
 }
 
-impl Item for Import {
+impl Measured for Import {
     ghost bytes = { import_bytes };
 
     ghost Fits = { FitsImport };
 
+    fn size(&self) -> Option<usize> {
+        let names = self.module.size()?.saturating_add(self.name.size()?);
+        Some(names.saturating_add(self.desc.size()?))
+    }
+
     fn write(&self, out: &mut Vec<u8>) -> Result<(), EncFault> {
-        write_name(out, &self.module)?;
-        write_name(out, &self.name)?;
-        write_desc(out, &self.desc)
+        self.module.write(out)?;
+        self.name.write(out)?;
+        self.desc.write(out)
     }
 }
 
@@ -68,13 +94,18 @@ fn kind_byte(kind: ExportKind) -> u8
     }
 }
 
-impl Item for Export {
+impl Measured for Export {
     ghost bytes = { export_bytes };
 
     ghost Fits = { FitsExport };
 
+    fn size(&self) -> Option<usize> {
+        let behind = u32_size(self.index).saturating_add(1);
+        Some(self.name.size()?.saturating_add(behind))
+    }
+
     fn write(&self, out: &mut Vec<u8>) -> Result<(), EncFault> {
-        write_name(out, &self.name)?;
+        self.name.write(out)?;
         out.push(kind_byte(self.kind))?;
         write_u32(out, self.index)?;
         Ok(())

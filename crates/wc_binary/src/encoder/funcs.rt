@@ -1,27 +1,26 @@
 //! Codes of functions (Core 1.0, 5.5.13).
 
-ghost use Rattle.std.specs.Prelude.{length};
+ghost use Rattle.std.specs.Prelude.{ℕ, length};
 ghost use Rattle.wc_body.specs.Standard.ValueBytes.{vector_bytes, FitsVector};
 ghost use Rattle.wc_binary.specs.Writing.Values.{section_bytes, FitsSection};
 ghost use Rattle.wc_binary.specs.Writing.Contents.{func_bytes, code_bytes, FitsFunc, FitsCode};
 ghost use Rattle.wc_binary.specs.Standard.Sections.{section_id};
-ghost use Rattle.wc_binary.specs.Writing.Writes.{Writes, Measures};
+ghost use Rattle.wc_binary.specs.Writing.Writes.{Writes, Measures, MeasuresWithin, section_limit};
 
-use crate::encoder::expression::expr_size;
-use crate::encoder::item::Item;
-use crate::encoder::locals::locals_size;
 use crate::encoder::measured::Measured;
-use crate::encoder::value::{length_size, write_length};
+use crate::encoder::section::{headed_size, write_head};
+use crate::encoder::value::{length_size, sized_size, write_length};
 use crate::fault::EncFault;
 use crate::section::SectionKind;
 use wc_ast::{CodeRef, Codes};
 
 /// How many bytes stand behind the size of a code.
-fn func_size(code: &CodeRef<'_>) -> Result<usize, EncFault>
+fn func_size(code: &CodeRef<'_>) -> Option<usize>
     ensures { Measures (FitsFunc code.now) (length (func_bytes code.now)) result }
 {
-    let locals = locals_size(code.locals())?;
-    Ok(locals.saturating_add(expr_size(code.body())))
+    let locals = code.locals().size()?;
+    let body = code.body().size()?;
+    Some(locals.saturating_add(body))
 }
 
 impl<'a> Measured for CodeRef<'a> {
@@ -29,13 +28,14 @@ impl<'a> Measured for CodeRef<'a> {
 
     ghost Fits = { FitsCode };
 
-    fn size(&self) -> Result<usize, EncFault> {
-        let size = func_size(self)?;
-        Ok(length_size(size)?.saturating_add(size))
+    fn size(&self) -> Option<usize> {
+        sized_size(func_size(self)?)
     }
 
     fn write(&self, out: &mut Vec<u8>) -> Result<(), EncFault> {
-        let size = func_size(self)?;
+        let Some(size) = func_size(self) else {
+            return Err(EncFault::Oversize);
+        };
         write_length(out, size)?;
         self.locals().write(out)?;
         self.body().write(out)
@@ -43,7 +43,7 @@ impl<'a> Measured for CodeRef<'a> {
 }
 
 /// How many bytes the count and the codes take.
-fn codes_size(codes: &Codes) -> Result<usize, EncFault>
+fn codes_size(codes: &Codes) -> Option<usize>
     ensures { Measures (FitsVector FitsCode codes.now) (length (vector_bytes code_bytes codes.now)) result }
 {
     let count = length_size(codes.len())?;
@@ -51,7 +51,7 @@ fn codes_size(codes: &Codes) -> Result<usize, EncFault>
     for code in codes.iter() {
         size = size.saturating_add(code.size()?);
     }
-    Ok(size)
+    Some(size)
 }
 
 fn write_codes(out: &mut Vec<u8>, codes: &Codes) -> Result<(), EncFault>
@@ -65,6 +65,17 @@ fn write_codes(out: &mut Vec<u8>, codes: &Codes) -> Result<(), EncFault>
     Ok(())
 }
 
+/// How many bytes the code section takes, whatever its id.
+pub fn code_section_size(codes: &Codes) -> Option<usize>
+    ensures { (id : ℕ) → MeasuresWithin section_limit (FitsSection code_bytes FitsCode codes.now)
+        (length (section_bytes id code_bytes codes.now)) result }
+{
+    if codes.len() == 0 {
+        return Some(0);
+    }
+    headed_size(codes_size(codes)?)
+}
+
 /// Writes the code section, unless there is no code.
 pub fn write_code_section(out: &mut Vec<u8>, codes: &Codes) -> Result<(), EncFault>
     ensures { Writes (FitsSection code_bytes FitsCode codes.now) out.old.items out.new.items
@@ -73,9 +84,9 @@ pub fn write_code_section(out: &mut Vec<u8>, codes: &Codes) -> Result<(), EncFau
     if codes.len() == 0 {
         return Ok(());
     }
-    let size = codes_size(codes)?;
-    out.push(SectionKind::Code.id())?;
-    write_length(out, size)?;
-    out.reserve(size)?;
+    let Some(size) = codes_size(codes) else {
+        return Err(EncFault::Oversize);
+    };
+    write_head(out, SectionKind::Code, size)?;
     write_codes(out, codes)
 }

@@ -1,33 +1,30 @@
-//! Sections that are counted first and then written once. Their items end in bytes that stand in the module as they are
-//! written, so these needn't be laid out for the count.
+//! What has canonical bytes. Nothing is laid out to be counted: the number of bytes is told first, and then the bytes are
+//! written once, where they stand in the module.
 
 ghost use Rattle.std.specs.Prelude.{ℕ, List as Seq, length};
 ghost use Rattle.wc_body.specs.Standard.ValueBytes.{vector_bytes, FitsVector};
-ghost use Rattle.wc_binary.specs.Writing.Values.{section_bytes, FitsSection};
-ghost use Rattle.wc_binary.specs.Standard.Sections.{section_id};
 ghost use Rattle.wc_binary.specs.Writing.Writes.{Writes, Measures};
 
 use crate::encoder::value::{length_size, write_length};
 use crate::fault::EncFault;
-use crate::section::SectionKind;
 
-/// What stands in such a section.
+/// What has canonical bytes, unless a count or a size in it reaches `2^32`.
 pub trait Measured: Sized {
     ghost bytes: { Self → Seq ℕ };
 
     ghost Fits: { Self → Type 0 };
 
-    /// How many bytes the item takes.
-    fn size(&self) -> Result<usize, EncFault>
+    /// How many bytes it takes. It takes no memory to tell.
+    fn size(&self) -> Option<usize>
         ensures { Measures (Fits self.now) (length (bytes self.now)) result };
 
-    /// Writes the item.
+    /// Writes its bytes.
     fn write(&self, out: &mut Vec<u8>) -> Result<(), EncFault>
         ensures { Writes (Fits self.now) out.old.items out.new.items (bytes self.now) result };
 }
 
 /// How many bytes the count and the items take.
-pub fn vector_size<M: Measured>(items: &[M]) -> Result<usize, EncFault>
+pub fn vector_size<M: Measured>(items: &[M]) -> Option<usize>
     ensures { Measures (FitsVector M.Fits items.now) (length (vector_bytes M.bytes items.now)) result }
 {
     let count = length_size(items.len())?;
@@ -35,11 +32,11 @@ pub fn vector_size<M: Measured>(items: &[M]) -> Result<usize, EncFault>
     for item in items {
         size = size.saturating_add(item.size()?);
     }
-    Ok(size)
+    Some(size)
 }
 
 /// Writes the count and the items.
-pub fn write_items<M: Measured>(out: &mut Vec<u8>, items: &[M]) -> Result<(), EncFault>
+pub fn write_vector<M: Measured>(out: &mut Vec<u8>, items: &[M]) -> Result<(), EncFault>
     ensures { Writes (FitsVector M.Fits items.now) out.old.items out.new.items (vector_bytes M.bytes items.now) result }
 {
     write_length(out, items.len())?;
@@ -47,23 +44,4 @@ pub fn write_items<M: Measured>(out: &mut Vec<u8>, items: &[M]) -> Result<(), En
         item.write(out)?;
     }
     Ok(())
-}
-
-/// Writes a section of these items, unless there is none.
-pub fn write_measured<M: Measured>(
-    out: &mut Vec<u8>,
-    kind: SectionKind,
-    items: &[M],
-) -> Result<(), EncFault>
-    ensures { Writes (FitsSection M.bytes M.Fits items.now) out.old.items out.new.items
-        (section_bytes (section_id kind) M.bytes items.now) result }
-{
-    if items.is_empty() {
-        return Ok(());
-    }
-    let size = vector_size(items)?;
-    out.push(kind.id())?;
-    write_length(out, size)?;
-    out.reserve(size)?;
-    write_items(out, items)
 }

@@ -1,23 +1,25 @@
 //! Types (Core 1.0, 5.3).
 
+ghost use Rattle.std.specs.Prelude.{ℕ, length};
 ghost use Rattle.wc_body.specs.Standard.ValueBytes.{value_type_bytes, vector_bytes, FitsVector};
 ghost use Rattle.wc_binary.specs.Writing.Values.{func_type_bytes, limits_bytes, table_type_bytes, global_type_bytes};
-ghost use Rattle.wc_binary.specs.Writing.Values.{section_bytes, Anything, FitsFuncType, FitsLimits, FitsSection};
-ghost use Rattle.wc_binary.specs.Standard.Sections.{section_id};
-ghost use Rattle.wc_binary.specs.Writing.Writes.{Writes};
+ghost use Rattle.wc_binary.specs.Writing.Values.{Anything, FitsFuncType, FitsLimits};
+ghost use Rattle.wc_binary.specs.Writing.Writes.{Writes, Measures};
 
-use crate::encoder::item::{Item, write_content, write_vector};
-use crate::encoder::value::{write_length, write_u32};
+use crate::encoder::measured::{Measured, vector_size, write_vector};
+use crate::encoder::value::{u32_size, write_u32};
 use crate::fault::EncFault;
-use crate::section::SectionKind;
 use crate::value_type::byte_of;
-use std::alloc::Global;
 use wc_ast::{FuncType, GlobalType, Limits, ValType};
 
-impl Item for ValType {
+impl Measured for ValType {
     ghost bytes = { value_type_bytes };
 
     ghost Fits = { Anything };
+
+    fn size(&self) -> Option<usize> {
+        Some(1)
+    }
 
     fn write(&self, out: &mut Vec<u8>) -> Result<(), EncFault> {
         out.push(byte_of(*self))?;
@@ -25,10 +27,16 @@ impl Item for ValType {
     }
 }
 
-impl Item for FuncType {
+impl Measured for FuncType {
     ghost bytes = { func_type_bytes };
 
     ghost Fits = { FitsFuncType };
+
+    fn size(&self) -> Option<usize> {
+        let params = vector_size(self.params.as_slice())?;
+        let results = vector_size(self.results.as_slice())?;
+        Some(params.saturating_add(results).saturating_add(1))
+    }
 
     fn write(&self, out: &mut Vec<u8>) -> Result<(), EncFault> {
         out.push(0x60)?;
@@ -37,10 +45,18 @@ impl Item for FuncType {
     }
 }
 
-impl Item for Limits {
+impl Measured for Limits {
     ghost bytes = { limits_bytes };
 
     ghost Fits = { FitsLimits };
+
+    fn size(&self) -> Option<usize> {
+        let least = u32_size(self.min).saturating_add(1);
+        match self.max {
+            None => Some(least),
+            Some(max) => Some(least.saturating_add(u32_size(max))),
+        }
+    }
 
     fn write(&self, out: &mut Vec<u8>) -> Result<(), EncFault> {
         match self.max {
@@ -58,47 +74,33 @@ impl Item for Limits {
     }
 }
 
+impl Measured for GlobalType {
+    ghost bytes = { global_type_bytes };
+
+    ghost Fits = { Anything };
+
+    fn size(&self) -> Option<usize> {
+        Some(2)
+    }
+
+    fn write(&self, out: &mut Vec<u8>) -> Result<(), EncFault> {
+        self.ty.write(out)?;
+        out.push(u8::from(self.mutable))?;
+        Ok(())
+    }
+}
+
+/// How many bytes a table type takes.
+pub fn table_type_size(limits: &Limits) -> Option<usize>
+    ensures { Measures (FitsLimits limits.now) (length (table_type_bytes limits.now)) result }
+{
+    Some(limits.size()?.saturating_add(1))
+}
+
 /// Writes a table type.
 pub fn write_table_type(out: &mut Vec<u8>, limits: &Limits) -> Result<(), EncFault>
     ensures { Writes (FitsLimits limits.now) out.old.items out.new.items (table_type_bytes limits.now) result }
 {
     out.push(0x70)?;
     limits.write(out)
-}
-
-fn write_table_types(out: &mut Vec<u8>, tables: &[Limits]) -> Result<(), EncFault>
-    ensures { Writes (FitsVector FitsLimits tables.now) out.old.items out.new.items
-        (vector_bytes table_type_bytes tables.now) result }
-{
-    write_length(out, tables.len())?;
-    for table in tables {
-        write_table_type(out, table)?;
-    }
-    Ok(())
-}
-
-/// Writes the table section, unless there is no table.
-pub fn write_table_section(
-    alloc: Global,
-    out: &mut Vec<u8>,
-    tables: &[Limits],
-) -> Result<(), EncFault>
-    ensures { Writes (FitsSection table_type_bytes FitsLimits tables.now) out.old.items out.new.items
-        (section_bytes (section_id SectionKind.Table) table_type_bytes tables.now) result }
-{
-    if tables.is_empty() {
-        return Ok(());
-    }
-    let mut content = Vec::new(alloc);
-    write_table_types(&mut content, tables)?;
-    write_content(out, SectionKind::Table, content.as_slice())
-}
-
-/// Writes a global type.
-pub fn write_global_type(out: &mut Vec<u8>, global_type: &GlobalType) -> Result<(), EncFault>
-    ensures { Writes (Anything global_type.now) out.old.items out.new.items (global_type_bytes global_type.now) result }
-{
-    global_type.ty.write(out)?;
-    out.push(u8::from(global_type.mutable))?;
-    Ok(())
 }

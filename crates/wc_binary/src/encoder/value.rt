@@ -1,8 +1,8 @@
 //! Integers and lengths by their shortest spellings (Core 1.0, 5.2.2).
 
-ghost use Rattle.std.specs.Prelude.{◌≡◌, ◌++◌, ◌<◌, ◌^◌, OnOk, length as count_of};
+ghost use Rattle.std.specs.Prelude.{◌≡◌, ◌++◌, ◌+◌, ◌<◌, ◌^◌, OnOk, length as count_of};
 ghost use Rattle.wc_leb128.specs.Writing.Bytes.{unsigned_bytes};
-ghost use Rattle.wc_binary.specs.Writing.Writes.{Writes, Measures};
+ghost use Rattle.wc_binary.specs.Writing.Writes.{Writes, Measures, MeasuresWithin};
 
 use crate::fault::EncFault;
 use std::alloc::AllocError;
@@ -60,11 +60,20 @@ pub fn u32_size(n: u32) -> usize
 
 /// How many bytes a count of items or a size in bytes takes.
 #[inline(always)]
-pub fn length_size(length: usize) -> Result<usize, EncFault>
-    ensures { Measures (length < 2 ^ 32) (count_of (unsigned_bytes length)) result }
+pub fn length_size(length: usize) -> Option<usize>
+    ensures { MeasuresWithin 5 (length < 2 ^ 32) (count_of (unsigned_bytes length)) result }
 {
     if length > u32::MAX as usize {
-        return Err(EncFault::Oversize);
+        return None;
     }
-    Ok(u32_size(length as u32))
+    Some(u32_size(length as u32))
+}
+
+/// How many bytes so many bytes take with their number before them.
+#[inline(always)]
+pub fn sized_size(length: usize) -> Option<usize>
+    ensures { Measures (length < 2 ^ 32) (count_of (unsigned_bytes length) + length) result }
+{
+    let size = length_size(length)?;
+    Some(size.saturating_add(length))
 }

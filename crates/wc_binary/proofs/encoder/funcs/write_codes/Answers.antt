@@ -1,4 +1,4 @@
-use Rattle.std.proofs.Common.{[], ◌∷◌, ◌++◌, length, append_assoc, refl, ◌∙◌}
+use Rattle.std.proofs.Common.{[], ◌∷◌, length, append_assoc, refl, ◌∙◌}
 use Rattle.std.proofs.lemmas.List.{append-nil}
 use Rattle.std.proofs.lemmas.Result.{err_from_is_err_and}
 use Rattle.wc_leb128.specs.Writing.Bytes.{unsigned_bytes}

@@ -1,10 +1,11 @@
 use Rattle.std.proofs.Common.{◌≡◌, ◌++◌, ◌-◌, ◌^◌, length, take}
 use Rattle.std.specs.Prelude.{min}
-use Rattle.std.specs.List.{flat_map}
+use Rattle.std.specs.List.{flat_map, AllByRecursion}
 use Rattle.wc_leb128.specs.Writing.Bytes.{unsigned_bytes}
 use Rattle.wc_binary.proofs.encoder.measured.vector_size.Given as goal
 
 abbrev pub invariant-loop-item : goal.invariant-loop-item
 invariant-loop-item g l =
     let so_far = flat_map g.M.Measured.bytes (take l.item-index l.items) in
-    l.size ≡ min (length (unsigned_bytes (length l.items) ++ so_far)) (2 ^ 64 - 1)
+    (l.size ≡ min (length (unsigned_bytes (length l.items) ++ so_far)) (2 ^ 64 - 1))
+    × AllByRecursion g.M.Measured.Fits (take l.item-index l.items)

@@ -9,7 +9,7 @@ use Rattle.wc_binary.proofs.encoder.sections.write_sections.Goals as goal
 pub returns : goal.returns
 returns c =
     let p = parts_of c.args.m.now in
-    let out = c.write_measured.new.out.items in
+    let out = c.write_section-8.new.out.items in
     let s1 = rw c.as_slice.ensures at c.in_ok-write_section.ensures in
     let s2 = rw c.as_slice-2.ensures at c.in_ok-write_section-2.ensures in
     let s3 = rw c.types.ensures at c.in_ok-write_section-3.ensures in
@@ -20,7 +20,7 @@ returns c =
     let s8 = c.in_ok-write_start_section.ensures in
     let s9 = rw c.as_slice-7.ensures at c.in_ok-write_section-7.ensures in
     let s10 = rw c.codes.ensures at c.in_ok-write_code_section.ensures in
-    let s11 = rw c.as_slice-8.ensures at c.write_measured.ensures in
+    let s11 = rw c.as_slice-8.ensures at c.write_section-8.ensures in
     let o1 = c.write_section.new.out.items in
     let o2 = c.write_section-2.new.out.items in
     let o3 = c.write_section-3.new.out.items in

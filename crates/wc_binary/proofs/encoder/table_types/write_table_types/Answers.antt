@@ -3,7 +3,7 @@ use Rattle.std.proofs.lemmas.Result.{err_from_is_err_and}
 use Rattle.wc_body.specs.Standard.ValueBytes.{vector_bytes}
 use Rattle.wc_binary.specs.Writing.Values.{FitsLimits, table_type_bytes}
 use Rattle.wc_binary.proofs.spelling.Encoding.{item-fails, get_or-any}
-use Rattle.wc_binary.proofs.encoder.types.write_table_types.Goals as goal
+use Rattle.wc_binary.proofs.encoder.table_types.write_table_types.Goals as goal
 
 pub returns-in_err-write_table_type : goal.returns-in_err-write_table_type
 returns-in_err-write_table_type c =

@@ -1,7 +1,7 @@
 use Rattle.std.proofs.Common.{◌≡◌, ◌++◌, length, take}
 use Rattle.std.specs.List.{flat_map, AllByRecursion}
 use Rattle.wc_leb128.specs.Writing.Bytes.{unsigned_bytes}
-use Rattle.wc_binary.proofs.encoder.measured.write_items.Given as goal
+use Rattle.wc_binary.proofs.encoder.measured.write_vector.Given as goal
 
 abbrev pub invariant-loop-item : goal.invariant-loop-item
 invariant-loop-item g l =

@@ -1,7 +1,7 @@
 use Rattle.std.proofs.lemmas.Result.{err_from_is_err_and}
 use Rattle.wc_body.specs.Standard.ValueBytes.{vector_bytes}
 use Rattle.wc_binary.proofs.spelling.Encoding.{item-fails}
-use Rattle.wc_binary.proofs.encoder.measured.write_items.Goals as goal
+use Rattle.wc_binary.proofs.encoder.measured.write_vector.Goals as goal
 
 pub returns-in_err-write : goal.returns-in_err-write
 returns-in_err-write g c =

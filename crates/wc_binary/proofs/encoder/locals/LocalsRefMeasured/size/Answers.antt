@@ -1,5 +1,5 @@
 use Rattle.wc_binary.proofs.spelling.Locals.{locals-counted}
-use Rattle.wc_binary.proofs.encoder.locals.locals_size.Goals as goal
+use Rattle.wc_binary.proofs.encoder.locals.LocalsRefMeasured.size.Goals as goal
 
 pub returns : goal.returns
 returns c =
