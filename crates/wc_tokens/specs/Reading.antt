@@ -2,4 +2,5 @@ pub mod Scans
 pub mod Numbers
 pub mod Elements
 pub mod Heads
+pub mod Nexts
 pub mod Stops
