@@ -3,3 +3,4 @@ pub mod Utf8Laws
 pub mod LexLaws
 pub mod SpanLaws
 pub mod RunLaws
+pub mod StreamLaws

@@ -5,3 +5,4 @@ pub mod Gaps
 pub mod Lexemes
 pub mod Faults
 pub mod Tokens
+pub mod Streams

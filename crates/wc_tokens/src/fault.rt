@@ -22,6 +22,15 @@ pub enum LexWhy {
     TooLong,
 }
 
+/// The first fault of a text.
+#[derive(Clone, Copy, Debug, PartialEq, Eq)]
+pub struct Stop {
+    /// The byte, as `why` says.
+    pub at: u64,
+    /// The reason.
+    pub why: LexWhy,
+}
+
 /// Why there are no tokens.
 #[derive(Debug, Drop)]
 pub enum LexFault {
@@ -35,6 +44,20 @@ pub enum LexFault {
     },
     /// Memory was refused.
     Memory,
+}
+
+impl From<Stop> for LexFault {
+    ghost use Rattle.std.specs.Prelude.{◌≡◌};
+    ghost use Rattle.wc_tokens.specs.declared.fault.LexFault.TheVariants.{Bad};
+
+    ghost from_gives = { λ stop e. e ≡ Bad stop.at stop.why };
+
+    fn from(stop: Stop) -> LexFault {
+        LexFault::Bad {
+            at: stop.at,
+            why: stop.why,
+        }
+    }
 }
 
 impl From<AllocError> for LexFault {

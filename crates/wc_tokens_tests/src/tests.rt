@@ -3,7 +3,9 @@
 use std::alloc::Global;
 use std::mem::size_of;
 use std::test::Fail;
-use wc_tokens::{LexFault, Num, Token, TokenKind, integer, lex, string_bytes, unsigned};
+use wc_tokens::{
+    LexFault, Lexer, Num, Stop, Token, TokenKind, integer, lex, string_bytes, unsigned,
+};
 
 const TOKENS: [(&str, &str); 23] = [
     ("", ""), // no text
@@ -188,6 +190,47 @@ fn faults(rt: HostRuntime) -> Result<(), Fail> {
     for &(text, want) in &FAULTS {
         let shown = shown(rt.alloc(), text)?;
         assert_eq!(rt; shown.as_str(), want);
+    }
+    Ok(())
+}
+
+/// Takes tokens until none is left, and tells how many there were.
+fn count(lexer: &mut Lexer<'_>) -> Result<usize, Stop> {
+    for taken in 0..100 {
+        if lexer.next()?.is_none() {
+            return Ok(taken);
+        }
+    }
+    Ok(100)
+}
+
+#[test]
+fn one_by_one(rt: HostRuntime) -> Result<(), Fail> {
+    for &(text, _) in &TOKENS {
+        let tokens = lex(rt.alloc(), text.as_bytes()).ok().ok_or("no tokens")?;
+        let mut lexer = Lexer::new(text.as_bytes()).ok().ok_or("no text")?;
+        assert!(rt; lexer.check_rest().is_ok());
+        assert_eq!(rt; count(&mut lexer), Ok(tokens.as_slice().len()), "{text}");
+        assert_eq!(rt; count(&mut lexer), Ok(0), "behind the end of {text}");
+    }
+    Ok(())
+}
+
+#[test]
+fn stopped(rt: HostRuntime) -> Result<(), Fail> {
+    for &(text, want) in &FAULTS {
+        let stop = match Lexer::new(text) {
+            Ok(mut lexer) => {
+                let stop = lexer.check_rest().err().ok_or("no fault")?;
+                assert_eq!(rt; count(&mut lexer), Err(stop));
+                assert_eq!(rt; count(&mut lexer), Err(stop), "again");
+                stop
+            }
+            Err(stop) => stop,
+        };
+        let why = stop.why;
+        let at = stop.at;
+        assert_eq!(rt; format!(in rt.alloc(); "{why:?} at {at}")?.as_str(), want);
     }
     Ok(())
 }

@@ -16,7 +16,7 @@ use Rattle.wc_tokens.proofs.Decided.Exists.{at_end, a_gap, a_token, a_fault, out
 use Rattle.wc_tokens.proofs.Decided.Unique.{NoMore, Skip, Take, Halt, next, next-Gap, next-Token, next-Stuck}
 use Rattle.wc_tokens.proofs.Lexing.Utf8Laws.{IsUtf8-or-front, IsValidUpTo-same, not-IsUtf8}
 
-same-spanned : (size : ℕ) {k k' : TokenKind} {t t' r r' : List ℕ} → k ≡ k' → t ≡ t' → r ≡ r'
+pub same-spanned : (size : ℕ) {k k' : TokenKind} {t t' r r' : List ℕ} → k ≡ k' → t ≡ t' → r ≡ r'
     → spanned size k t r ≡ spanned size k' t' r'
 same-spanned size {k} {k'} {t} {t'} {r} {r'} a b c =
     ap (λ (x : TokenKind). spanned size x t r) a ∙ ap (λ (x : List ℕ). spanned size k' x r) b

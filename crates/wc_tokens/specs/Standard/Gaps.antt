@@ -33,3 +33,8 @@ pub data Gap : List ℕ → List ℕ → Type 0 where
   line : (characters : List ℕ) {rest : List ℕ} → AllByRecursion (λ c. c ≢ 10) characters → EndsLine rest
       → Gap (59 ∷ 59 ∷ (characters ++ rest)) rest
   block : {inside rest : List ℕ} → Inside inside (59 ∷ 41 ∷ rest) → Gap (40 ∷ 59 ∷ inside) rest
+
+-- `Gaps text rest`: the text is gaps, and then the rest
+pub data Gaps : List ℕ → List ℕ → Type 0 where
+  none : {rest : List ℕ} → Gaps rest rest
+  more : {text behind rest : List ℕ} → Gap text behind → Gaps behind rest → Gaps text rest

@@ -1,16 +1,10 @@
 use Rattle.std.proofs.Common.{subst, sym, arith}
 use Rattle.std.specs.Str.{IsValidUpTo}
 use Rattle.wc_tokens.specs.Standard.Faults.{too_long, not_utf8}
-use Rattle.wc_tokens.proofs.Lexing.RunLaws.{IsFault-stop}
-use Rattle.wc_tokens.proofs.lexer.tokens_or_fault.Goals as goal
+use Rattle.wc_tokens.proofs.stream.Lexer.new.Goals as goal
 
 pub returns-then-text-gt-LONGEST-clause-fault : goal.returns-then-text-gt-LONGEST-clause-fault
 returns-then-text-gt-LONGEST-clause-fault c = too_long (omega (arith, c.if-text-gt-LONGEST.true))
-
-pub returns-in-Ok-clause-fault : goal.returns-in-Ok-clause-fault
-returns-in-Ok-clause-fault c =
-    IsFault-stop c.args.text.now c.in-Ok.text.now c.tokens.result (omega (arith, c.if-text-gt-LONGEST.false))
-    (c.in-Ok.ensures {u = tt}).cases c.tokens.ensures.fault
 
 pub returns-in-Err-clause-fault : goal.returns-in-Err-clause-fault
 returns-in-Err-clause-fault c =

@@ -1,5 +1,5 @@
 use Rattle.wc_tokens.proofs.Lexing.RunLaws.{lex-only, lex-only-fault}
-use Rattle.wc_tokens.proofs.lexer.lex.Goals as goal
+use Rattle.wc_tokens.proofs.whole.lex.Goals as goal
 
 pub returns-clause-only : goal.returns-clause-only
 returns-clause-only c =

@@ -1,5 +1,5 @@
 use Rattle.wc_tokens.proofs.Lexing.SpanLaws.{boundary-start, boundary-stop}
-use Rattle.wc_tokens.proofs.lexer.span_of.Goals as goal
+use Rattle.wc_tokens.proofs.stream.span_of.Goals as goal
 
 pub range-requires-clause-start_boundary : goal.range-requires-clause-start_boundary
 range-requires-clause-start_boundary c =

@@ -1,0 +1,38 @@
+-- The tokens of a text, read one after another.
+use Rattle.std.specs.Prelude.{◌≡◌, ℕ, List, [], ◌++◌, length, Option, Some, None, Result, Ok, Err}
+use Rattle.wc_tokens.specs.declared.fault.Stop.{Stop}
+use Rattle.wc_tokens.specs.declared.token.Token.{Token}
+use Rattle.wc_tokens.specs.declared.token.TokenKind.{TokenKind}
+use Rattle.wc_tokens.specs.Standard.Gaps.{Gaps}
+use Rattle.wc_tokens.specs.Standard.Lexemes.{IsToken, Lexeme, Lexed, spanned}
+use Rattle.wc_tokens.specs.Standard.Faults.{Stops}
+use Rattle.wc_tokens.specs.Standard.Tokens.{lexeme_of}
+
+-- what is left to read of a text of a size
+pub record Unread : Type 0 where
+  pub size : ℕ
+  pub rest : List ℕ
+
+-- a text of which nothing was read
+abbrev pub unread : List ℕ → Unread
+unread text = record { size = length text; rest = text }
+
+-- `Gives old t new`: behind gaps comes the token t, and then what is left
+pub record Gives (old : Unread) (t : Lexeme) (new : Unread) : Type 0 where
+  pub kind : TokenKind
+  pub text : List ℕ
+  pub gaps : Gaps old.rest (text ++ new.rest)
+  pub token : IsToken kind text new.rest
+  pub spans : t ≡ spanned old.size kind text new.rest
+  pub same_text : new.size ≡ old.size
+
+-- The next token is read, or none is left, or a fault stands there. In these two cases as much is left as before.
+abbrev pub IsRead : Unread → Unread → Result (Option Token) Stop → Type 0
+IsRead old new (Ok (Some t)) = Gives old (lexeme_of t) new
+IsRead old new (Ok None) = Gaps old.rest [] × (new ≡ old)
+IsRead old new (Err stop) = Stops old.size old.rest stop.at stop.why × (new ≡ old)
+
+-- all that is left are gaps and tokens, or the first fault is this
+abbrev pub IsJudged : Unread → Result (Unit {0}) Stop → Type 0
+IsJudged u (Ok _) = (ts : List Lexeme) × Lexed u.size u.rest ts
+IsJudged u (Err stop) = Stops u.size u.rest stop.at stop.why
