@@ -118,8 +118,26 @@ impl<'a> BodyDraft<'a> {
     }
 
     /// None of the last name's immediates can follow.
+    // Mostly nothing is awaited, or a load or a store ends: the others stay out of the loop over tokens.
     #[inline(always)]
     pub(crate) fn settle(&mut self) -> Result<(), AllocError>
+        ensures { OnOk result (self.new ≡ settled self.old) }
+    {
+        match self.awaiting {
+            Awaiting::Nothing => {
+                self.awaiting = Awaiting::Nothing;
+                Ok(())
+            }
+            Awaiting::MemArg(op, align, offset) => {
+                self.awaiting = Awaiting::Nothing;
+                self.say(TextInstr::Access { op, align, offset })
+            }
+            _ => self.settle_any(),
+        }
+    }
+
+    #[inline(never)]
+    fn settle_any(&mut self) -> Result<(), AllocError>
         ensures { OnOk result (self.new ≡ settled self.old) }
     {
         match std::mem::replace(&mut self.awaiting, Awaiting::Nothing) {

@@ -10,4 +10,5 @@ pub mod Machine
 pub mod States
 pub mod Ends
 pub mod Parses
+pub mod Usual
 pub mod Exactness

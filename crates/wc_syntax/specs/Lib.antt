@@ -10,3 +10,4 @@ pub mod Table
 pub mod Instead
 pub mod Parsing
 pub mod Reading
+pub mod Usual

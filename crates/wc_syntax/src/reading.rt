@@ -1,10 +1,13 @@
 //! A text read token by token.
 
+mod usual;
+
 ghost use Rattle.std.specs.Prelude.{◌≡◌, ◌++◌, ◌∷◌, [], ℕ, List, length, true, false, IfOk, IfErr, OnOk, OnErr};
 ghost use Rattle.wc_syntax.specs.Deriving.{Event};
 ghost use Rattle.wc_syntax.specs.Parsing.{IsText, IsRefusal};
 ghost use Rattle.wc_syntax.specs.Reading.{IsRead, start, moved, is_deep, kept_as};
 ghost use Rattle.wc_syntax.specs.Reasons.{FirstFault};
+ghost use Rattle.wc_syntax.specs.declared.place.Move.TheVariants.{Out};
 ghost use Rattle.wc_syntax.specs.declared.kind.Kind.{Kind as TokenKind};
 ghost use Rattle.wc_syntax.specs.declared.why.SynWhy.TheVariants.{End};
 
@@ -113,13 +116,19 @@ impl Reading {
                 self.place = place;
                 self.frame = frame;
             }
-            Move::Out(place) => {
-                self.place = place;
-                if let Some(around) = self.outer.pop() {
-                    self.frame = around;
-                }
-            }
+            Move::Out(place) => self.leave(place),
         }
         Ok(())
+    }
+
+    /// Moves out of the innermost frame.
+    #[inline(always)]
+    fn leave(&mut self, place: Place)
+        ensures { self.new ≡ moved (Out place) self.old }
+    {
+        self.place = place;
+        if let Some(around) = self.outer.pop() {
+            self.frame = around;
+        }
     }
 }

@@ -64,7 +64,8 @@ pub fn step(place: Place, frame: Frame, deep: bool, kind: Kind) -> Option<Action
     }
 }
 
-fn takes_instrs(frame: Frame) -> bool
+#[inline(always)]
+pub fn takes_instrs(frame: Frame) -> bool
     ensures { result ≡ takes_instrs frame }
 {
     matches!(
@@ -82,7 +83,8 @@ fn takes_instrs(frame: Frame) -> bool
     )
 }
 
-fn takes_folded(frame: Frame) -> bool
+#[inline(always)]
+pub fn takes_folded(frame: Frame) -> bool
     ensures { result ≡ takes_folded frame }
 {
     takes_instrs(frame)

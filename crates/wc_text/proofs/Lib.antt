@@ -4,6 +4,7 @@ pub mod Strings
 pub mod Weights
 pub mod Kept
 pub mod Said
+pub mod Usual
 pub mod Sizes
 pub mod Few
 pub mod Answering

@@ -12,45 +12,13 @@ ghost use Rattle.wc_text.specs.Standard.Meaning.{Syn};
 ghost use Rattle.wc_text.specs.Kept.SaidSoFar.{IsSaid};
 
 use crate::fault::SynFault;
-use crate::string::bytes_of;
+use crate::taking::take_token;
 use crate::text_draft::TextDraft;
 use std::alloc::Global;
 use wc_body::NESTING_LIMIT;
-use wc_drafts::Word;
 use wc_surface::Surface;
 use wc_syntax::{Reading, SynWhy};
-use wc_tokens::{Token, Tokens};
-use wc_words::symbol_of;
-
-/// Takes one more token, the one of this number. The error is the first fault, or want of memory.
-#[inline(always)]
-fn take_token<'a>(
-    alloc: Global,
-    reading: &mut Reading,
-    draft: &mut TextDraft<'a>,
-    at: usize,
-    token: &Token<'a>,
-) -> Result<(), SynFault>
-    requires few { at < 2 ^ 32 }
-    requires form { HasForm token.now.kind token.now.text.now }
-    ensures said { (ts rest : List Lexeme) → IsSaid ts at reading.old draft.old
-        → drop at ts ≡ lexeme_of token.now ∷ rest → OnOk result (IsSaid ts (at + 1) reading.new draft.new) }
-    ensures fault { (ts rest : List Lexeme) → IsSaid ts at reading.old draft.old
-        → drop at ts ≡ lexeme_of token.now ∷ rest → InOrder 0 ts → IfErr result (λ fault. IsFault ts fault) }
-{
-    let symbol = symbol_of(token);
-    let Some(role) = reading.take(at, symbol.kind)? else {
-        return Ok(());
-    };
-    let word = Word {
-        token: at as u32,
-        symbol,
-        text: token.text,
-    };
-    let bytes = bytes_of(alloc, token)?;
-    draft.take(alloc, role, &word, bytes)?;
-    Ok(())
-}
+use wc_tokens::Tokens;
 
 /// The fields, or the first fault.
 fn fields_or_fault<'a>(alloc: Global, tokens: &Tokens<'a>) -> Result<Surface<'a>, SynFault>

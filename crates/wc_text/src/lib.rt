@@ -5,6 +5,7 @@ mod fault;
 mod fields;
 mod laws;
 mod string;
+mod taking;
 mod text_draft;
 
 pub use fault::SynFault;

@@ -1,7 +1,7 @@
 //! Texts that are being said.
 
 ghost use Rattle.std.specs.Prelude.{◌≡◌, OnOk};
-ghost use Rattle.wc_text.specs.Standard.Texts.{nothing, take_by};
+ghost use Rattle.wc_text.specs.Standard.Texts.{nothing, with_word, take_by};
 
 use std::alloc::{AllocError, Global};
 use std::mem::replace;
@@ -51,6 +51,14 @@ impl<'a> TextDraft<'a> {
             }
             _ => self.field.take_word(role, word),
         }
+    }
+
+    /// One more kept token that neither begins nor ends a field and is no string. The error is want of memory.
+    #[inline(always)]
+    pub(crate) fn take_word(&mut self, role: Role, word: &Word<'a>) -> Result<(), AllocError>
+        ensures { OnOk result (self.new ≡ with_word role word.now self.old) }
+    {
+        self.field.take_word(role, word)
     }
 }
 

@@ -1,2 +1,3 @@
 pub mod ElementLaws
 pub mod StringLaws
+pub mod SimpleLaws

@@ -1,6 +1,7 @@
 pub mod Scans
 pub mod Numbers
 pub mod Elements
+pub mod Simple
 pub mod Heads
 pub mod Nexts
 pub mod Stops

@@ -10,6 +10,7 @@ mod heads;
 mod laws;
 mod next;
 mod numbers;
+mod simple;
 mod stream;
 mod strings;
 mod token;

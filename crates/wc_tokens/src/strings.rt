@@ -5,6 +5,7 @@ ghost use Rattle.wc_tokens.specs.Reading.Elements.{bytes_of};
 ghost use Rattle.wc_tokens.specs.Standard.Strings.{IsString};
 
 use crate::elements::{Meaning, read_element};
+use crate::simple::{ROOM, read_simple};
 use crate::token::Token;
 use std::alloc::{AllocError, Global};
 
@@ -29,11 +30,15 @@ pub fn string_bytes(alloc: Global, token: &Token<'_>) -> Result<Vec<u8>, AllocEr
     ensures string { IfOk result (λ bytes. IsString token.now.text.now bytes.items) }
     ensures only { IfOk result (λ v. (bytes : List ℕ) → IsString token.now.text.now bytes → v.items ≡ bytes) }
 {
-    let mut bytes = Vec::new(alloc);
+    // An element stands for no more bytes than it has.
+    let mut bytes = Vec::with_capacity(alloc, token.text.len().saturating_sub(2))?;
+    let mut some = [0; ROOM];
     let mut rest = &token.text.as_bytes()[1..];
     while let Some(element) = read_element(rest) {
         push_meaning(&mut bytes, element.meaning)?;
-        rest = element.rest;
+        let run = read_simple(element.rest, &mut some);
+        bytes.extend_from_slice(&some[..run.made])?;
+        rest = &element.rest[run.len..];
     }
     Ok(bytes)
 }

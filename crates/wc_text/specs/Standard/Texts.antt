@@ -23,6 +23,10 @@ nothing = record { fields = []; field = started OtherWord 0 }
 abbrev pub with_field : TextDraft → TextDraft
 with_field d = record { fields = d.fields ++ finished d.field ∷ []; field = started OtherWord 0 }
 
+-- the field has one more part, which is no string
+abbrev pub with_word : Role → Word → TextDraft → TextDraft
+with_word r w d = record d { field = take_word d.field r w }
+
 -- a field begins, ends, or has one more part
 abbrev pub take_by : Role → Word → List ℕ → TextDraft → TextDraft
 take_by role.Field w bytes d = record d { field = started w.symbol.kind w.token }
@@ -31,7 +35,7 @@ take_by role.ExportName w bytes d = record d { field = take_string d.field role.
 take_by role.ModuleName w bytes d = record d { field = take_string d.field role.ModuleName bytes }
 take_by role.ItemName w bytes d = record d { field = take_string d.field role.ItemName bytes }
 take_by role.Bytes w bytes d = record d { field = take_string d.field role.Bytes bytes }
-take_by r w bytes d = record d { field = take_word d.field r w }
+take_by r w bytes d = with_word r w d
 
 -- one more kept token
 abbrev pub take_item : TextDraft → Item → TextDraft

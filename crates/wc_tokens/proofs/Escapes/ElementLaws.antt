@@ -41,7 +41,7 @@ escaped-digit c h =
 
 -- ---- an element is read
 
-read-plain : (c : ℕ) (rest : List ℕ) → IsPlain c → read_element (c ∷ rest) ≡ Some (ValueAndRest (c ∷ []) rest)
+pub read-plain : (c : ℕ) (rest : List ℕ) → IsPlain c → read_element (c ∷ rest) ≡ Some (ValueAndRest (c ∷ []) rest)
 unfolding read_element
 read-plain c rest p =
     let a = eq-false c 92 p.3 in

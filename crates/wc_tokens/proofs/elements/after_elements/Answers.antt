@@ -1,24 +1,27 @@
-use Rattle.std.proofs.Common.{[], refl, ap, sym, ◌∙◌, option_map}
+use Rattle.std.proofs.Common.{ap, sym, ◌∙◌, option_map, arith}
 use Rattle.wc_tokens.specs.Reading.Elements.{first_element, bytes_of}
-use Rattle.wc_tokens.specs.Standard.Strings.{none}
-use Rattle.wc_tokens.proofs.Escapes.ElementLaws.{EndsElements-step, EndsElements-end, read_element-shorter}
+use Rattle.wc_tokens.proofs.Escapes.ElementLaws.{read_element-shorter}
+use Rattle.wc_tokens.proofs.Escapes.SimpleLaws.{EndsElements-read, EndsElements-here}
 use Rattle.wc_tokens.proofs.elements.after_elements.Goals as goal
 
 pub loop-element-init : goal.loop-element-init
-loop-element-init c = ([], [], refl, none)
+loop-element-init c = c.after_simple-rest.ensures.same_end
 
 pub loop-element-preserved : goal.loop-element-preserved
-loop-element-preserved c =
-    EndsElements-step c.args.text.now c.loop-element.rest.now
-    (bytes_of c.in-Some.element.meaning) c.in-Some.element.rest.now c.loop-element.invariant c.read_element.ensures
-    (ap (option_map first_element) c.in-Some.is)
+loop-element-preserved c = λ end e.
+    c.loop-element.invariant end
+    (EndsElements-read c.loop-element.rest.now (bytes_of c.in-Some.element.meaning) c.in-Some.element.rest.now end
+    (sym c.read_element.ensures ∙ ap (option_map first_element) c.in-Some.is)
+    (c.after_simple-rest-in-Some.ensures.same_end end e))
 
 pub loop-element-smaller : goal.loop-element-smaller
 loop-element-smaller c =
-    read_element-shorter c.loop-element.rest.now (bytes_of c.in-Some.element.meaning) c.in-Some.element.rest.now
-    (sym c.read_element.ensures ∙ ap (option_map first_element) c.in-Some.is)
+    let shorter = read_element-shorter c.loop-element.rest.now (bytes_of c.in-Some.element.meaning) c.in-Some.element.rest.now
+    (sym c.read_element.ensures ∙ ap (option_map first_element) c.in-Some.is) in
+    omega (arith, shorter, c.after_simple-rest-in-Some.ensures.shorter)
 
 pub returns : goal.returns
 returns c =
-    EndsElements-end c.args.text.now c.loop-element.rest.now c.loop-element.invariant c.read_element.ensures
-    (ap (option_map first_element) c.in_default.is)
+    c.loop-element.invariant c.loop-element.rest.now
+    (EndsElements-here c.loop-element.rest.now
+    (sym c.read_element.ensures ∙ ap (option_map first_element) c.in_default.is))

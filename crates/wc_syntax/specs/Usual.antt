@@ -1,0 +1,62 @@
+-- Where the most usual tokens lead: those of instructions in which none is nested.
+use Rattle.std.specs.Prelude.{Bool, true, false, Option, Some, None}
+use Rattle.wc_syntax.specs.declared.kind.Kind.{Kind}
+use Rattle.wc_syntax.specs.declared.kind.Kind.TheVariants as kind
+use Rattle.wc_syntax.specs.declared.place.Place.{Place}
+use Rattle.wc_syntax.specs.declared.place.Place.TheVariants as place
+use Rattle.wc_syntax.specs.declared.place.Frame.{Frame}
+use Rattle.wc_syntax.specs.declared.place.Frame.TheVariants as frame
+use Rattle.wc_syntax.specs.Table.{takes_instrs}
+
+-- nothing has to follow in front of the frame's rest, and no name or parenthesis may
+abbrev pub is_free : Place → Bool
+is_free place.Done = true
+is_free place.EndLabel = true
+is_free place.Indices = true
+is_free place.MemOffset = true
+is_free place.MemAlign = true
+is_free _ = false
+
+-- a parenthesis may open an instruction in the frame
+abbrev pub takes_open : Frame → Bool
+takes_open frame.Held = true
+takes_open f = takes_instrs f
+
+-- what may follow the name of an instruction in which none is nested
+abbrev pub behind_name : Kind → Option Place
+behind_name kind.Simple = Some place.Done
+behind_name kind.Indexed = Some place.Index
+behind_name kind.BrTable = Some place.FirstIndex
+behind_name kind.CallIndirect = Some place.Uses
+behind_name kind.Access = Some place.MemOffset
+behind_name kind.Const32 = Some place.Literal32
+behind_name kind.Const64 = Some place.Literal64
+behind_name _ = None
+
+-- the place behind the parenthesis of an instruction, where no part is left
+abbrev pub is_opened : Place → Bool
+is_opened place.OpenDone = true
+is_opened _ = false
+
+-- the frame of an instruction in front of its operands
+abbrev pub is_held : Frame → Bool
+is_held frame.Held = true
+is_held _ = false
+
+-- the number of an index
+abbrev pub is_index : Place → Kind → Bool
+is_index place.Index kind.Natural32 = true
+is_index _ _ = false
+
+-- a number of a constant, of 32 bits
+abbrev pub is_literal : Place → Kind → Bool
+is_literal place.Literal32 kind.Natural32 = true
+is_literal place.Literal32 kind.Signed32 = true
+is_literal place.Literal64 kind.Natural32 = true
+is_literal place.Literal64 kind.Signed32 = true
+is_literal _ _ = false
+
+-- the offset of a load or a store
+abbrev pub is_offset : Place → Kind → Bool
+is_offset place.MemOffset kind.MemOffset = true
+is_offset _ _ = false

@@ -1,0 +1,216 @@
+//! The most usual tokens, those of instructions in which none is nested, read without a look at the whole table.
+
+ghost use Rattle.std.specs.Prelude.{◌≡◌, ◌++◌, ◌∷◌, [], ◌&&◌, ℕ, List, length, true, false, Some, None};
+ghost use Rattle.std.specs.Prelude.{OnErr, IfOk};
+ghost use Rattle.wc_syntax.specs.Deriving.{Event};
+ghost use Rattle.wc_syntax.specs.Reading.{IsRead, is_deep, kept_as};
+ghost use Rattle.wc_syntax.specs.Table.{takes_instrs, takes_folded};
+ghost use Rattle.wc_syntax.specs.Usual.{is_free, takes_open, behind_name, is_opened, is_held, is_index, is_literal, is_offset};
+ghost use Rattle.wc_syntax.specs.declared.kind.Kind.{Kind as TokenKind};
+ghost use Rattle.wc_syntax.specs.declared.kind.Kind.TheVariants as kinds;
+ghost use Rattle.wc_syntax.specs.declared.role.Role.TheVariants as roles;
+
+use crate::kind::Kind;
+use crate::place::{Frame, Move, Place};
+use crate::reading::Reading;
+use crate::table::{resume, takes_folded, takes_instrs};
+use std::alloc::AllocError;
+
+/// Nothing has to follow in front of the frame's rest, and no name or parenthesis may.
+#[inline(always)]
+fn is_free(place: Place) -> bool
+    ensures { result ≡ is_free place }
+{
+    matches!(
+        place,
+        Place::Done | Place::EndLabel | Place::Indices | Place::MemOffset | Place::MemAlign
+    )
+}
+
+/// A parenthesis may open an instruction in the frame.
+#[inline(always)]
+fn takes_open(frame: Frame) -> bool
+    ensures { result ≡ takes_open frame }
+{
+    matches!(frame, Frame::Held) || takes_instrs(frame)
+}
+
+/// What may follow the name of an instruction in which none is nested.
+#[inline(always)]
+fn behind_name(kind: Kind) -> Option<Place>
+    ensures { result ≡ behind_name kind }
+{
+    match kind {
+        Kind::Simple => Some(Place::Done),
+        Kind::Indexed => Some(Place::Index),
+        Kind::BrTable => Some(Place::FirstIndex),
+        Kind::CallIndirect => Some(Place::Uses),
+        Kind::Access => Some(Place::MemOffset),
+        Kind::Const32 => Some(Place::Literal32),
+        Kind::Const64 => Some(Place::Literal64),
+        _ => None,
+    }
+}
+
+/// The place behind the parenthesis of an instruction, where no part is left.
+#[inline(always)]
+fn is_opened(place: Place) -> bool
+    ensures { result ≡ is_opened place }
+{
+    matches!(place, Place::OpenDone)
+}
+
+/// The frame of an instruction in front of its operands.
+#[inline(always)]
+fn is_held(frame: Frame) -> bool
+    ensures { result ≡ is_held frame }
+{
+    matches!(frame, Frame::Held)
+}
+
+/// The number of an index.
+#[inline(always)]
+fn is_index(place: Place, kind: Kind) -> bool
+    ensures { result ≡ is_index place kind }
+{
+    matches!((place, kind), (Place::Index, Kind::Natural32))
+}
+
+/// A number of a constant, of 32 bits.
+#[inline(always)]
+fn is_literal(place: Place, kind: Kind) -> bool
+    ensures { result ≡ is_literal place kind }
+{
+    matches!(
+        (place, kind),
+        (
+            Place::Literal32 | Place::Literal64,
+            Kind::Natural32 | Kind::Signed32,
+        )
+    )
+}
+
+/// The offset of a load or a store.
+#[inline(always)]
+fn is_offset(place: Place, kind: Kind) -> bool
+    ensures { result ≡ is_offset place kind }
+{
+    matches!((place, kind), (Place::MemOffset, Kind::MemOffset))
+}
+
+/// Each of these reads one more token where it has its most usual place, and tells whether it does. Else the reader
+/// stands where it stood, and `take` is for the token.
+impl Reading {
+    /// The name of an instruction in which none is nested, in a list of instructions.
+    #[inline(always)]
+    pub fn take_plain(&mut self, kind: Kind) -> bool
+        ensures read { result ≡ true → (limit at : ℕ) (ks : List TokenKind) (es : List Event)
+            → IsRead limit ks es self.old → at ≡ length ks
+            → IsRead limit (ks ++ kind ∷ []) (es ++ kept_as (Some roles.Plain) at kind) self.new }
+        ensures stays { result ≡ false → self.new ≡ self.old }
+    {
+        let Some(place) = behind_name(kind) else {
+            return false;
+        };
+        if is_free(self.place) && takes_instrs(self.frame) {
+            self.place = place;
+            self.frame = resume(self.frame);
+            return true;
+        }
+        false
+    }
+
+    /// The same behind a parenthesis. The error is want of memory, and then the reader stands where it stood.
+    #[inline(always)]
+    pub fn take_held(&mut self, kind: Kind) -> Result<bool, AllocError>
+        ensures read { IfOk result (λ found. found ≡ true → (limit at : ℕ) (ks : List TokenKind) (es : List Event)
+            → IsRead limit ks es self.old → at ≡ length ks
+            → IsRead limit (ks ++ kind ∷ []) (es ++ kept_as (Some roles.HeldPlain) at kind) self.new) }
+        ensures stays { IfOk result (λ found. found ≡ false → self.new ≡ self.old) }
+        ensures err { OnErr result (self.new ≡ self.old) }
+    {
+        let Some(place) = behind_name(kind) else {
+            return Ok(false);
+        };
+        if is_opened(self.place) && takes_folded(self.frame) && !self.is_deep() {
+            self.go(Move::Into(place, Frame::Held))?;
+            return Ok(true);
+        }
+        Ok(false)
+    }
+
+    /// The parenthesis that opens an instruction.
+    #[inline(always)]
+    pub fn take_open(&mut self) -> bool
+        ensures read { result ≡ true → (limit at : ℕ) (ks : List TokenKind) (es : List Event)
+            → IsRead limit ks es self.old → at ≡ length ks
+            → IsRead limit (ks ++ kinds.Open ∷ []) (es ++ kept_as None at kinds.Open) self.new }
+        ensures stays { result ≡ false → self.new ≡ self.old }
+    {
+        if is_free(self.place) && takes_open(self.frame) {
+            self.place = Place::OpenDone;
+            return true;
+        }
+        false
+    }
+
+    /// The parenthesis that ends the operands of an instruction in front of them.
+    #[inline(always)]
+    pub fn take_held_end(&mut self) -> bool
+        ensures read { result ≡ true → (limit at : ℕ) (ks : List TokenKind) (es : List Event)
+            → IsRead limit ks es self.old → at ≡ length ks
+            → IsRead limit (ks ++ kinds.Close ∷ []) (es ++ kept_as (Some roles.HeldEnd) at kinds.Close) self.new }
+        ensures stays { result ≡ false → self.new ≡ self.old }
+    {
+        if is_free(self.place) && is_held(self.frame) {
+            self.leave(Place::Done);
+            return true;
+        }
+        false
+    }
+
+    /// The number of an index.
+    #[inline(always)]
+    pub fn take_index(&mut self, kind: Kind) -> bool
+        ensures read { result ≡ true → (limit at : ℕ) (ks : List TokenKind) (es : List Event)
+            → IsRead limit ks es self.old → at ≡ length ks
+            → IsRead limit (ks ++ kind ∷ []) (es ++ kept_as (Some roles.Index) at kind) self.new }
+        ensures stays { result ≡ false → self.new ≡ self.old }
+    {
+        if is_index(self.place, kind) {
+            self.place = Place::Done;
+            return true;
+        }
+        false
+    }
+
+    /// The number of a constant, of 32 bits.
+    #[inline(always)]
+    pub fn take_literal(&mut self, kind: Kind) -> bool
+        ensures read { result ≡ true → (limit at : ℕ) (ks : List TokenKind) (es : List Event)
+            → IsRead limit ks es self.old → at ≡ length ks
+            → IsRead limit (ks ++ kind ∷ []) (es ++ kept_as (Some roles.Literal) at kind) self.new }
+        ensures stays { result ≡ false → self.new ≡ self.old }
+    {
+        if is_literal(self.place, kind) {
+            self.place = Place::Done;
+            return true;
+        }
+        false
+    }
+
+    /// The offset of a load or a store.
+    #[inline(always)]
+    pub fn take_offset(&mut self, kind: Kind) -> bool
+        ensures read { result ≡ true → (limit at : ℕ) (ks : List TokenKind) (es : List Event)
+            → IsRead limit ks es self.old → at ≡ length ks
+            → IsRead limit (ks ++ kind ∷ []) (es ++ kept_as (Some roles.MemOffset) at kind) self.new }
+        ensures stays { result ≡ false → self.new ≡ self.old }
+    {
+        if is_offset(self.place, kind) {
+            self.place = Place::MemAlign;
+            return true;
+        }
+        false
+    }
+}

@@ -1,0 +1,59 @@
+-- One more of the most usual tokens.
+use Rattle.std.proofs.Common.{◌≡◌, ℕ, ◌+◌, List, [], ◌∷◌, ◌++◌, drop, Some, None, refl, sym, ap, subst}
+use Rattle.wc_tokens.specs.Standard.Lexemes.{Lexeme}
+use Rattle.wc_tokens.specs.declared.token.TokenKind.{TokenKind}
+use Rattle.wc_tokens.specs.declared.token.TokenKind.TheVariants as token
+use Rattle.wc_body.specs.Standard.Nested.{nesting_limit}
+use Rattle.wc_syntax.specs.declared.kind.Kind.{Kind}
+use Rattle.wc_syntax.specs.declared.kind.Kind.TheVariants as kind
+use Rattle.wc_syntax.specs.declared.role.Role.{Role}
+use Rattle.wc_syntax.specs.declared.role.Role.TheVariants as role
+use Rattle.wc_syntax.specs.Reading.{Standing, IsRead, kept_as}
+use Rattle.wc_words.specs.declared.symbol.Symbol.{Symbol}
+use Rattle.wc_words.specs.Symbols.{bare}
+use Rattle.wc_words.specs.Tokens.{TokenIs}
+use Rattle.wc_drafts.specs.Standard.Tokens.{kept_token}
+use Rattle.wc_text.specs.declared.text_draft.TextDraft.{TextDraft}
+use Rattle.wc_text.specs.Standard.Texts.{take_by}
+use Rattle.wc_text.specs.Standard.Meaning.{StandsFor}
+use Rattle.wc_text.specs.Kept.SaidSoFar.{IsSaid}
+use Rattle.wc_text.proofs.Said.{said-dropped, said-kept}
+
+open-is : (k : TokenKind) (text : List ℕ) (o : Symbol) → k ≡ token.Open → TokenIs k text o → o ≡ bare kind.Open
+open-is k text o e h = subst (λ (x : TokenKind). TokenIs x text o) e h
+
+close-is : (k : TokenKind) (text : List ℕ) (o : Symbol) → k ≡ token.Close → TokenIs k text o → o ≡ bare kind.Close
+close-is k text o e h = subst (λ (x : TokenKind). TokenIs x text o) e h
+
+no-bytes : (k l : TokenKind) (text : List ℕ) → k ≡ l → StandsFor l text [] → StandsFor k text []
+no-bytes k l text e h = subst (λ (x : TokenKind). StandsFor x text []) (sym e) h
+
+pub said-open : {ts : List Lexeme} {n : ℕ} {s : Standing} {d : TextDraft} (w : IsSaid ts n s d) (t : Lexeme)
+    (rest : List Lexeme)
+    (o : Symbol) (s' : Standing) → drop n ts ≡ t ∷ rest → t.kind ≡ token.Open → TokenIs t.kind t.text o
+    → IsRead nesting_limit (w.kinds ++ kind.Open ∷ []) (w.es ++ kept_as None n kind.Open) s' → IsSaid ts (n + 1) s' d
+said-open {ts} {n} w t rest o s' e k h r =
+    let q : o.kind ≡ kind.Open = ap (λ (x : Symbol). x.kind) (open-is t.kind t.text o k h) in
+    said-dropped w t rest o s' e h
+    (subst (λ (x : Kind). IsRead nesting_limit (w.kinds ++ x ∷ []) (w.es ++ kept_as None n x) s') (sym q) r)
+
+pub said-held-end : {ts : List Lexeme} {n : ℕ} {s : Standing} {d : TextDraft} (w : IsSaid ts n s d) (t : Lexeme)
+    (rest : List Lexeme)
+    (o : Symbol) (s' : Standing) (d' : TextDraft) → drop n ts ≡ t ∷ rest → t.kind ≡ token.Close
+    → TokenIs t.kind t.text o
+    → IsRead nesting_limit (w.kinds ++ kind.Close ∷ []) (w.es ++ kept_as (Some role.HeldEnd) n kind.Close) s'
+    → d' ≡ take_by role.HeldEnd (kept_token n o t.text) [] d → IsSaid ts (n + 1) s' d'
+said-held-end {ts} {n} w t rest o s' d' e k h r q =
+    let c : o.kind ≡ kind.Close = ap (λ (x : Symbol). x.kind) (close-is t.kind t.text o k h) in
+    said-kept w t rest o role.HeldEnd [] s' d' e h
+    (subst (λ (x : Kind). IsRead nesting_limit (w.kinds ++ x ∷ []) (w.es ++ kept_as (Some role.HeldEnd) n x) s') (sym c)
+    r) (no-bytes t.kind token.Close t.text k refl) q
+
+pub said-word : {ts : List Lexeme} {n : ℕ} {s : Standing} {d : TextDraft} (w : IsSaid ts n s d) (t : Lexeme)
+    (rest : List Lexeme)
+    (o : Symbol) (r : Role) (s' : Standing) (d' : TextDraft) → drop n ts ≡ t ∷ rest → t.kind ≡ token.Word
+    → TokenIs t.kind t.text o
+    → IsRead nesting_limit (w.kinds ++ o.kind ∷ []) (w.es ++ kept_as (Some r) n o.kind) s'
+    → d' ≡ take_by r (kept_token n o t.text) [] d → IsSaid ts (n + 1) s' d'
+said-word w t rest o r s' d' e k h i q =
+    said-kept w t rest o r [] s' d' e h i (no-bytes t.kind token.Word t.text k refl) q

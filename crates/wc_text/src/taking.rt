@@ -1,0 +1,246 @@
+//! Texts token by token.
+//!
+//! Each function takes one more token, the one of this number. The error is the first fault, or want of memory. What
+//! most texts are made of, the tokens of instructions in which none is nested, is read first, without a look at the
+//! whole table of the grammar.
+
+ghost use Rattle.std.specs.Prelude.{◌≡◌, ◌<◌, ◌^◌, IfErr, OnOk};
+ghost use Rattle.wc_tokens.specs.Standard.Lexemes.{HasForm};
+ghost use Rattle.wc_tokens.specs.Standard.Tokens.{lexeme_of};
+ghost use Rattle.wc_tokens.specs.declared.token.TokenKind.TheVariants as tokens;
+ghost use Rattle.wc_words.specs.Tokens.{TokenIs};
+ghost use Rattle.wc_drafts.specs.Standard.Tokens.{kept_token};
+ghost use Rattle.wc_text.specs.Standard.Texts.{with_word};
+ghost use Rattle.wc_text.specs.Kept.SaidSoFar.{SaysMore, Refuses};
+
+use crate::fault::SynFault;
+use crate::string::bytes_of;
+use crate::text_draft::TextDraft;
+use std::alloc::{AllocError, Global};
+use wc_drafts::Word;
+use wc_syntax::{Reading, Role};
+use wc_tokens::{Token, TokenKind};
+use wc_words::{Symbol, Value, symbol_of};
+
+/// Any token.
+#[inline(never)]
+fn take_any<'a>(
+    alloc: Global,
+    reading: &mut Reading,
+    draft: &mut TextDraft<'a>,
+    at: usize,
+    token: &Token<'a>,
+    symbol: Symbol,
+) -> Result<(), SynFault>
+    requires few { at < 2 ^ 32 }
+    requires form { HasForm token.now.kind token.now.text.now }
+    requires symbol { TokenIs token.now.kind token.now.text.now symbol }
+    ensures said { OnOk result (SaysMore (lexeme_of token.now) at reading.old draft.old reading.new draft.new) }
+    ensures fault { IfErr result (Refuses (lexeme_of token.now) at reading.old draft.old) }
+{
+    let Some(role) = reading.take(at, symbol.kind)? else {
+        return Ok(());
+    };
+    let word = Word {
+        token: at as u32,
+        symbol,
+        text: token.text,
+    };
+    let bytes = bytes_of(alloc, token)?;
+    draft.take(alloc, role, &word, bytes)?;
+    Ok(())
+}
+
+/// Keeps a token of an instruction. The error is want of memory.
+#[inline(always)]
+fn keep<'a>(
+    draft: &mut TextDraft<'a>,
+    role: Role,
+    at: usize,
+    symbol: Symbol,
+    text: &'a str,
+) -> Result<(), AllocError>
+    requires { at < 2 ^ 32 }
+    ensures { OnOk result (draft.new ≡ with_word role (kept_token at symbol text.now) draft.old) }
+{
+    let word = Word {
+        token: at as u32,
+        symbol,
+        text,
+    };
+    draft.take_word(role, &word)
+}
+
+/// An opening parenthesis.
+#[inline(always)]
+fn take_open<'a>(
+    alloc: Global,
+    reading: &mut Reading,
+    draft: &mut TextDraft<'a>,
+    at: usize,
+    token: &Token<'a>,
+) -> Result<(), SynFault>
+    requires few { at < 2 ^ 32 }
+    requires form { HasForm token.now.kind token.now.text.now }
+    requires kind { token.now.kind ≡ tokens.Open }
+    ensures said { OnOk result (SaysMore (lexeme_of token.now) at reading.old draft.old reading.new draft.new) }
+    ensures fault { IfErr result (Refuses (lexeme_of token.now) at reading.old draft.old) }
+{
+    let symbol = symbol_of(token);
+    if reading.take_open() {
+        return Ok(());
+    }
+    take_any(alloc, reading, draft, at, token, symbol)
+}
+
+/// A closing parenthesis.
+#[inline(always)]
+fn take_close<'a>(
+    alloc: Global,
+    reading: &mut Reading,
+    draft: &mut TextDraft<'a>,
+    at: usize,
+    token: &Token<'a>,
+) -> Result<(), SynFault>
+    requires few { at < 2 ^ 32 }
+    requires form { HasForm token.now.kind token.now.text.now }
+    requires kind { token.now.kind ≡ tokens.Close }
+    ensures said { OnOk result (SaysMore (lexeme_of token.now) at reading.old draft.old reading.new draft.new) }
+    ensures fault { IfErr result (Refuses (lexeme_of token.now) at reading.old draft.old) }
+{
+    let symbol = symbol_of(token);
+    if reading.take_held_end() {
+        keep(draft, Role::HeldEnd, at, symbol, token.text)?;
+        return Ok(());
+    }
+    take_any(alloc, reading, draft, at, token, symbol)
+}
+
+/// The name of an instruction.
+#[inline(always)]
+fn take_name<'a>(
+    alloc: Global,
+    reading: &mut Reading,
+    draft: &mut TextDraft<'a>,
+    at: usize,
+    token: &Token<'a>,
+    symbol: Symbol,
+) -> Result<(), SynFault>
+    requires few { at < 2 ^ 32 }
+    requires form { HasForm token.now.kind token.now.text.now }
+    requires kind { token.now.kind ≡ tokens.Word }
+    requires symbol { TokenIs token.now.kind token.now.text.now symbol }
+    ensures said { OnOk result (SaysMore (lexeme_of token.now) at reading.old draft.old reading.new draft.new) }
+    ensures fault { IfErr result (Refuses (lexeme_of token.now) at reading.old draft.old) }
+{
+    if reading.take_plain(symbol.kind) {
+        keep(draft, Role::Plain, at, symbol, token.text)?;
+        return Ok(());
+    }
+    if reading.take_held(symbol.kind)? {
+        keep(draft, Role::HeldPlain, at, symbol, token.text)?;
+        return Ok(());
+    }
+    take_any(alloc, reading, draft, at, token, symbol)
+}
+
+/// A number.
+#[inline(always)]
+fn take_number<'a>(
+    alloc: Global,
+    reading: &mut Reading,
+    draft: &mut TextDraft<'a>,
+    at: usize,
+    token: &Token<'a>,
+    symbol: Symbol,
+) -> Result<(), SynFault>
+    requires few { at < 2 ^ 32 }
+    requires form { HasForm token.now.kind token.now.text.now }
+    requires kind { token.now.kind ≡ tokens.Word }
+    requires symbol { TokenIs token.now.kind token.now.text.now symbol }
+    ensures said { OnOk result (SaysMore (lexeme_of token.now) at reading.old draft.old reading.new draft.new) }
+    ensures fault { IfErr result (Refuses (lexeme_of token.now) at reading.old draft.old) }
+{
+    if reading.take_index(symbol.kind) {
+        keep(draft, Role::Index, at, symbol, token.text)?;
+        return Ok(());
+    }
+    if reading.take_literal(symbol.kind) {
+        keep(draft, Role::Literal, at, symbol, token.text)?;
+        return Ok(());
+    }
+    take_any(alloc, reading, draft, at, token, symbol)
+}
+
+/// The offset of a load or a store.
+#[inline(always)]
+fn take_offset<'a>(
+    alloc: Global,
+    reading: &mut Reading,
+    draft: &mut TextDraft<'a>,
+    at: usize,
+    token: &Token<'a>,
+    symbol: Symbol,
+) -> Result<(), SynFault>
+    requires few { at < 2 ^ 32 }
+    requires form { HasForm token.now.kind token.now.text.now }
+    requires kind { token.now.kind ≡ tokens.Word }
+    requires symbol { TokenIs token.now.kind token.now.text.now symbol }
+    ensures said { OnOk result (SaysMore (lexeme_of token.now) at reading.old draft.old reading.new draft.new) }
+    ensures fault { IfErr result (Refuses (lexeme_of token.now) at reading.old draft.old) }
+{
+    if reading.take_offset(symbol.kind) {
+        keep(draft, Role::MemOffset, at, symbol, token.text)?;
+        return Ok(());
+    }
+    take_any(alloc, reading, draft, at, token, symbol)
+}
+
+/// A word.
+#[inline(always)]
+fn take_word<'a>(
+    alloc: Global,
+    reading: &mut Reading,
+    draft: &mut TextDraft<'a>,
+    at: usize,
+    token: &Token<'a>,
+) -> Result<(), SynFault>
+    requires few { at < 2 ^ 32 }
+    requires form { HasForm token.now.kind token.now.text.now }
+    requires kind { token.now.kind ≡ tokens.Word }
+    ensures said { OnOk result (SaysMore (lexeme_of token.now) at reading.old draft.old reading.new draft.new) }
+    ensures fault { IfErr result (Refuses (lexeme_of token.now) at reading.old draft.old) }
+{
+    let symbol = symbol_of(token);
+    match symbol.value {
+        Value::Instruction(_) => take_name(alloc, reading, draft, at, token, symbol),
+        Value::Number(_) => take_number(alloc, reading, draft, at, token, symbol),
+        Value::Offset(_) => take_offset(alloc, reading, draft, at, token, symbol),
+        _ => take_any(alloc, reading, draft, at, token, symbol),
+    }
+}
+
+/// A token.
+#[inline(always)]
+pub(crate) fn take_token<'a>(
+    alloc: Global,
+    reading: &mut Reading,
+    draft: &mut TextDraft<'a>,
+    at: usize,
+    token: &Token<'a>,
+) -> Result<(), SynFault>
+    requires few { at < 2 ^ 32 }
+    requires form { HasForm token.now.kind token.now.text.now }
+    ensures said { OnOk result (SaysMore (lexeme_of token.now) at reading.old draft.old reading.new draft.new) }
+    ensures fault { IfErr result (Refuses (lexeme_of token.now) at reading.old draft.old) }
+{
+    match token.kind {
+        TokenKind::Open => take_open(alloc, reading, draft, at, token),
+        TokenKind::Close => take_close(alloc, reading, draft, at, token),
+        TokenKind::Word => take_word(alloc, reading, draft, at, token),
+        TokenKind::Id | TokenKind::Str => {
+            let symbol = symbol_of(token);
+            take_any(alloc, reading, draft, at, token, symbol)
+        }
+    }
+}

@@ -1,0 +1,139 @@
+//! The elements of strings that most strings are made of: a byte that stands for itself, and a byte by two digits.
+
+ghost use Rattle.std.specs.Prelude.{◌≡◌, ◌+◌, ◌<◌, ◌≤◌, ℕ, List, [], ◌∷◌, IsTrue, IfSome, length, take, drop};
+ghost use Rattle.wc_tokens.specs.Standard.Digits.{IsDigit};
+ghost use Rattle.wc_tokens.specs.Standard.Strings.{IsPlain, Element, Elements, EndsElements};
+ghost use Rattle.wc_tokens.specs.Reading.Simple.{IsSimple, IsSimpleAt};
+
+use crate::digits::digit_of;
+
+/// How many bytes are looked at together.
+const CHUNK: usize = 16;
+
+/// The most bytes that a run stands for.
+pub const ROOM: usize = 128;
+
+/// A byte that stands for itself.
+#[inline(always)]
+fn is_plain(byte: u8) -> bool
+    ensures { IsTrue result → IsPlain byte }
+{
+    32 <= byte && byte != 127 && byte != b'"' && byte != b'\\'
+}
+
+/// A hexadecimal digit.
+#[inline(always)]
+#[tactic(auto, unfolding(crate::specs::Standard::Digits::digit_of))]
+fn is_hexadecimal(byte: u8) -> bool
+    ensures { IsTrue result → IsDigit 16 byte }
+{
+    (b'0' <= byte && byte <= b'9')
+        || (b'a' <= byte && byte <= b'f')
+        || (b'A' <= byte && byte <= b'F')
+}
+
+/// A byte that stands for itself, or a backslash before two digits.
+#[inline(always)]
+fn is_simple(byte: u8, next: u8, last: u8) -> bool
+    ensures { IsTrue result → IsSimple byte next last }
+{
+    is_plain(byte) || (byte == b'\\' && is_hexadecimal(next) && is_hexadecimal(last))
+}
+
+/// Whether so many bytes from a place on are each plain or a backslash before two digits.
+// All are looked at, whatever the first ones are, so that a processor can do it to many at once.
+#[inline(always)]
+fn is_simple_chunk(text: &[u8], from: usize) -> bool
+    requires { from + 18 ≤ length text.now }
+    ensures { IsTrue result → (k : ℕ) → from ≤ k → k < from + 16 → IsSimpleAt text.now k }
+{
+    let mut all = true;
+    for at in from..from + CHUNK {
+        all &= is_simple(text[at], text[at + 1], text[at + 2]);
+    }
+    all
+}
+
+/// How many bytes at the front are plain or a backslash before two digits, found in chunks.
+#[inline(always)]
+fn simple_chunks(text: &[u8]) -> usize
+    ensures within { result ≤ length text.now }
+    ensures simple { (k : ℕ) → k < result → IsSimpleAt text.now k }
+{
+    let mut at = 0;
+    while at + CHUNK + 2 <= text.len() && is_simple_chunk(text, at) {
+        at += CHUNK;
+    }
+    at
+}
+
+/// What follows simple elements at the front of a text, or digits of the last of them and what follows that.
+#[inline(always)]
+pub fn after_simple(text: &[u8]) -> &[u8]
+    ensures shorter { length result.now ≤ length text.now }
+    ensures same_end { (rest : List ℕ) → EndsElements result.now rest → EndsElements text.now rest }
+{
+    let mut at = simple_chunks(text);
+    while at + 2 < text.len() && is_simple(text[at], text[at + 1], text[at + 2]) {
+        at += 1;
+    }
+    &text[at..]
+}
+
+/// A simple element: the byte that it stands for, and its length.
+#[derive(Clone, Copy)]
+struct Simple {
+    value: u8,
+    len: usize,
+}
+
+/// The simple element at the front of a text.
+#[inline(always)]
+fn simple_at(text: &[u8]) -> Option<Simple>
+    ensures within { IfSome result (λ s. s.len ≤ length text.now) }
+    ensures element { IfSome result (λ s. Element (take s.len text.now) (s.value ∷ [])) }
+{
+    let (first, rest) = text.split_first()?;
+    if is_plain(*first) {
+        return Some(Simple {
+            value: *first,
+            len: 1,
+        });
+    }
+    if *first != b'\\' || rest.len() < 2 {
+        return None;
+    }
+    let high = digit_of(rest[0]);
+    let low = digit_of(rest[1]);
+    if high < 16 && low < 16 {
+        return Some(Simple {
+            value: (16 * high + low) as u8,
+            len: 3,
+        });
+    }
+    None
+}
+
+/// Simple elements one after another: how long they are, and how many bytes they stand for.
+#[derive(Clone, Copy)]
+pub struct Run {
+    pub len: usize,
+    pub made: usize,
+}
+
+/// Reads simple elements at the front of a text, and writes the bytes that they stand for.
+pub fn read_simple(text: &[u8], bytes: &mut [u8; ROOM]) -> Run
+    ensures within { result.len ≤ length text.now }
+    ensures room { result.made ≤ 128 }
+    ensures elements { Elements (take result.len text.now) (take result.made bytes.new) }
+{
+    let mut len = 0;
+    for made in 0..ROOM {
+        let Some(simple) = simple_at(&text[len..]) else {
+            return Run { len, made };
+        };
+        bytes[made] = simple.value;
+        len += simple.len;
+    }
+    Run { len, made: ROOM }
+}
