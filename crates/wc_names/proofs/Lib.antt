@@ -2,3 +2,5 @@ pub mod Rows
 pub mod Counting
 pub mod Answering
 pub mod Staging
+pub mod Joining
+pub mod Walking

@@ -1,14 +1,13 @@
 //! Data segments.
 
-ghost use Rattle.std.specs.Prelude.{◌≡◌, ◌<◌, ◌^◌, ◌++◌, List, length, IfOk, OnOk};
+ghost use Rattle.std.specs.Prelude.{◌≡◌, ◌++◌, List, IfOk, OnOk};
 ghost use Rattle.wc_spaces.specs.Standard.Least.{least_from};
 ghost use Rattle.wc_surface.specs.declared.field.Field.{Field as FieldValue};
 ghost use Rattle.wc_declared.specs.Kept.Declaring.{IsDeclared};
-ghost use Rattle.wc_names.specs.Standard.Segments.{inline_datas, field_datas, datas_of};
+ghost use Rattle.wc_names.specs.Standard.Segments.{inline_datas, field_datas};
 ghost use Rattle.wc_names.specs.Standard.Segments.{written_data as data_of, written_data_faults, data_faults};
-ghost use Rattle.wc_names.specs.Standard.Segments.{all_data_faults};
 
-use crate::counts::{Counts, count_field, nothing};
+use crate::counts::Counts;
 use crate::indices::resolve_optional;
 use crate::offset::zero_offset;
 use std::alloc::{AllocError, Global};
@@ -66,7 +65,7 @@ fn written_data<'a>(
 }
 
 /// Adds the data segment of a field. What is wrong with its names is noted.
-fn put_field<'a>(
+pub(crate) fn put_field<'a>(
     alloc: Global,
     out: &mut AstList<Data>,
     declared: &Declared<'a>,
@@ -88,25 +87,4 @@ fn put_field<'a>(
         }
         _ => Ok(()),
     }
-}
-
-/// The data segments, in the order of the text. What is wrong with their names is noted. The error is want of memory.
-pub(crate) fn datas<'a>(
-    alloc: Global,
-    declared: &Declared<'a>,
-    fields: &[Field<'a>],
-    noted: &mut Noted<NameWhy>,
-) -> Result<AstList<Data>, AllocError>
-    requires { length fields.now < 2 ^ 32 }
-    ensures datas { IsDeclared fields.now declared.now → IfOk result (λ datas. datas ≡ datas_of fields.now) }
-    ensures noted { IsDeclared fields.now declared.now
-        → OnOk result (noted.new.first ≡ least_from noted.old.first (all_data_faults fields.now)) }
-{
-    let mut out = AstList::new(alloc);
-    let mut counts = nothing();
-    for field in fields {
-        put_field(alloc, &mut out, declared, counts, field, noted)?;
-        counts = count_field(counts, field);
-    }
-    Ok(out)
 }

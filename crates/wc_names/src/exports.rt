@@ -1,15 +1,14 @@
 //! Exports.
 
-ghost use Rattle.std.specs.Prelude.{◌≡◌, ◌<◌, ◌^◌, ◌++◌, length, List, IfOk, OnOk};
+ghost use Rattle.std.specs.Prelude.{◌≡◌, ◌++◌, List, OnOk};
 ghost use Rattle.wc_spaces.specs.Standard.Least.{least_from};
 ghost use Rattle.wc_surface.specs.declared.field.Field.{Field as FieldValue};
 ghost use Rattle.wc_declared.specs.Kept.Declaring.{AreSpaces};
-ghost use Rattle.wc_names.specs.Standard.Exports.{exported_as, field_exports, exports_of, export_faults};
-ghost use Rattle.wc_names.specs.Standard.Exports.{all_export_faults};
+ghost use Rattle.wc_names.specs.Standard.Exports.{exported_as, field_exports, export_faults};
 
-use crate::counts::{Counts, count_field, nothing};
+use crate::counts::Counts;
 use crate::indices::{resolve_index, space_of};
-use std::alloc::{AllocError, Global};
+use std::alloc::AllocError;
 use wc_ast::{Export, ExportKind, List as AstList, Name};
 use wc_body::TryClone;
 use wc_declared::declared::Spaces;
@@ -37,7 +36,7 @@ fn put_names(
 }
 
 /// Adds the exports of a field. An identifier that nothing has is noted.
-fn put_field(
+pub(crate) fn put_field(
     out: &mut AstList<Export>,
     spaces: &Spaces<'_>,
     counts: Counts,
@@ -85,25 +84,4 @@ fn put_field(
         }
         _ => Ok(()),
     }
-}
-
-/// The exports, in the order of the text. What is wrong with their indices is noted. The error is want of memory.
-pub(crate) fn exports(
-    alloc: Global,
-    spaces: &Spaces<'_>,
-    fields: &[Field<'_>],
-    noted: &mut Noted<NameWhy>,
-) -> Result<AstList<Export>, AllocError>
-    requires { length fields.now < 2 ^ 32 }
-    ensures exports { AreSpaces fields.now spaces.now → IfOk result (λ exports. exports ≡ exports_of fields.now) }
-    ensures noted { AreSpaces fields.now spaces.now
-        → OnOk result (noted.new.first ≡ least_from noted.old.first (all_export_faults fields.now)) }
-{
-    let mut out = AstList::new(alloc);
-    let mut counts = nothing();
-    for field in fields {
-        put_field(&mut out, spaces, counts, field, noted)?;
-        counts = count_field(counts, field);
-    }
-    Ok(out)
 }

@@ -1,11 +1,10 @@
 //! Globals.
 
-ghost use Rattle.std.specs.Prelude.{◌≡◌, ◌++◌, List, IfOk, OnOk};
+ghost use Rattle.std.specs.Prelude.{◌≡◌, ◌++◌, List, OnOk};
 ghost use Rattle.wc_spaces.specs.Standard.Least.{least_from};
 ghost use Rattle.wc_surface.specs.declared.field.Field.{Field as FieldValue};
 ghost use Rattle.wc_declared.specs.Kept.Declaring.{IsDeclared};
-ghost use Rattle.wc_names.specs.Standard.Globals.{global_of, init_faults, field_globals, globals_of, global_faults};
-ghost use Rattle.wc_names.specs.Standard.Globals.{all_global_faults};
+ghost use Rattle.wc_names.specs.Standard.Globals.{global_of, init_faults, field_globals, global_faults};
 
 use std::alloc::{self, AllocError};
 use wc_ast::{Global, GlobalType, List as AstList};
@@ -39,7 +38,7 @@ fn put_global<'a>(
 }
 
 /// Adds the global that a field defines. What is wrong with the names in its first value is noted.
-fn put_field<'a>(
+pub(crate) fn put_field<'a>(
     alloc: alloc::Global,
     out: &mut AstList<Global>,
     declared: &Declared<'a>,
@@ -55,22 +54,4 @@ fn put_field<'a>(
         Field::Global(global) => put_global(alloc, out, declared, global.ty, &global.desc, noted),
         _ => Ok(()),
     }
-}
-
-/// The globals that fields define. What is wrong with the names in first values is noted. The error is want of memory.
-pub(crate) fn globals<'a>(
-    alloc: alloc::Global,
-    declared: &Declared<'a>,
-    fields: &[Field<'a>],
-    noted: &mut Noted<NameWhy>,
-) -> Result<AstList<Global>, AllocError>
-    ensures globals { IsDeclared fields.now declared.now → IfOk result (λ globals. globals ≡ globals_of fields.now) }
-    ensures noted { IsDeclared fields.now declared.now
-        → OnOk result (noted.new.first ≡ least_from noted.old.first (all_global_faults fields.now)) }
-{
-    let mut out = AstList::new(alloc);
-    for field in fields {
-        put_field(alloc, &mut out, declared, field, noted)?;
-    }
-    Ok(out)
 }

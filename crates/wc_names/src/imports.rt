@@ -1,12 +1,12 @@
 //! Imports.
 
-ghost use Rattle.std.specs.Prelude.{◌≡◌, [], ◌∷◌, ◌++◌, List, IfOk, OnOk};
+ghost use Rattle.std.specs.Prelude.{◌≡◌, [], ◌∷◌, ◌++◌, List, OnOk};
 ghost use Rattle.wc_surface.specs.declared.field.Field.{Field as FieldValue};
 ghost use Rattle.wc_declared.specs.Kept.Declaring.{IsDeclared};
 ghost use Rattle.wc_names.specs.Standard.Imports.{import, desc_of as brought, func_imports, table_imports};
-ghost use Rattle.wc_names.specs.Standard.Imports.{memory_imports, global_imports, field_imports, imports_of};
+ghost use Rattle.wc_names.specs.Standard.Imports.{memory_imports, global_imports, field_imports};
 
-use std::alloc::{AllocError, Global};
+use std::alloc::AllocError;
 use wc_ast::{Desc, GlobalType, Import, List as AstList};
 use wc_body::TryClone;
 use wc_declared::Declared;
@@ -83,7 +83,7 @@ fn put_global(
 }
 
 /// Adds the import of a field, where it is one.
-fn put_field(
+pub(crate) fn put_field(
     out: &mut AstList<Import>,
     declared: &Declared<'_>,
     field: &Field<'_>,
@@ -99,19 +99,4 @@ fn put_field(
         Field::Global(global) => put_global(out, global.ty, &global.desc),
         _ => Ok(()),
     }
-}
-
-/// The imports, in the order of the text. The error is want of memory.
-pub(crate) fn imports(
-    alloc: Global,
-    declared: &Declared<'_>,
-    fields: &[Field<'_>],
-) -> Result<AstList<Import>, AllocError>
-    ensures { IsDeclared fields.now declared.now → IfOk result (λ imports. imports ≡ imports_of fields.now) }
-{
-    let mut out = AstList::new(alloc);
-    for field in fields {
-        put_field(&mut out, declared, field)?;
-    }
-    Ok(out)
 }

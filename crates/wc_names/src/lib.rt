@@ -10,6 +10,7 @@ pub mod globals;
 pub mod imports;
 pub mod indices;
 pub mod law;
+pub mod lists;
 pub mod offset;
 pub mod ranges;
 pub mod resolving;

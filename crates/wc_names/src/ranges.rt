@@ -1,11 +1,11 @@
 //! Tables and memories.
 
-ghost use Rattle.std.specs.Prelude.{◌≡◌, ◌<◌, ◌^◌, ◌++◌, All, IfOk, OnOk};
+ghost use Rattle.std.specs.Prelude.{◌≡◌, ◌<◌, ◌^◌, ◌++◌, OnOk};
 ghost use Rattle.wc_surface.specs.Standard.Sizes.{table_inline, memory_inline, inline_size};
 ghost use Rattle.wc_names.specs.Standard.Ranges.{exactly as only, pages as pages_of, table_limits, memory_limits};
-ghost use Rattle.wc_names.specs.Standard.Ranges.{field_tables, field_memories, tables_of, memories_of};
+ghost use Rattle.wc_names.specs.Standard.Ranges.{field_tables, field_memories};
 
-use std::alloc::{AllocError, Global};
+use std::alloc::AllocError;
 use wc_ast::{Limits, List as AstList};
 use wc_surface::{Field, MemoryDesc, TableDesc};
 
@@ -50,7 +50,7 @@ fn put_memory_limits(out: &mut AstList<Limits>, desc: &MemoryDesc) -> Result<(),
     Ok(())
 }
 
-fn put_table(out: &mut AstList<Limits>, field: &Field<'_>) -> Result<(), AllocError>
+pub(crate) fn put_table(out: &mut AstList<Limits>, field: &Field<'_>) -> Result<(), AllocError>
     requires { inline_size field.now < 2 ^ 32 }
     ensures { OnOk result (out.new ≡ out.old ++ field_tables field.now) }
 {
@@ -60,7 +60,7 @@ fn put_table(out: &mut AstList<Limits>, field: &Field<'_>) -> Result<(), AllocEr
     }
 }
 
-fn put_memory(out: &mut AstList<Limits>, field: &Field<'_>) -> Result<(), AllocError>
+pub(crate) fn put_memory(out: &mut AstList<Limits>, field: &Field<'_>) -> Result<(), AllocError>
     requires { inline_size field.now < 2 ^ 32 }
     ensures { OnOk result (out.new ≡ out.old ++ field_memories field.now) }
 {
@@ -68,28 +68,4 @@ fn put_memory(out: &mut AstList<Limits>, field: &Field<'_>) -> Result<(), AllocE
         Field::Memory(memory) => put_memory_limits(out, &memory.desc),
         _ => Ok(()),
     }
-}
-
-/// The limits of the tables that fields define. The error is want of memory.
-pub(crate) fn tables(alloc: Global, fields: &[Field<'_>]) -> Result<AstList<Limits>, AllocError>
-    requires { All (λ f. inline_size f < 2 ^ 32) fields.now }
-    ensures { IfOk result (λ tables. tables ≡ tables_of fields.now) }
-{
-    let mut out = AstList::new(alloc);
-    for field in fields {
-        put_table(&mut out, field)?;
-    }
-    Ok(out)
-}
-
-/// The limits of the memories that fields define. The error is want of memory.
-pub(crate) fn memories(alloc: Global, fields: &[Field<'_>]) -> Result<AstList<Limits>, AllocError>
-    requires { All (λ f. inline_size f < 2 ^ 32) fields.now }
-    ensures { IfOk result (λ memories. memories ≡ memories_of fields.now) }
-{
-    let mut out = AstList::new(alloc);
-    for field in fields {
-        put_memory(&mut out, field)?;
-    }
-    Ok(out)
 }

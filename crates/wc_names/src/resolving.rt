@@ -12,14 +12,8 @@ ghost use Rattle.wc_funcs.specs.Standard.Fitting.{FieldFits};
 ghost use Rattle.wc_names.specs.Standard.Denoted.{denoted as module_of, reference_faults, FirstFault, Names};
 ghost use Rattle.wc_names.specs.Kept.Refused.{IsTold, IsFirst};
 
-use crate::datas::datas;
-use crate::elems::elems;
-use crate::exports::exports;
 use crate::funcs::funcs;
-use crate::globals::globals;
-use crate::imports::imports;
-use crate::ranges::{memories, tables};
-use crate::start::start;
+use crate::lists::gather;
 use std::alloc::{AllocError, Global};
 use wc_ast::Module;
 use wc_declared::{Declared, NameFault, declare};
@@ -41,23 +35,19 @@ fn denoted<'a>(
     ensures module { IfOk result (λ found. found ≡ module_of fields.now) }
     ensures noted { OnOk result (noted.new.first ≡ least_from noted.old.first (reference_faults fields.now)) }
 {
-    let globals = globals(alloc, declared, fields, noted)?;
-    let exports = exports(alloc, &declared.spaces, fields, noted)?;
-    let start = start(&declared.spaces, fields, noted);
-    let elems = elems(alloc, declared, fields, noted)?;
-    let datas = datas(alloc, declared, fields, noted)?;
+    let lists = gather(alloc, declared, fields, noted)?;
     let funcs = funcs(alloc, declared, fields, noted)?;
     Ok(Module {
         types: declared.func_types(alloc)?,
-        imports: imports(alloc, declared, fields)?,
+        imports: lists.imports,
         funcs,
-        tables: tables(alloc, fields)?,
-        mems: memories(alloc, fields)?,
-        globals,
-        exports,
-        start,
-        elems,
-        datas,
+        tables: lists.tables,
+        mems: lists.memories,
+        globals: lists.globals,
+        exports: lists.exports,
+        start: lists.start,
+        elems: lists.elems,
+        datas: lists.datas,
     })
 }
 

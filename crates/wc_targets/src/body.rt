@@ -30,8 +30,10 @@ pub fn resolve_body<'a>(
         → OnOk result (noted.new.first ≡ least_from noted.old.first (body_faults c body.now)) }
 {
     let mut labels = Labels::new(alloc);
-    let mut builder = BodyBuilder::new(alloc);
-    for entry in body.code.entries() {
+    let entries = body.code.entries();
+    // Most take two bytes.
+    let mut builder = BodyBuilder::with_room(alloc, entries.len().saturating_mul(2))?;
+    for entry in entries {
         match *entry {
             TextEntry::Plain(instr) => {
                 put_plain(alloc, around, &labels, body, &mut builder, instr, noted)?;
@@ -46,7 +48,7 @@ pub fn resolve_body<'a>(
             }
         }
     }
-    match builder.finish() {
+    match builder.finish_with_room() {
         Ok(resolved) => Ok(resolved),
         Err(_) => unreachable!(),
     }

@@ -9,6 +9,9 @@ ghost use Rattle.wc_spaces.specs.Kept.Labels.{IsLabels, depth_of};
 ghost use Rattle.wc_spaces.specs.Standard.Least.{least_from};
 ghost use Rattle.wc_targets.specs.Kept.Known.{Knows};
 ghost use Rattle.wc_targets.specs.Standard.Contexts.{Context, Declared};
+ghost use Rattle.wc_body.specs.declared.instr.Instr.TheVariants.{Index as index_instr};
+ghost use Rattle.wc_surface.specs.declared.instr.Operand.TheVariants.{Named as named};
+ghost use Rattle.wc_targets.specs.Standard.Operands.{space_of, index_in, index_faults};
 ghost use Rattle.wc_targets.specs.Standard.Instructions.{type_at, resolved_instr, instr_faults};
 
 use crate::around::Around;
@@ -18,9 +21,9 @@ use crate::table::{labels_of, put_table};
 use crate::why::NameWhy;
 use std::alloc::{AllocError, Global};
 use wc_body::{BodyBuilder, Entry, Instr, MemArg};
-use wc_ops::MemOp;
+use wc_ops::{IndexOp, MemOp};
 use wc_spaces::{Labels, Noted};
-use wc_surface::{TextBody, TextInstr};
+use wc_surface::{Id, Operand, TextBody, TextInstr};
 
 /// The index of the type of the type use of this place.
 #[inline(always)]
@@ -45,6 +48,30 @@ fn access(op: MemOp, align: Option<u8>, offset: Option<u32>) -> MemArg
     }
 }
 
+/// Adds an instruction that names the identifier of this place, where the body has these; one that nothing has is
+/// noted. The error is want of memory.
+// Never inlined: the way of an index, which most instructions go, has then no test of what it is of.
+#[inline(never)]
+fn put_named(
+    around: &Around<'_, '_, '_, '_>,
+    labels: &Labels<'_>,
+    ids: &[Id<'_>],
+    builder: &mut BodyBuilder,
+    op: IndexOp,
+    at: u32,
+    noted: &mut Noted<NameWhy>,
+) -> Result<(), AllocError>
+    requires { depth_of labels.now < 2 ^ 32 }
+    ensures built { (c : Context) (ls : Declared) → Knows c around.now → IsLabels ls labels.now → OnOk result
+        (builder.new ≡ step builder.old (plain (index_instr op (index_in (space_of c ls op) ids.now (named at))))) }
+    ensures noted { (c : Context) (ls : Declared) → Knows c around.now → IsLabels ls labels.now → OnOk result
+        (noted.new.first ≡ least_from noted.old.first (index_faults (space_of c ls op) ids.now (named at))) }
+    ensures around { OnOk result (builder.new.around ≡ builder.old.around) }
+{
+    let index = index_of(around, labels, op, ids, Operand::Named(at), noted);
+    put(builder, Entry::Plain(Instr::Index(op, index)))
+}
+
 /// Adds an instruction with its numbers; each identifier that nothing has is noted. The error is want of memory.
 #[inline(always)]
 pub(crate) fn put_plain(
@@ -65,9 +92,11 @@ pub(crate) fn put_plain(
 {
     match instr {
         TextInstr::Simple(op) => put(builder, Entry::Plain(Instr::Simple(op))),
-        TextInstr::Index(op, operand) => {
-            let index = index_of(around, labels, op, body.ids.as_slice(), operand, noted);
+        TextInstr::Index(op, Operand::Number(index)) => {
             put(builder, Entry::Plain(Instr::Index(op, index)))
+        }
+        TextInstr::Index(op, Operand::Named(at)) => {
+            put_named(around, labels, body.ids.as_slice(), builder, op, at, noted)
         }
         TextInstr::Access { op, align, offset } => {
             let argument = access(op, align, offset);

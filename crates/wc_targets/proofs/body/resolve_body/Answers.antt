@@ -10,8 +10,8 @@ use Rattle.wc_targets.proofs.body.resolve_body.Goals.{in-Begin+in_ok-put_head-in
 use Rattle.wc_targets.proofs.body.resolve_body.Goals.{in-End+in_ok-put-in-End}
 
 pub loop-entry-init : goal.loop-entry-init
-loop-entry-init c = rw c.new-builder.ensures (inside-starts c.args.around.now c.args.body.now c.args.noted.now.first _
-    c.new-labels.result c.entries-entry-items.ensures.marks c.entries-entry-items.ensures.within
+loop-entry-init c = rw c.in_ok-builder.ensures (inside-starts c.args.around.now c.args.body.now c.args.noted.now.first _
+    c.new-labels.result c.entries-entries.ensures.marks c.entries-entries.ensures.within
     c.new-labels.ensures.labels c.new-labels.ensures.depth)
 
 pub put_plain-requires : goal.put_plain-requires
@@ -22,26 +22,26 @@ put_head-requires-clause-open c = omega (arith, c.loop-entry.invariant.depth, c.
 
 pub put_head-requires-clause-room : goal.put_head-requires-clause-room
 put_head-requires-clause-room c =
-    let next = next-entry c.entries-entry-items.result.now c.loop-entry.entry-index _
+    let next = next-entry c.entries-entries.result.now c.loop-entry.entry-index _
     (Begin c.in-Begin.kind c.in-Begin.head) c.loop-entry-test.true c.in-Begin.is in
     room-begin _ _ c.loop-entry.builder c.in-Begin.kind c.in-Begin.head (rw next at c.loop-entry.invariant.shaped)
 
 pub put-requires-clause-comes : goal.put-requires-clause-comes
 put-requires-clause-comes c =
-    let next = next-entry c.entries-entry-items.result.now c.loop-entry.entry-index _ Else c.loop-entry-test.true
+    let next = next-entry c.entries-entries.result.now c.loop-entry.entry-index _ Else c.loop-entry-test.true
     c.in-Else.is in
     comes-else _ _ c.loop-entry.builder (rw next at c.loop-entry.invariant.shaped)
 
 pub put-requires-in-End-clause-comes : goal.put-requires-in-End-clause-comes
 put-requires-in-End-clause-comes c =
-    let next = next-entry c.entries-entry-items.result.now c.loop-entry.entry-index _ End c.loop-entry-test.true
+    let next = next-entry c.entries-entries.result.now c.loop-entry.entry-index _ End c.loop-entry-test.true
     c.in-End.is in
     comes-close _ _ c.loop-entry.builder (rw next at c.loop-entry.invariant.shaped)
 
 pub loop-entry-preserved : goal.loop-entry-preserved
 loop-entry-preserved c =
     let inside = c.loop-entry.invariant in
-    let next = next-entry c.entries-entry-items.result.now c.loop-entry.entry-index in
+    let next = next-entry c.entries-entries.result.now c.loop-entry.entry-index in
     elim c.match-entry.branch [
       | in-Plain+in_ok-put_plain-in-Plain v ↦
           rw (v.noted-is, v.labels-is, v.builder-is)
@@ -66,16 +66,16 @@ loop-entry-preserved c =
 
 pub unreachable-requires : goal.unreachable-requires
 unreachable-requires c =
-    let past = none-left c.entries-entry-items.result.now c.loop-entry.entry-index c.loop-entry-test.false in
+    let past = none-left c.entries-entries.result.now c.loop-entry.entry-index c.loop-entry-test.false in
     let closed = inside-ends _ _ _ _ _ c.loop-entry.builder (rw past at c.loop-entry.invariant) in
     let opened = c.in-Err.ensures.err.1 in cc
 
 pub returns-clause-resolved : goal.returns-clause-resolved
 returns-clause-resolved c =
-    let past = none-left c.entries-entry-items.result.now c.loop-entry.entry-index c.loop-entry-test.false in
+    let past = none-left c.entries-entries.result.now c.loop-entry.entry-index c.loop-entry-test.false in
     built-whole _ _ _ _ _ c.loop-entry.builder _ (rw past at c.loop-entry.invariant) c.in-Ok.ensures.ok
 
 pub returns-clause-noted : goal.returns-clause-noted
 returns-clause-noted c =
-    let past = none-left c.entries-entry-items.result.now c.loop-entry.entry-index c.loop-entry-test.false in
+    let past = none-left c.entries-entries.result.now c.loop-entry.entry-index c.loop-entry-test.false in
     noted-all _ _ _ _ _ c.loop-entry.builder (rw past at c.loop-entry.invariant)

@@ -6,4 +6,4 @@ use Rattle.wc_targets.proofs.body.resolve_body.Given as goal
 abbrev pub invariant-loop-entry : goal.invariant-loop-entry
 invariant-loop-entry l =
     Inside l.around l.body l.initial.noted.first l.labels l.noted.first l.builder
-    (marks (drop l.entry-index l.entry-items))
+    (marks (drop l.entry-index l.entries))
