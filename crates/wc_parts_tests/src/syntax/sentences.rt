@@ -1,6 +1,6 @@
 //! Texts: the least sentence of each part of the grammar, and each optional part.
 
-use crate::asking::{fault, kinds_of, refused_fronts};
+use crate::syntax::asking::{fault, kinds_of, refused_fronts};
 use std::alloc::AllocError;
 use std::test::Fail;
 

@@ -1,6 +1,6 @@
 //! What is kept of a text, and in which role.
 
-use crate::asking::kinds_of;
+use crate::syntax::asking::kinds_of;
 use std::alloc::AllocError;
 use std::test::Fail;
 use wc_syntax::Role::*;

@@ -1,6 +1,6 @@
 //! Examples of faults.
 
-use crate::asking::{add_kinds, fault, kinds_of};
+use crate::syntax::asking::{add_kinds, fault, kinds_of};
 use std::alloc::AllocError;
 use std::test::Fail;
 

@@ -1,7 +1,7 @@
 //! Behind each front each word has the fault that the grammar gives it.
 
-use crate::asking::row_of;
-use crate::words::{FOLDED, HEADS, IMPORTS, PLAIN, SEGMENTS, TABLES, TEXTS, WORDS};
+use crate::syntax::asking::row_of;
+use crate::syntax::words::{FOLDED, HEADS, IMPORTS, PLAIN, SEGMENTS, TABLES, TEXTS, WORDS};
 use std::alloc::AllocError;
 use std::test::Fail;
 

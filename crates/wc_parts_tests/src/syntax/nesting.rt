@@ -1,6 +1,6 @@
 //! The deepest text that is read, and one more.
 
-use crate::asking::{fault, kinds_of};
+use crate::syntax::asking::{fault, kinds_of};
 use std::alloc::AllocError;
 use std::test::Fail;
 use wc_syntax::Kind;

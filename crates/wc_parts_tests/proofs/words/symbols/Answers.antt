@@ -1,7 +1,7 @@
 use Rattle.std.proofs.Common.{sym, subst, arith}
 use Rattle.wc_tokens.specs.Standard.Tokens.{InOrder}
 use Rattle.wc_words.proofs.Forms.{form-at}
-use Rattle.wc_words_tests.proofs.tests.symbols.Goals as goal
+use Rattle.wc_parts_tests.proofs.words.symbols.Goals as goal
 
 pub symbol_of-kind-requires : goal.symbol_of-kind-requires
 symbol_of-kind-requires c =

@@ -1,6 +1,6 @@
 //! Fronts of a text.
 
-use crate::asking::{fault, kinds_of};
+use crate::syntax::asking::{fault, kinds_of};
 use std::alloc::AllocError;
 use std::test::Fail;
 use wc_syntax::Kind;

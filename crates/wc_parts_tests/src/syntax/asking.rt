@@ -1,6 +1,6 @@
 //! How a text of words is asked for its first fault.
 
-use crate::kinds::kind_of;
+use crate::syntax::kinds::kind_of;
 use std::alloc::AllocError;
 use wc_syntax::{Kind, Refusal, SynWhy, kept_tokens};
 
