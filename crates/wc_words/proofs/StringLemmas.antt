@@ -1,16 +1,19 @@
 -- Strings whose bytes are UTF-8.
-use Rattle.std.proofs.Common.{◌≡◌, ℕ, ◌+◌, ◌<◌, ◌≤◌, nat_eq, ◌==◌, ◌||◌, Bool, true, false, ◌↔◌, IsTrue, IsUtf8, List}
-use Rattle.std.proofs.Common.{[], ◌∷◌, ◌++◌, length, take, drop, get_or}
+use Rattle.std.proofs.Common.{◌≡◌, ℕ, ◌==◌, ◌||◌, Bool, true, false, ◌↔◌, IsTrue, IsUtf8, List}
+use Rattle.std.proofs.Common.{Some, None, [], ◌∷◌, ◌++◌, length, take, get_or}
 use Rattle.std.proofs.Common.{refl, sym, ap, subst, ◌∙◌, arith, length-append, lit<, append_assoc}
 use Rattle.std.specs.List.{list_any}
-use Rattle.std.proofs.lemmas.Bool.{or_left, or_right}
 use Rattle.std.proofs.lemmas.Str.{IsUtf8-drop, IsUtf8-take, IsCharBoundary-after_ascii, IsCharBoundary-before_ascii}
 use Rattle.wc_tokens.specs.Standard.Strings.{Element, plain, escape, byte, unicode, Elements, none, more, IsString}
-use Rattle.wc_tokens.proofs.Escapes.ElementLaws.{Elements-same, read_element-quote}
+use Rattle.wc_tokens.specs.Reading.Elements.{ValueAndRest, read_element}
+use Rattle.wc_tokens.proofs.Escapes.ElementLaws.{Elements-same, read-Element, read_element-quote}
+use Rattle.wc_tokens.proofs.Escapes.StringLaws.{IsBegun}
 use Rattle.wc_syntax.specs.declared.kind.Kind.TheVariants as kind
 use Rattle.wc_words.specs.declared.symbol.Symbol.{Symbol}
 use Rattle.wc_words.specs.Symbols.{bare}
 use Rattle.wc_words.specs.Tokens.{StringIs, name, no_name}
+use Rattle.wc_words.proofs.Utf8Lemmas.{front-none}
+use Rattle.simdutf8.specs.Steps.{Steps}
 
 abbrev any_backslash : List ℕ → Bool
 any_backslash text = list_any (λ c. c == 92) text
@@ -87,3 +90,35 @@ StringIs-same (name i u) (name j v) = refl
 StringIs-same (no_name i u) (no_name j v) = refl
 StringIs-same (name i u) (no_name j v) = absurd (v (subst IsUtf8 (IsString-same i j) u))
 StringIs-same (no_name i u) (name j v) = absurd (u (subst IsUtf8 (IsString-same j i) v))
+
+-- ---- strings of which the front was read
+
+-- the bytes of elements at the front begin those of the whole
+Elements-begin : {a b v w : List ℕ} (r s : List ℕ) → Elements a v → Elements b w → a ++ r ≡ b ++ s
+    → read_element s ≡ None → (behind : List ℕ) × (w ≡ v ++ behind)
+Elements-begin {w = w} r s none g e n = (w, refl)
+Elements-begin r s (more {part = part} {rest = rest} {value = value} f fs) none e n =
+    let whole : s ≡ part ++ (rest ++ r) = sym e ∙ append_assoc part rest r in
+    let k : Some (ValueAndRest value (rest ++ r)) ≡ None = sym (read-Element f (rest ++ r)) ∙ ap read_element (sym whole)
+    ∙ n in
+    absurd cc
+Elements-begin r s (more {part = p} {rest = a} {value = v} {values = vs} f fs)
+    (more {part = q} {rest = b} {value = w} {values = ws} g gs) e n =
+    let left : read_element ((p ++ a) ++ r) ≡ Some (ValueAndRest v (a ++ r)) = ap read_element (append_assoc p a r)
+    ∙ read-Element f (a ++ r) in
+    let right : read_element ((q ++ b) ++ s) ≡ Some (ValueAndRest w (b ++ s)) = ap read_element (append_assoc q b s)
+    ∙ read-Element g (b ++ s) in
+    let both : Some (ValueAndRest v (a ++ r)) ≡ Some (ValueAndRest w (b ++ s)) = sym left ∙ ap read_element e ∙ right in
+    let value : v ≡ w = cc in
+    let others : a ++ r ≡ b ++ s = cc in
+    let i = Elements-begin r s fs gs others n in
+    (i.0, ap (λ (x : List ℕ). w ++ x) i.1 ∙ ap (λ (x : List ℕ). x ++ (vs ++ i.0)) (sym value) ∙ sym (append_assoc v vs i.0))
+
+-- where these are the front of no UTF-8, the string is no name
+pub broken-front : (text rest read bytes : List ℕ) → IsBegun text rest read → ¬ (Steps 0 0 0 read) → IsString text bytes
+    → ¬ (IsUtf8 bytes)
+broken-front text rest read bytes (body, is, es) broken s u =
+    let whole : 34 ∷ (body ++ rest) ≡ 34 ∷ (s.body ++ 34 ∷ []) = sym is ∙ s.text_is in
+    let same : body ++ rest ≡ s.body ++ 34 ∷ [] = cc in
+    let i = Elements-begin rest (34 ∷ []) es s.elements same (read_element-quote []) in
+    front-none read i.0 broken (subst IsUtf8 i.1 u)

@@ -1,17 +1,17 @@
 -- UTF-8 read byte by byte.
 use Rattle.std.proofs.Common.{◌≡◌, ℕ, ◌<◌, ◌≤◌, Bool, true, false, ◌↔◌, IsTrue, IsUtf8, List, [], ◌∷◌, ◌++◌, Option}
-use Rattle.std.proofs.Common.{Some, None}
+use Rattle.std.proofs.Common.{Some, None, is_some}
 use Rattle.std.proofs.Common.{◌⊎◌, refl, sym, ap, subst, ◌∙◌, inl, inr, arith}
 use Rattle.std.specs.Prelude.{⊤}
 use Rattle.std.proofs.lemmas.Bool.{cases_lt}
 use Rattle.std.proofs.lemmas.Bool.Decides.{nat_tests}
-use Rattle.simdutf8.specs.Steps.{IsContinuation, IsClosed, Step, first, second, later, Steps, StepsThen, least_after}
+use Rattle.simdutf8.specs.Steps.{IsContinuation, IsClosed, Step, first, second, later, Steps, least_after}
 use Rattle.simdutf8.specs.Steps.{most_after}
 use Rattle.simdutf8.specs.Tracks.{last_three}
 use Rattle.simdutf8.proofs.Chars.{StepsThen-IsUtf8}
 use Rattle.simdutf8.proofs.StepsLemmas.{StepsThen_parts, StepsThen-append}
 use Rattle.wc_words.specs.declared.utf8.Tail.{Tail}
-use Rattle.wc_words.specs.Reading.{is_continuation, is_closed, may_follow, Tracks}
+use Rattle.wc_words.specs.Reading.{is_closed, may_follow, Tracks}
 
 may-closed : (x y z b : ℕ) → x < 0xf0 → y < 0xe0 → z < 0xc0 → may_follow x y z b ≡ true → Step x y z b
 may-closed x y z b h i j t = elim (cases_lt b 0x80) [
@@ -116,3 +116,13 @@ whole-some t read r k e = (there, back)
         let c' = ((StepsThen_parts IsClosed 0 0 0 read).0 ((StepsThen-IsUtf8 read).1 u)).1 in
         let c = subst (λ (q : ℕ × ℕ × ℕ). IsClosed q.0 q.1 q.2) k.1 c' in
         e ∙ is-closed t.first t.second t.third c
+
+-- what is broken stays so, whatever follows
+pub front-none : (read behind : List ℕ) → ¬ (Steps 0 0 0 read) → ¬ (IsUtf8 (read ++ behind))
+front-none read behind n u =
+    let all = ((StepsThen_parts IsClosed 0 0 0 (read ++ behind)).0 ((StepsThen-IsUtf8 (read ++ behind)).1 u)).0 in
+    n ((StepsThen-append Always 0 0 0 read behind).0 all).0
+
+pub broken-none : (t : Option Tail) (read : List ℕ) → is_some t ≡ false → Tracks t read → ¬ (Steps 0 0 0 read)
+broken-none (Some t) read e k = absurd cc
+broken-none None read e k = k

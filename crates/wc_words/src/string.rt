@@ -45,6 +45,10 @@ fn is_name_by_elements(text: &str) -> bool
     let mut rest = &text.as_bytes()[1..];
     while let Some(element) = read_element(rest) {
         tail = followed_by(tail, element.meaning);
+        if tail.is_none() {
+            // No bytes behind make it right again.
+            return false;
+        }
         rest = element.rest;
     }
     is_whole(tail)
