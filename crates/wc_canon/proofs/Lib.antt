@@ -5,3 +5,4 @@ pub mod Again
 pub mod Streams
 pub mod FailedReads
 pub mod Comparisons
+pub mod OwnBytes
