@@ -1,10 +1,13 @@
 -- Loops of readers.
+pub mod Fronts
 pub mod Going
+pub mod Behind
 pub mod SignedBytes
 pub mod UnsignedBytes
 pub mod Feeding
 pub mod Entries
 pub mod Times
+pub mod Sized
 pub mod Whole
 pub mod Entry
 pub mod Exact

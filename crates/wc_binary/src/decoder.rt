@@ -68,10 +68,9 @@ pub fn decode_from<R: Read>(
     ensures first_failure { IfErr result (λ e. (at : ℕ) → e ≡ BinFault.Read at → failed_at device.new ≡ Some at) }
     ensures again { has_ended device.old ≡ false → was_asked_again device.new ≡ was_asked_again device.old }
 
-    // A fault in bytes that were read is told, and no failure of a later read: where the bytes that the reader tells
-    // are those that it gave before it failed, they have no fault that shows before their end.
-    ensures cut { IsAtEnd (R.remaining (device_inner device.new)) → IfSome (R.remaining (device_inner device.old))
-        (λ rest. DecodesCut (front.now ++ rest) result) }
+    // A fault in bytes that were read is told, and no failure of a later read: where one is told, the bytes before it
+    // have no fault that shows before their end.
+    ensures cut { IfSome (R.remaining (device_inner device.old)) (λ rest. DecodesCut (front.now ++ rest) result) }
 {
     let mut buffer = [0u8; BUFFER_SIZE];
     buffer[..front.len()].copy_from_slice(front);

@@ -1,8 +1,8 @@
 -- What is known where a read failed.
-use Rattle.std.proofs.Common.{◌≡◌, ℕ, List, [], Option, Some, None, Result, Ok, Err, IfSome, IfErr, IsErrAnd}
+use Rattle.std.proofs.Common.{◌≡◌, ◌≤◌, ℕ, zero, suc, List, [], ◌∷◌, take, Option, Some, None, Result, Ok, Err, IfSome, IfErr, IsErrAnd}
 use Rattle.std.proofs.Common.{Bool, true, false, length, subst, sym, refl, inl, inr, ◌∙◌}
 use Rattle.std.specs.Option.{is_some}
-use Rattle.std.specs.Io.KnownBytes.{Keeps, IsAtEnd}
+use Rattle.std.proofs.lemmas.List.{length-take-le}
 use Rattle.wc_device.specs.Device.{first_failure}
 use Rattle.wc_binary.specs.declared.fault.BinFault.{BinFault}
 use Rattle.wc_binary.specs.declared.fault.BinFault.TheVariants.{Bad, Read as Unread, Memory as NoMemoryToDecode}
@@ -18,14 +18,6 @@ use Rattle.wc_canon.specs.Run.{IsCut, ReadsCut}
 
 -- ---- the first read
 
--- a read fails before any byte, where no more are told: then the input is an empty text
-pub first-cut : (old new : Option (List ℕ)) (at : ℕ) → at ≡ 0 → Keeps old new → IsAtEnd new
-    → IfSome old (ReadsCut (Read at))
-first-cut None new at zero k e = tt
-first-cut (Some x) None at zero k e = absurd k
-first-cut (Some x) (Some y) at zero k e =
-    let none : x ≡ [] = sym k ∙ e in subst (λ z. ReadsCut (Read at) z) (sym none) zero
-
 pub first-fails : (failed new : Option ℕ) (count : ℕ) → is_some failed ≡ false → new ≡ first_failure failed count
     → new ≡ Some count
 first-fails None new count well e = e
@@ -33,9 +25,16 @@ first-fails (Some at) new count well e = absurd cc
 
 -- ---- what was told of decoding is told of the run
 
+-- the first byte tells
+begins-so : (n : ℕ) (x : List ℕ) → is_binary (take (suc n) x) ≡ is_binary x
+begins-so n [] = refl
+begins-so n (zero ∷ x) = refl
+begins-so n (suc b ∷ x) = refl
+
 cut-told : (x : List ℕ) (e : BinFault) → is_binary x ≡ true → DecodesCut x (Err e) → ReadsCut (decoding_fault e) x
 cut-told x (Bad at why) s p = tt
-cut-told x (Unread at) s p = subst (λ t. IsCut t x at) (sym s) p
+cut-told x (Unread zero) s p = refl
+cut-told x (Unread (suc n)) s p = subst (λ t. IsCut t (take (suc n) x) (suc n)) (sym (begins-so n x ∙ s)) p
 cut-told x NoMemoryToDecode s p = tt
 
 pub cut-decoded : {V : Type 0} (a : Option (List ℕ)) (e : BinFault) (r : Result V RunFault)
@@ -45,17 +44,23 @@ cut-decoded a e (Ok v) s p h = tt
 cut-decoded None e (Err f) s p h = tt
 cut-decoded (Some x) e (Err f) s p h = subst (λ g. ReadsCut g x) (sym h) (cut-told x e s p)
 
+text-cut-to : (u : List ℕ) (at : ℕ) → is_binary u ≡ false → at ≤ length u → ReadsCut (Read at) u
+text-cut-to u zero s le = refl
+text-cut-to u (suc n) s le =
+    let long = sym (length-take-le (suc n) u le) in
+    subst (λ t. IsCut t (take (suc n) u) (suc n)) (sym (begins-so n u ∙ s)) long
+
 -- a text was read to where the read failed
 pub text-cut : (x : Option (List ℕ)) (f : RunFault) → IfSome x (λ u. is_binary u ≡ false)
-    → ((at : ℕ) → f ≡ Read at → IfSome x (λ u. at ≡ length u)) → IfSome x (ReadsCut f)
+    → ((at : ℕ) → f ≡ Read at → IfSome x (λ u. at ≤ length u)) → IfSome x (ReadsCut f)
 text-cut None f s p = tt
 text-cut (Some u) (Refused f) s p = tt
-text-cut (Some u) (Read at) s p = subst (λ t. IsCut t u at) (sym s) (p at refl)
+text-cut (Some u) (Read at) s p = text-cut-to u at s (p at refl)
 text-cut (Some u) (Write written) s p = tt
 text-cut (Some u) Memory s p = tt
 
 pub text-cut-told : {V : Type 0} (x : Option (List ℕ)) (f : RunFault) (r : Result V RunFault)
-    → IfSome x (λ u. is_binary u ≡ false) → ((at : ℕ) → f ≡ Read at → IfSome x (λ u. at ≡ length u))
+    → IfSome x (λ u. is_binary u ≡ false) → ((at : ℕ) → f ≡ Read at → IfSome x (λ u. at ≤ length u))
     → IsErrAnd r (λ g. g ≡ f) → IfErr r (λ e. IfSome x (ReadsCut e))
 text-cut-told x f (Ok v) s p h = absurd h
 text-cut-told x f (Err g) s p h =

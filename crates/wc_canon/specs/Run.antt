@@ -78,14 +78,15 @@ RefusesNear count (Read at) x = ⊤
 RefusesNear count (Write written) x = ⊤
 RefusesNear count Memory x = ⊤
 
--- where a read fails behind the bytes x: a binary has no fault that shows before their end, and a text was read so far
+-- where a read fails behind the bytes x: a binary has no fault that shows before their end, and a text was read so far,
+-- and isn't judged
 abbrev pub IsCut : Bool → List ℕ → ℕ → Type 0
 IsCut true x at = IsCutShort x at
 IsCut false x at = at ≡ length x
 
--- a failed read was told, and no fault of the bytes that were read before it
+-- a failed read was told, and no fault of the bytes that were read before it, which are those up to its place
 abbrev pub ReadsCut : RunFault → List ℕ → Type 0
 ReadsCut (Refused f) x = ⊤
-ReadsCut (Read at) x = IsCut (is_binary x) x at
+ReadsCut (Read at) x = IsCut (is_binary (take at x)) (take at x) at
 ReadsCut (Write written) x = ⊤
 ReadsCut Memory x = ⊤

@@ -1,7 +1,6 @@
 //! Whether the bytes of two readers denote the same module.
 
 ghost use Rattle.std.specs.Prelude.{ℕ, ◌≡◌, ◌≢◌, IfErr, IfOk, IfSome, Some, false};
-ghost use Rattle.std.specs.Io.KnownBytes.{IsAtEnd};
 ghost use Rattle.wc_device.specs.Device.{device_inner, failed_at, has_failed, has_ended, was_asked_again, read_count};
 ghost use Rattle.wc_canon.specs.declared.fault.Refusal.TheVariants as refusals;
 ghost use Rattle.wc_canon.specs.Run.{RefusesNear, ReadsCut, is_read_fault};
@@ -30,8 +29,7 @@ fn judge_from<R: Read>(
     ensures read { is_read_fault result ≡ has_failed r.new }
     ensures first_failure { IfErr result (λ e. (at : ℕ) → e ≡ RunFault.Read at → failed_at r.new ≡ Some at) }
     ensures again { has_ended r.old ≡ false → was_asked_again r.new ≡ was_asked_again r.old }
-    ensures cut { IsAtEnd (R.remaining (device_inner r.new)) → IfErr result
-        (λ e. IfSome (R.remaining (device_inner r.old)) (ReadsCut e)) }
+    ensures cut { IfErr result (λ e. IfSome (R.remaining (device_inner r.old)) (ReadsCut e)) }
 {
     match normalise_from(alloc, r) {
         Ok(bytes) => Ok(Ok(bytes)),
@@ -70,8 +68,8 @@ pub fn compare_from<R: Read, S: Read>(
     ensures again_a { has_ended a.old ≡ false → was_asked_again a.new ≡ was_asked_again a.old }
     ensures again_b { has_ended b.old ≡ false → was_asked_again b.new ≡ was_asked_again b.old }
     ensures cut { IfErr result (λ e. OfSide e.0
-        (λ f. IsAtEnd (R.remaining (device_inner a.new)) → IfSome (R.remaining (device_inner a.old)) (ReadsCut f))
-        (λ f. IsAtEnd (S.remaining (device_inner b.new)) → IfSome (S.remaining (device_inner b.old)) (ReadsCut f))
+        (λ f. IfSome (R.remaining (device_inner a.old)) (ReadsCut f))
+        (λ f. IfSome (S.remaining (device_inner b.old)) (ReadsCut f))
         e.1) }
 {
     let first = match judge_from(alloc, a) {

@@ -37,8 +37,7 @@ fn read_rest<R: Read>(alloc: Global, front: &[u8], r: &mut Device<R>) -> Result<
     ensures first_failure { IfErr result (λ e. (at : ℕ) → e ≡ RunFault.Read at → failed_at r.new ≡ Some at) }
     ensures again { has_ended r.old ≡ false → was_asked_again r.new ≡ was_asked_again r.old }
     ensures cut { IfErr result (λ e. (at : ℕ) → e ≡ RunFault.Read at → (x : Maybe (List ℕ))
-        → Consumes x (R.remaining (device_inner r.old)) front.now → IsAtEnd (R.remaining (device_inner r.new))
-        → IfSome x (λ u. at ≡ length u)) }
+        → Consumes x (R.remaining (device_inner r.old)) front.now → IfSome x (λ u. at ≤ length u)) }
     ensures unwritten { is_write_fault result ≡ false }
     ensures unjudged { (f : Refusal) → ¬ (IsErrOf result (RunFault.Refused f)) }
 {
@@ -77,7 +76,7 @@ fn read_text<R: Read>(
     ensures first_failure { IfErr result (λ e. (at : ℕ) → e ≡ RunFault.Read at → failed_at r.new ≡ Some at) }
     ensures again { has_ended r.old ≡ false → was_asked_again r.new ≡ was_asked_again r.old }
     ensures cut { (x : Maybe (List ℕ)) → Consumes x (R.remaining (device_inner r.old)) front.now
-        → IsAtEnd (R.remaining (device_inner r.new)) → IfErr result (λ e. IfSome x (ReadsCut e)) }
+        → IfErr result (λ e. IfSome x (ReadsCut e)) }
     ensures unwritten { is_write_fault result ≡ false }
     ensures memory { ¬ (IsErrOf result (RunFault.Refused refusals.Memory)) }
 {
@@ -106,7 +105,7 @@ fn read_binary<R: Read>(
     ensures first_failure { IfErr result (λ e. (at : ℕ) → e ≡ RunFault.Read at → failed_at r.new ≡ Some at) }
     ensures again { has_ended r.old ≡ false → was_asked_again r.new ≡ was_asked_again r.old }
     ensures cut { (x : Maybe (List ℕ)) → Consumes x (R.remaining (device_inner r.old)) front.now
-        → IsAtEnd (R.remaining (device_inner r.new)) → IfErr result (λ e. IfSome x (ReadsCut e)) }
+        → IfErr result (λ e. IfSome x (ReadsCut e)) }
     ensures unwritten { is_write_fault result ≡ false }
     ensures memory { ¬ (IsErrOf result (RunFault.Refused refusals.Memory)) }
 {
@@ -139,8 +138,7 @@ pub(crate) fn read_module<R: Read>(
     ensures read_at { IfErr result (λ e. (at : ℕ) → e ≡ RunFault.Read at → at ≡ read_count r.new) }
     ensures first_failure { IfErr result (λ e. (at : ℕ) → e ≡ RunFault.Read at → failed_at r.new ≡ Some at) }
     ensures again { has_ended r.old ≡ false → was_asked_again r.new ≡ was_asked_again r.old }
-    ensures cut { IsAtEnd (R.remaining (device_inner r.new)) → IfErr result
-        (λ e. IfSome (R.remaining (device_inner r.old)) (ReadsCut e)) }
+    ensures cut { IfErr result (λ e. IfSome (R.remaining (device_inner r.old)) (ReadsCut e)) }
     ensures unwritten { is_write_fault result ≡ false }
     ensures memory { ¬ (IsErrOf result (RunFault.Refused refusals.Memory)) }
 {

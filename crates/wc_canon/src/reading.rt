@@ -1,7 +1,6 @@
 //! What the bytes of a reader are answered.
 
 ghost use Rattle.std.specs.Prelude.{ℕ, ◌≡◌, IfErr, IfSome, IsErrOf, OnOk, Some, false};
-ghost use Rattle.std.specs.Io.KnownBytes.{IsAtEnd};
 ghost use Rattle.wc_device.specs.Device.{device_inner, failed_at, has_failed, has_ended, was_asked_again, read_count};
 ghost use Rattle.wc_canon.specs.declared.fault.Refusal.TheVariants as refusals;
 ghost use Rattle.wc_canon.specs.Input.{KeepsRules, IsAccepted};
@@ -36,8 +35,7 @@ pub fn normalise_from<R: Read>(alloc: Global, r: &mut Device<R>) -> Result<Vec<u
     ensures read_at { IfErr result (λ e. (at : ℕ) → e ≡ RunFault.Read at → at ≡ read_count r.new) }
     ensures first_failure { IfErr result (λ e. (at : ℕ) → e ≡ RunFault.Read at → failed_at r.new ≡ Some at) }
     ensures again { has_ended r.old ≡ false → was_asked_again r.new ≡ was_asked_again r.old }
-    ensures cut { IsAtEnd (R.remaining (device_inner r.new)) → IfErr result
-        (λ e. IfSome (R.remaining (device_inner r.old)) (ReadsCut e)) }
+    ensures cut { IfErr result (λ e. IfSome (R.remaining (device_inner r.old)) (ReadsCut e)) }
     ensures unwritten { is_write_fault result ≡ false }
     ensures memory { ¬ (IsErrOf result (RunFault.Refused refusals.Memory)) }
 {
@@ -72,8 +70,7 @@ pub fn accept_from<R: Read>(alloc: Global, r: &mut Device<R>) -> Result<(), RunF
     ensures read_at { IfErr result (λ e. (at : ℕ) → e ≡ RunFault.Read at → at ≡ read_count r.new) }
     ensures first_failure { IfErr result (λ e. (at : ℕ) → e ≡ RunFault.Read at → failed_at r.new ≡ Some at) }
     ensures again { has_ended r.old ≡ false → was_asked_again r.new ≡ was_asked_again r.old }
-    ensures cut { IsAtEnd (R.remaining (device_inner r.new)) → IfErr result
-        (λ e. IfSome (R.remaining (device_inner r.old)) (ReadsCut e)) }
+    ensures cut { IfErr result (λ e. IfSome (R.remaining (device_inner r.old)) (ReadsCut e)) }
     ensures unwritten { is_write_fault result ≡ false }
     ensures memory { ¬ (IsErrOf result (RunFault.Refused refusals.Memory)) }
 {
@@ -96,8 +93,7 @@ pub fn text_from<R: Read>(alloc: Global, r: &mut Device<R>) -> Result<String, Ru
     ensures read_at { IfErr result (λ e. (at : ℕ) → e ≡ RunFault.Read at → at ≡ read_count r.new) }
     ensures first_failure { IfErr result (λ e. (at : ℕ) → e ≡ RunFault.Read at → failed_at r.new ≡ Some at) }
     ensures again { has_ended r.old ≡ false → was_asked_again r.new ≡ was_asked_again r.old }
-    ensures cut { IsAtEnd (R.remaining (device_inner r.new)) → IfErr result
-        (λ e. IfSome (R.remaining (device_inner r.old)) (ReadsCut e)) }
+    ensures cut { IfErr result (λ e. IfSome (R.remaining (device_inner r.old)) (ReadsCut e)) }
     ensures unwritten { is_write_fault result ≡ false }
     ensures memory { ¬ (IsErrOf result (RunFault.Refused refusals.Memory)) }
 {

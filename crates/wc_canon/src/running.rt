@@ -1,7 +1,7 @@
 //! From a reader to a writer.
 
 ghost use Rattle.std.specs.Prelude.{ℕ, ◌≡◌, ◌≤◌, length, take, IfOk, IfErr, IfSome, IsErrOf, OnOk, Some, false};
-ghost use Rattle.std.specs.Io.KnownBytes.{Appends, IsAtEnd};
+ghost use Rattle.std.specs.Io.KnownBytes.{Appends};
 ghost use Rattle.wc_device.specs.Device.{device_inner, failed_at, has_failed, has_ended, was_asked_again, read_count};
 ghost use Rattle.wc_canon.specs.declared.fault.Refusal.TheVariants as refusals;
 ghost use Rattle.wc_canon.specs.Run.{Answers, RefusesNear, ReadsCut, IsQuiet, is_read_fault, is_write_fault};
@@ -65,10 +65,9 @@ pub fn run<R: Read, W: Write>(
     ensures first_failure { IfErr result (λ e. (at : ℕ) → e ≡ RunFault.Read at → failed_at r.new ≡ Some at) }
     ensures again { has_ended r.old ≡ false → was_asked_again r.new ≡ was_asked_again r.old }
 
-    // A fault in bytes that were read is told, and no failure of a later read: where the bytes that the reader tells
-    // are those that it gave before it failed, they have no fault that shows before their end.
-    ensures cut { IsAtEnd (R.remaining (device_inner r.new)) → IfErr result
-        (λ e. IfSome (R.remaining (device_inner r.old)) (ReadsCut e)) }
+    // A fault in bytes that were read is told, and no failure of a later read: where one is told of a binary, the bytes
+    // before it have no fault that shows before their end. A text isn't judged before all of it was read.
+    ensures cut { IfErr result (λ e. IfSome (R.remaining (device_inner r.old)) (ReadsCut e)) }
 
     ensures quiet { IsQuiet (W.contents (device_inner w.old)) (W.contents (device_inner w.new)) result }
     ensures answers { Answers job (R.remaining (device_inner r.old)) (W.contents (device_inner w.old))

@@ -7,13 +7,12 @@ use Rattle.std.specs.Str.Lossy.{utf8_valid_len}
 use Rattle.std.proofs.lemmas.Str.{IsUtf8-from_is_utf8, is_utf8-from_IsUtf8, utf8_valid_len_le}
 use Rattle.std.proofs.lemmas.List.{append-nil}
 use Rattle.wc_binary.specs.declared.fault.BinWhy.TheVariants.{NotUtf8}
-use Rattle.wc_binary.specs.Standard.Phrase.{Spells}
+use Rattle.wc_binary.specs.Standard.Phrase.{Spells, judged}
 use Rattle.wc_binary.specs.Reading.Reading.{got, fault, read}
-use Rattle.wc_binary.specs.Standard.Values.{times, any_byte, name, u32}
+use Rattle.wc_binary.specs.Standard.Values.{times, any_byte, name, u32, utf8_fault}
 use Rattle.wc_binary.specs.declared.fault.BinFault.{BinFault}
-use Rattle.wc_binary.specs.declared.fault.BinFault.TheVariants.{Bad, Read, Memory}
 use Rattle.wc_binary.specs.Reading.Source.{Input, Fails, Gave}
-use Rattle.wc_binary.proofs.reading.Going.{Stopped-behind, ReadFailed-behind}
+use Rattle.wc_binary.proofs.reading.Behind.{leads-fail, first-fails, then-leads}
 use Rattle.wc_binary.proofs.phrases.AnyByte.{byte-told}
 use Rattle.wc_binary.proofs.phrases.Laws.{read-told}
 
@@ -42,22 +41,20 @@ not-utf8 bytes bars = go (is_utf8 bytes) refl
     go false e = e
 
 -- a fault in a name's count, and one in its bytes
-pub name-count : (old new : Input) (e : BinFault) → Fails old new e (read u32 old.place old.left)
-    → Fails old new e (read name old.place old.left)
+pub name-count : (old new : Input) (e : BinFault) → Fails old new e (λ x. read u32 old.place x)
+    → Fails old new e (λ x. read name old.place x)
 unfolding name
-name-count old new Memory h = h
-name-count old new (Read at) h = (h.0, λ w o. rw (h.1 w o) refl)
-name-count old new (Bad at why) h = (h.0, λ w. rw (h.1 w) refl)
+name-count old new e h =
+    first-fails old new (λ x. read u32 old.place x) (λ x. read name old.place x) (λ x f q. rw q refl) e h
 
-pub name-bytes : (old mid new : Input) (n : ℕ) → Gave old mid (Ok n) (read u32 old.place old.left) → (e : BinFault)
-    → Fails mid new e (read (times n any_byte) mid.place mid.left)
-    → Fails old new e (read name old.place old.left)
+pub name-bytes : (old mid new : Input) (n : ℕ) → Gave old mid (Ok n) (λ x. read u32 old.place x) → (e : BinFault)
+    → Fails mid new e (λ x. read (times n any_byte) mid.place x) → Fails old new e (λ x. read name old.place x)
 unfolding name
-name-bytes old mid new n k Memory h = Stopped-behind old mid new k.0 h
-name-bytes old mid new n k (Read at) h =
-    (ReadFailed-behind old mid new at k.0 h.0, λ w o. let s = k.1 w in rw (s.1, h.1 s.0 o) refl)
-name-bytes old mid new n k (Bad at why) h =
-    (Stopped-behind old mid new k.0 h.0, λ w. let s = k.1 w in rw (s.1, h.1 s.0) refl)
+name-bytes old mid new n k e h =
+    let named = judged (times n any_byte) utf8_fault in
+    leads-fail old mid new (λ x. read named mid.place x) (λ x. read name old.place x)
+    (then-leads u32 (λ n. judged (times n any_byte) utf8_fault) old mid n k) e
+    (first-fails mid new (λ x. read (times n any_byte) mid.place x) (λ x. read named mid.place x) (λ x f q. rw q refl) e h)
 
 module _ (o n p q : ℕ) (x y z bytes : List ℕ) (count : read u32 o x ≡ got n p y)
     (raw : read (times n any_byte) p y ≡ got bytes q z) where

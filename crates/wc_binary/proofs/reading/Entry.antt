@@ -7,7 +7,6 @@ use Rattle.std.specs.Io.KnownBytes.{IsAtEnd}
 use Rattle.wc_ast.specs.declared.module.Module.{Module}
 use Rattle.wc_binary.specs.declared.fault.BinFault.{BinFault}
 use Rattle.wc_binary.specs.declared.fault.BinFault.TheVariants.{Bad, Read, Memory}
-use Rattle.wc_binary.specs.Reading.Feed.{is_over}
 use Rattle.wc_binary.specs.Reading.Source.{Input, IsEnded}
 use Rattle.wc_binary.specs.Standard.Decoding.{Decodes, DecodesNear, DecodesCut, buffer_size}
 use Rattle.wc_binary.specs.Reading.Modules.{ModuleGives}
@@ -31,16 +30,11 @@ module _ (x : List ℕ) (old new : Input) (k : IsTrue old.known) (e : old.left �
   near-told (Err Memory) le h = tt
 
   -- leaves no fault behind, where a read failed
-  cut-told : (r : Result Module BinFault) → IsTrue new.over → ModuleGives old new r → DecodesCut x r
-  cut-told (Ok m) o h = tt
-  cut-told (Err (Bad at why)) o h = tt
-  cut-told (Err (Read at)) o h = rw e at (h.1 k o)
-  cut-told (Err Memory) o h = tt
-
-over-at-end : (rest : Option (List ℕ)) → IsAtEnd rest → IsTrue (is_over rest)
-over-at-end None h = refl
-over-at-end (Some []) h = refl
-over-at-end (Some (b ∷ x)) h = absurd cc
+  cut-told : (r : Result Module BinFault) → ModuleGives old new r → DecodesCut x r
+  cut-told (Ok m) h = tt
+  cut-told (Err (Bad at why)) h = tt
+  cut-told (Err (Read at)) h = rw e at (h.1 k)
+  cut-told (Err Memory) h = tt
 
 -- ---- the same of bytes at hand and those that a reader tells
 
@@ -63,13 +57,9 @@ module _ (old new : Input) (r : Result Module BinFault) (h : ModuleGives old new
   near-fed (Some x) f count is le =
       subst (λ (n : ℕ). DecodesNear n (front ++ x) r) is (near-told (front ++ x) old new f.0 (whole x f) r le h)
 
-  cut-over : (rest : Option (List ℕ)) → IsFed rest → IsTrue new.over → IfSome rest (λ x. DecodesCut (front ++ x) r)
-  cut-over None f o = tt
-  cut-over (Some x) f o = cut-told (front ++ x) old new f.0 (whole x f) r o h
-
-  pub cut-fed : (rest : Option (List ℕ)) → IsFed rest → (to_come : Option (List ℕ)) → new.over ≡ is_over to_come
-      → IsAtEnd to_come → IfSome rest (λ x. DecodesCut (front ++ x) r)
-  cut-fed rest f to_come is end = cut-over rest f (is ∙ over-at-end to_come end)
+  pub cut-fed : (rest : Option (List ℕ)) → IsFed rest → IfSome rest (λ x. DecodesCut (front ++ x) r)
+  cut-fed None f = tt
+  cut-fed (Some x) f = cut-told (front ++ x) old new f.0 (whole x f) r h
 
 -- ---- how the reader is left
 

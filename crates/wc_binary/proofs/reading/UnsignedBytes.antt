@@ -9,13 +9,14 @@ use Rattle.wc_binary.specs.declared.fault.BinWhy.TheVariants.{End, Integer}
 use Rattle.wc_binary.specs.Standard.Phrase.{halt}
 use Rattle.wc_binary.specs.Reading.Reading.{got, unsigned_at}
 use Rattle.wc_binary.specs.Reading.Source.{Input, Fails, Gave}
-use Rattle.wc_binary.proofs.reading.Going.{GoesOn-stops}
-use Rattle.wc_binary.proofs.reading.SignedBytes.{Held}
+use Rattle.wc_binary.proofs.reading.Fronts.{bytes_to}
+use Rattle.wc_binary.proofs.reading.Going.{EndsAt, GoesOn-stops}
+use Rattle.wc_binary.proofs.reading.SignedBytes.{Held, held-to}
 use Rattle.wc_binary.proofs.phrases.Unsigned.{unsigned-spelled, unsigned-stopped-at}
 
 module _ (N : ℕ) (a : List ℕ) (start first : ℕ) (old now : Input) (at byte : ℕ)
     (h : Held a start first old now at byte) where
-  pub unsigned-done : (v : ℕ) → U N (a ++ byte ∷ []) v → Gave old now (Ok v) (unsigned_at N start (first ∷ old.left))
+  pub unsigned-done : (v : ℕ) → U N (a ++ byte ∷ []) v → Gave old now (Ok v) (λ x. unsigned_at N start (first ∷ x))
   unsigned-done v s = (
     h.going,
     λ k.
@@ -29,7 +30,7 @@ module _ (N : ℕ) (a : List ℕ) (start first : ℕ) (old now : Input) (at byte
   )
 
   pub unsigned-bad : IsUnfinished (U N) a → (Begins (U N) (a ++ byte ∷ []) → ⊥)
-      → Fails old now (Bad at Integer) (unsigned_at N start (first ∷ old.left))
+      → Fails old now (Bad at Integer) (λ x. unsigned_at N start (first ∷ x))
   unsigned-bad u bars = (
     GoesOn-stops old now h.going,
     λ k.
@@ -43,17 +44,14 @@ module _ (N : ℕ) (a : List ℕ) (start first : ℕ) (old now : Input) (at byte
   )
 
   pub unsigned-end : IsUnfinished (U N) (a ++ byte ∷ []) → IsTrue old.known
-      → IsTrue now.known
-      × (now.left ≡ [] → unsigned_at N start (first ∷ old.left) ≡ Err (halt now.place End now.place))
+      → IsTrue now.known × EndsAt now.place old now (λ x. unsigned_at N start (first ∷ x))
   unsigned-end u k =
       let s = h.bytes k in
       let place : start + length (a ++ byte ∷ []) ≡ now.place =
       omega (arith, length-append a (byte ∷ []), s.2, h.behind) in
-      let split : first ∷ old.left ≡ (a ++ byte ∷ []) ++ now.left =
-      s.1 ∙ sym (append_assoc a (byte ∷ []) now.left) in
       let f = halt (start + length (a ++ byte ∷ [])) End (start + length (a ++ byte ∷ [])) in (
         s.0,
-        λ e.
-            let t = unsigned-stopped-at N start (a ++ byte ∷ []) now.left f u (inl (e, refl)) in
-            ap (λ (z : List ℕ). unsigned_at N start z) split ∙ t ∙ ap (λ (q : ℕ). Err (halt q End q)) place,
+        λ c within e.
+            let t = unsigned-stopped-at N start (a ++ byte ∷ []) (bytes_to c now) f u (inl (e, refl)) in
+            ap (λ (z : List ℕ). unsigned_at N start z) (held-to a start first old now at byte h k c within) ∙ t ∙ ap (λ (q : ℕ). Err (halt q End q)) place,
       )

@@ -1,5 +1,5 @@
 -- From the readers' answers to the relations of whole modules.
-use Rattle.std.proofs.Common.{◌≡◌, ◌≢◌, ℕ, ◌+◌, List, [], ◌++◌, length, Some, None, Ok, Err, inl, inr, sym, ap, subst, ◌∙◌}
+use Rattle.std.proofs.Common.{◌≡◌, ◌≢◌, ℕ, ◌+◌, ◌-◌, ◌≤◌, List, [], ◌∷◌, ◌++◌, length, take, Some, None, Ok, Err, inl, inr, sym, ap, subst, ◌∙◌}
 use Rattle.std.proofs.Common.{refl, arith}
 use Rattle.std.specs.Prelude.{IsTrue}
 use Rattle.std.proofs.lemmas.List.{length-append}
@@ -14,11 +14,12 @@ use Rattle.wc_binary.specs.declared.fault.BinWhy.TheVariants.{End, Counts}
 use Rattle.wc_binary.specs.Standard.Style.{free}
 use Rattle.wc_binary.specs.Standard.Phrase.{halt, Spells}
 use Rattle.wc_binary.specs.Reading.Reading.{read}
-use Rattle.wc_binary.specs.Reading.Source.{Input, GoesOn, Stopped, NextGives, Fails, Gave}
+use Rattle.wc_binary.specs.Reading.Source.{Input, up_to, GoesOn, Stopped, NextGives, Fails, Gave}
 use Rattle.wc_binary.specs.Standard.Sections.{id_of, content, after, put}
 use Rattle.wc_binary.specs.Standard.Module.{preamble, parts_of, FirstFault}
 use Rattle.wc_binary.specs.Standard.Decoding.{IsCutShort}
 use Rattle.wc_binary.specs.Reading.Modules.{CutsSections, SectionsGive, ModuleGives}
+use Rattle.wc_binary.proofs.reading.Fronts.{front, bytes-split}
 use Rattle.wc_binary.proofs.reading.Going.{GoesOn-trans, GoesOn-stops, Stopped-behind, ReadFailed-behind}
 use Rattle.wc_binary.proofs.phrases.Laws.{read-told}
 use Rattle.wc_binary.proofs.sections.Order.{rises-bin}
@@ -30,16 +31,29 @@ pub record Finds (old now : Input) (last : ℕ) (m : Parts) : Type 0 where
   pub going : GoesOn old now
   pub bytes : IsTrue old.known → IsTrue now.known × Found old.place old.left now.place now.left last m
 
+-- the same of the bytes up to a place behind them
+found-to : (o : ℕ) (x : List ℕ) (p : ℕ) (y : List ℕ) (last : ℕ) (m : Parts) → Found o x p y last m → (at : ℕ) → p ≤ at
+    → Found o (take (at - o) x) p (take (at - p) y) last m
+found-to o x p y last m f at le = record {
+  before = f.before;
+  read_so_far = f.read_so_far;
+  split = ap (λ l. take (at - o) l) f.split ∙ front f.read_so_far y o at p f.place le;
+  place = f.place;
+  spelled = f.spelled;
+  last_is = f.last_is;
+  parts_are = f.parts_are;
+}
+
 -- a failed read
 pub finds-fails : (old now next : Input) (last : ℕ) (m : Parts) → Finds old now last m → (e : BinFault)
     → NextGives now next (Err e) → SectionsGive old next (Err e)
 finds-fails old now next last m found (Bad at why) h = absurd h
 finds-fails old now next last m found (Read at) h = (
   ReadFailed-behind old now next at found.going h.0,
-  λ w o.
-      let f = found.bytes w in
-      let ended = h.1 f.0 o in
-      let a = found-all old.place old.left now.place last m (rw ended at f.1) in
+  λ w.
+      let f = found-to old.place old.left now.place now.left last m (found.bytes w).1 at h.0.forward in
+      let all = subst (λ y. Found old.place (up_to at old) now.place y last m) h.1 f in
+      let a = found-all old.place (up_to at old) now.place last m all in
       inl (a.0, a.1, h.2 ∙ a.3),
 )
 finds-fails old now next last m found Memory h = absurd h
@@ -68,16 +82,19 @@ module _ (old now next : Input) (last : ℕ) (m : Parts) (found : Finds old now 
     )
 
     pub content-fails : (id : SectionKind) → id_of last b ≡ Ok id → (end : Input) (e : BinFault)
-        → Fails next end e (read (content id) next.place next.left) → SectionsGive old end (Err e)
+        → Fails next end e (λ x. read (content id) next.place x) → SectionsGive old end (Err e)
     content-fails id i end Memory h = Stopped-behind old next end (GoesOn-trans old now next found.going n.0) h
     content-fails id i end (Read at) h = (
       ReadFailed-behind old next end at (GoesOn-trans old now next found.going n.0) h.0,
-      λ w o.
-          let f = found.bytes w in
-          let k = n.2 f.0 in
-          let place = n.1 in
-          inr (content-stops old.place old.left now.place now.left last m b next.left k.1 f.1 id i (halt at End at)
-          (rw place at (h.1 k.0 o))),
+      λ w.
+          let s = found.bytes w in
+          let k = n.2 s.0 in
+          let near : now.place ≤ at = omega (arith, n.0.forward, h.0.forward) in
+          let f = found-to old.place old.left now.place now.left last m s.1 at near in
+          let here = bytes-split now next (b ∷ []) k.1 n.1 (Some at) h.0.forward in
+          let g = ap (λ q. read (content id) q (up_to at next)) (sym n.1) ∙ h.1 k.0 in
+          inr (content-stops old.place (up_to at old) now.place (up_to at now) last m b (up_to at next) here f id i
+          (halt at End at) g),
     )
     content-fails id i end (Bad at why) h = (
       Stopped-behind old next end (GoesOn-trans old now next found.going n.0) h.0,
@@ -90,7 +107,7 @@ module _ (old now next : Input) (last : ℕ) (m : Parts) (found : Finds old now 
     )
 
     pub finds-more : (id : SectionKind) → id_of last b ≡ Ok id → (s : Section) (end : Input)
-        → Gave next end (Ok s) (read (content id) next.place next.left) → Finds old end (after last s) (put m s)
+        → Gave next end (Ok s) (λ x. read (content id) next.place x) → Finds old end (after last s) (put m s)
     finds-more id i s end h = record {
       going = GoesOn-trans old next end (GoesOn-trans old now next found.going n.0) h.0;
       bytes = λ w.
@@ -101,14 +118,20 @@ module _ (old now next : Input) (last : ℕ) (m : Parts) (found : Finds old now 
           (c.0, one-more old.place old.left now.place now.left last m b next.left k.1 f.1 id i s end.place end.left (rw place at c.1));
     }
 
+-- from the first byte on
+from-start : (at : ℕ) (i : Input) → i.place ≡ 0 → up_to at i ≡ take at i.left
+from-start at i z = let all : at - i.place ≡ at = omega arith in ap (λ n. take n i.left) all
+
 pub preamble-fails : (old end : Input) → old.place ≡ 0 → (e : BinFault)
-    → Fails old end e (read preamble old.place old.left) → ModuleGives old end (Err e)
+    → Fails old end e (λ x. read preamble old.place x) → ModuleGives old end (Err e)
 preamble-fails old end z Memory h = h
 preamble-fails old end z (Read at) h = (
   h.0,
-  λ w o.
-      let k = rw z at (h.1 w o) in
-      let t = rw k at (read-told {A = Unit {0}} preamble 0 old.left) in
+  λ w.
+      let x = take at old.left in
+      let k : read preamble 0 x ≡ Err (halt at End at) =
+      ap (λ q. read preamble q x) (sym z) ∙ ap (λ y. read preamble old.place y) (sym (from-start at old z)) ∙ h.1 w in
+      let t = rw k at (read-told {A = Unit {0}} preamble 0 x) in
       inr (inl (at, inl t)),
 )
 preamble-fails old end z (Bad at why) h =
@@ -126,7 +149,7 @@ cut-short x a b at split head (inl whole) =
     ]
 
 module _ (old mid end : Input) (z : old.place ≡ 0) (u : Unit {0})
-    (h : Gave old mid (Ok u) (read preamble old.place old.left)) where
+    (h : Gave old mid (Ok u) (λ x. read preamble old.place x)) where
   -- the preamble, and what is left behind it
   preamble-read : IsTrue old.known
       → IsTrue mid.known × ((a : List ℕ) × (old.left ≡ a ++ mid.left) × Spells preamble a tt × (mid.place ≡ length a))
@@ -140,11 +163,12 @@ module _ (old mid end : Input) (z : old.place ≡ 0) (u : Unit {0})
   sections-fail Memory k = Stopped-behind old mid end h.0 k
   sections-fail (Read at) k = (
     ReadFailed-behind old mid end at h.0 k.0,
-    λ w o.
+    λ w.
         let t = preamble-read w in
-        let place = t.1.3 in
-        let cut = rw place at (k.1 t.0 o) in
-        cut-short old.left t.1.0 mid.left at t.1.1 t.1.2 cut,
+        let behind : mid.place ≡ old.place + length t.1.0 = omega (arith, t.1.3, z) in
+        let split = bytes-split old mid t.1.0 t.1.1 behind (Some at) k.0.forward in
+        let cut = subst (λ q. CutsSections q (up_to at mid) at) t.1.3 (k.1 t.0) in
+        cut-short (take at old.left) t.1.0 (up_to at mid) at (sym (from-start at old z) ∙ split) t.1.2 cut,
   )
   sections-fail (Bad at why) k = (
     Stopped-behind old mid end h.0 k.0,

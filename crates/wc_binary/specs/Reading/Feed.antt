@@ -1,5 +1,5 @@
 -- What a buffered reader is to contracts.
-use Rattle.std.specs.Prelude.{ℕ, ◌-◌, ◌||◌, Bool, true, false, ◌++◌, List, [], ◌∷◌, take, drop, Option, Some, None}
+use Rattle.std.specs.Prelude.{ℕ, ◌-◌, ◌||◌, ◌++◌, List, [], take, drop, Option}
 use Rattle.std.specs.Option.{is_some, unwrap_or}
 use Rattle.wc_device.specs.Device.{device_inner, failed_at, has_failed, has_ended, was_asked_again, read_count}
 use Rattle.wc_binary.specs.declared.source.feed.Feed.{Feed}
@@ -9,12 +9,6 @@ use Rattle.wc_binary.specs.Reading.Source.{Input}
 abbrev pub pending : {R : Type 0} → Feed R → List ℕ
 pending f = drop f.at (take f.end f.buffer)
 
--- whether the reader tells no byte to come
-abbrev pub is_over : Option (List ℕ) → Bool
-is_over None = true
-is_over (Some []) = true
-is_over (Some (b ∷ x)) = false
-
 -- the input that it is: what is pending, and then what the reader tells
 abbrev pub feed_input : {R : Type 0} → (R → Option (List ℕ)) → Feed R → Input
 feed_input remaining f =
@@ -23,7 +17,6 @@ feed_input remaining f =
       place = read_count f.device.now - (f.end - f.at);
       known = is_some rest;
       left = pending f ++ unwrap_or rest [];
-      over = is_over rest;
       count = read_count f.device.now;
       failed = failed_at f.device.now;
       spent = has_failed f.device.now || has_ended f.device.now;

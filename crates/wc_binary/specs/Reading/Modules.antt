@@ -1,5 +1,5 @@
 -- What the readers of sections and of a whole module answer over a source.
-use Rattle.std.specs.Prelude.{◌≡◌, ◌+◌, ◌⊎◌, ℕ, IsTrue, List, length, Result, Ok, Err}
+use Rattle.std.specs.Prelude.{◌≡◌, ◌+◌, ◌⊎◌, ℕ, IsTrue, List, length, take, Result, Ok, Err}
 use Rattle.wc_ast.specs.declared.module.Module.{Module}
 use Rattle.wc_binary.specs.declared.fault.BinFault.{BinFault}
 use Rattle.wc_binary.specs.declared.fault.BinFault.TheVariants.{Bad, Read, Memory}
@@ -11,7 +11,7 @@ use Rattle.wc_binary.specs.Standard.Phrase.{halt}
 use Rattle.wc_binary.specs.Standard.Sections.{nothing}
 use Rattle.wc_binary.specs.Standard.Module.{Bin, StopB, AreSections, StopsSections, put_all}
 use Rattle.wc_binary.specs.Standard.Decoding.{IsCutShort}
-use Rattle.wc_binary.specs.Reading.Source.{Input, Stopped, ReadFailed, IsEnded}
+use Rattle.wc_binary.specs.Reading.Source.{Input, up_to, Stopped, ReadFailed, IsEnded}
 
 -- sections to this place, which is the end of the bytes, or where the next byte of one is missing
 abbrev pub CutsSections : ℕ → List ℕ → ℕ → Type 0
@@ -28,7 +28,7 @@ SectionsGive old new (Ok p) =
 SectionsGive old new (Err (Bad at why)) =
     Stopped old new × (IsTrue old.known → StopsSections 0 old.place old.left (halt at why new.place))
 SectionsGive old new (Err (Read at)) =
-    ReadFailed old new at × (IsTrue old.known → IsTrue new.over → CutsSections old.place old.left at)
+    ReadFailed old new at × (IsTrue old.known → CutsSections old.place (up_to at old) at)
 SectionsGive old new (Err Memory) = Stopped old new
 
 -- the module that the bytes spell, to the end; or where they stop
@@ -37,5 +37,5 @@ ModuleGives old new (Ok m) =
     Stopped old new × (IsTrue old.known → Bin old.left m × (new.place ≡ length old.left)) × IsEnded new
 ModuleGives old new (Err (Bad at why)) = Stopped old new × (IsTrue old.known → StopB old.left (halt at why new.place))
 ModuleGives old new (Err (Read at)) =
-    ReadFailed old new at × (IsTrue old.known → IsTrue new.over → IsCutShort old.left at)
+    ReadFailed old new at × (IsTrue old.known → IsCutShort (take at old.left) at)
 ModuleGives old new (Err Memory) = Stopped old new

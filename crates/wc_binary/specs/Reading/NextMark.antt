@@ -34,15 +34,16 @@ abbrev pub mark_behind :
 mark_behind d k o x =
     behind_opcode opcode (λ u q y. read (follows u) q y) (λ q y. read block_type q y) (standing_behind d k) o x
 
--- the answer is the entry of the mark that the reading r gives
-abbrev pub GaveEntry : Input → Input → Result Entry BinFault → Result (Got (Mark Instr BlockType)) Halt → Type 0
+-- the answer is the entry of the mark that the reading r gives of the bytes to come
+abbrev pub GaveEntry :
+    Input → Input → Result Entry BinFault → (List ℕ → Result (Got (Mark Instr BlockType)) Halt) → Type 0
 GaveEntry old new (Ok e) r = Gave old new (Ok (mark e)) r
 GaveEntry old new (Err f) r = Fails old new f r
 
 -- the same of what follows an opcode that begins k behind the draft
 abbrev pub GivesEntry :
     Draft Instr BlockType → Result (Begun Op) BinWhy → ℕ → Input → Input → Result Entry BinFault → Type 0
-GivesEntry d k at old new result = GaveEntry old new result (mark_behind d k at old.left)
+GivesEntry d k at old new result = GaveEntry old new result (λ x. mark_behind d k at x)
 
 -- the entry opens none beyond the limit, and it may come next unless it ends the expression
 abbrev pub MayStand : Draft Instr BlockType → Entry → Type 0

@@ -1,5 +1,5 @@
 -- What a source of bytes is to contracts, what it answers, and what a reader of a phrase answers over it.
-use Rattle.std.specs.Prelude.{◌≡◌, ℕ, ◌+◌, ◌≤◌, Bool, false, IsTrue, List, [], ◌∷◌, ◌++◌, length, drop, Option, Some}
+use Rattle.std.specs.Prelude.{◌≡◌, ℕ, ◌+◌, ◌-◌, ◌≤◌, Bool, false, IsTrue, List, [], ◌∷◌, ◌++◌, length, drop, Option, Some}
 use Rattle.std.specs.Prelude.{None, is_some, take, Result, Ok, Err}
 use Rattle.std.specs.List.{AllByRecursion}
 use Rattle.wc_binary.specs.declared.fault.BinFault.{BinFault}
@@ -16,8 +16,6 @@ pub record Input : Type 0 where
   -- the bytes to come, where they are known
   pub known : Bool
   pub left : List ℕ
-  -- whether no byte is to come from the device
-  pub over : Bool
   -- how many bytes were read from the device, and how many when a read failed
   pub count : ℕ
   pub failed : Option ℕ
@@ -26,6 +24,10 @@ pub record Input : Type 0 where
   pub asked : Bool
   -- the loan of the device
   pub lender : ℕ
+
+-- the bytes to come up to this place
+abbrev pub up_to : ℕ → Input → List ℕ
+up_to at i = take (at - i.place) i.left
 
 -- reading went forward, on the same device, and no read failed or was told the end
 pub record GoesOn (old new : Input) : Type 0 where
@@ -44,6 +46,7 @@ pub record Stopped (old new : Input) : Type 0 where
 
 -- a read of the same device failed after so many bytes, and none was asked for after that
 pub record ReadFailed (old new : Input) (at : ℕ) : Type 0 where
+  pub forward : old.place ≤ at
   pub has_failed : IsTrue (is_some new.failed)
   pub failed : old.failed ≡ None → new.failed ≡ Some at
   pub count : at ≡ new.count
@@ -62,7 +65,7 @@ NextGives old new (Ok (Some b)) =
     GoesOn old new × (new.place ≡ old.place + 1) × (IsTrue old.known → IsTrue new.known × (old.left ≡ b ∷ new.left))
     × IsByte b
 NextGives old new (Err (Read at)) =
-    ReadFailed old new at × (IsTrue old.known → IsTrue new.over → old.left ≡ []) × (at ≡ old.place)
+    ReadFailed old new at × (up_to at old ≡ []) × (at ≡ old.place)
 NextGives old new (Err e) = ⊥
 
 -- the next byte was taken, or that none is left was told at its place
@@ -92,18 +95,18 @@ Passes most old new count =
     × AllByRecursion IsByte (take count old.left))
 
 -- what was told in place of what the reading `r` gives: its fault; or that a read failed, where the bytes before it
--- have no fault but that the next one is missing, which `r` says where no more are to come
-abbrev pub Fails : {A : Type 0} → Input → Input → BinFault → Result (Got A) Halt → Type 0
-Fails old new (Bad at why) r = Stopped old new × (IsTrue old.known → r ≡ Err (halt at why new.place))
-Fails old new (Read at) r =
-    ReadFailed old new at × (IsTrue old.known → IsTrue new.over → r ≡ Err (halt at End at))
+-- have no fault but that the next one is missing
+abbrev pub Fails : {A : Type 0} → Input → Input → BinFault → (List ℕ → Result (Got A) Halt) → Type 0
+Fails old new (Bad at why) r = Stopped old new × (IsTrue old.known → r old.left ≡ Err (halt at why new.place))
+Fails old new (Read at) r = ReadFailed old new at × (IsTrue old.known → r (up_to at old) ≡ Err (halt at End at))
 Fails old new Memory r = Stopped old new
 
--- the answer is what the reading `r` gives
-abbrev pub Gave : {A : Type 0} → Input → Input → Result A BinFault → Result (Got A) Halt → Type 0
-Gave old new (Ok v) r = GoesOn old new × (IsTrue old.known → IsTrue new.known × (r ≡ got v new.place new.left))
+-- the answer is what the reading `r` gives of the bytes to come
+abbrev pub Gave : {A : Type 0} → Input → Input → Result A BinFault → (List ℕ → Result (Got A) Halt) → Type 0
+Gave old new (Ok v) r =
+    GoesOn old new × (IsTrue old.known → IsTrue new.known × (r old.left ≡ got v new.place new.left))
 Gave old new (Err e) r = Fails old new e r
 
 -- the answer is what reading the phrase gives
 abbrev pub Gives : {A : Type 0} → Phrase A → Input → Input → Result A BinFault → Type 0
-Gives p old new result = Gave old new result (read p old.place old.left)
+Gives p old new result = Gave old new result (λ x. read p old.place x)

@@ -1,5 +1,5 @@
 -- What decoding answers.
-use Rattle.std.specs.Prelude.{◌≡◌, ◌⊎◌, ℕ, ◌+◌, ◌≤◌, Bool, true, false, List, length, Result, Ok, Err, MatchResult, ⊤}
+use Rattle.std.specs.Prelude.{◌≡◌, ◌⊎◌, ℕ, ◌+◌, ◌≤◌, Bool, true, false, List, length, take, Result, Ok, Err, MatchResult, ⊤}
 use Rattle.wc_binary.specs.declared.fault.BinWhy.{BinWhy}
 use Rattle.wc_binary.specs.declared.fault.BinWhy.TheVariants.{End, Counts}
 use Rattle.wc_ast.specs.declared.module.Module.{Module}
@@ -52,9 +52,9 @@ abbrev pub IsCutShort : List ℕ → ℕ → Type 0
 IsCutShort x at =
     ((m : Module) × Bin x m × (at ≡ length x)) ⊎ (FirstFault x at End ⊎ FirstFault x at Counts)
 
--- a failed read was told, and no fault of the bytes that were read before it
+-- a failed read was told, and no fault of the bytes that were read before it, which are those up to its place
 abbrev pub DecodesCut : List ℕ → Result Module BinFault → Type 0
 DecodesCut x (Ok m) = ⊤
 DecodesCut x (Err (Bad at why)) = ⊤
-DecodesCut x (Err (Read at)) = IsCutShort x at
+DecodesCut x (Err (Read at)) = IsCutShort (take at x) at
 DecodesCut x (Err Memory) = ⊤

@@ -14,8 +14,7 @@ use wc_leb128::{Step, Unsigned, unsigned_in_one};
 #[inline(never)]
 fn unsigned_from<S: Source>(start: u64, first: u8, source: &mut S) -> Result<u32, BinFault>
     requires { (S.input source.old).place ≡ start + 1 }
-    ensures { Gave (S.input source.old) (S.input source.new) result
-        (unsigned_at 32 start (first ∷ (S.input source.old).left)) }
+    ensures { Gave (S.input source.old) (S.input source.new) result (λ x. unsigned_at 32 start (first ∷ x)) }
 {
     let mut so_far = Unsigned::<32>::new();
     let mut at = start;

@@ -21,8 +21,7 @@ pub fn signed_from<const N: u32, S: Source>(
     requires some_bits { 0 < N }
     requires fits_i64 { N ≤ 64 }
     requires behind { (S.input source.old).place ≡ start + 1 }
-    ensures gives { Gave (S.input source.old) (S.input source.new) result
-        (signed_at N start (first ∷ (S.input source.old).left)) }
+    ensures gives { Gave (S.input source.old) (S.input source.new) result (λ x. signed_at N start (first ∷ x)) }
     ensures holds { IfOk result (λ v. HoldsSigned N v) }
 {
     let mut so_far = Signed::<N>::new();

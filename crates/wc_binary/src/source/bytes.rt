@@ -22,7 +22,6 @@ impl Source for Bytes<'_> {
       place = s.at;
       known = true;
       left = drop s.at s.bytes.now;
-      over = true;
       count = length s.bytes.now;
       failed = None;
       spent = false;

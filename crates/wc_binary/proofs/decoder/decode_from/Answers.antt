@@ -34,11 +34,7 @@ pub returns-clause-cut : goal.returns-clause-cut
 returns-clause-cut g c =
     let copied = c.copy_from_slice.ensures.after in
     let front = take_at _ _ _ (ap length copied) ∙ copied in
-    let to_come = g.R.Read.remaining (device_inner c.whole_module.new.source.device.now) in
-    let cut = cut-fed _ _ c.whole_module.result c.whole_module.ensures c.args.front.now _ front
-    (g.R.Read.remaining (device_inner c.args.device.now)) (refl, refl) to_come refl in
-    let lent = same-lender _ _ c.whole_module.result c.whole_module.ensures in
-    search rules
+    cut-fed _ _ c.whole_module.result c.whole_module.ensures c.args.front.now _ front _ (refl, refl)
 
 pub returns-clause-end : goal.returns-clause-end
 returns-clause-end g c =

@@ -23,7 +23,7 @@ returns-in_err-decode_from-clause-near g c = λ x all.
     c.from_residual.ensures.1
 
 pub returns-in_err-decode_from-clause-cut : goal.returns-in_err-decode_from-clause-cut
-returns-in_err-decode_from-clause-cut g c = λ x all over.
+returns-in_err-decode_from-clause-cut g c = λ x all.
     cut-decoded x _ _ (begins-as x _ _ _ c.requires.some c.requires.is_binary all)
-    (of-all x _ _ (λ u. DecodesCut u (Err c.in_err-decode_from.field-0.0)) all (c.in_err-decode_from.ensures.cut over))
+    (of-all x _ _ (λ u. DecodesCut u (Err c.in_err-decode_from.field-0.0)) all c.in_err-decode_from.ensures.cut)
     c.from_residual.ensures.1

@@ -3,9 +3,9 @@ use Rattle.wc_canon.proofs.FailedReads.{text-cut-told}
 use Rattle.wc_canon.proofs.from_reader.read_text.Goals as goal
 
 pub returns-in_err-text-clause-cut : goal.returns-in_err-text-clause-cut
-returns-in_err-text-clause-cut g c = λ x all over.
+returns-in_err-text-clause-cut g c = λ x all.
     text-cut-told x _ _ (begins-as x _ _ _ c.requires.some c.requires.is_text all)
-    (λ at is. c.in_err-text.ensures.cut at is x all over) c.from_residual.ensures.1
+    (λ at is. c.in_err-text.ensures.cut at is x all) c.from_residual.ensures.1
 
 pub returns-in_err-read-clause-judges : goal.returns-in_err-read-clause-judges
 returns-in_err-read-clause-judges g c = λ x all.

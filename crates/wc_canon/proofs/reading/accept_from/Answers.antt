@@ -27,4 +27,4 @@ returns-in_err-judge-clause-first_failure g c =
     refused-fails-at _ _ _ c.from_residual-in_err-judge.ensures.1
 
 pub returns-in_err-judge-clause-cut : goal.returns-in_err-judge-clause-cut
-returns-in_err-judge-clause-cut g c over = cut-refused _ _ _ c.from_residual-in_err-judge.ensures.1
+returns-in_err-judge-clause-cut g c = cut-refused _ _ _ c.from_residual-in_err-judge.ensures.1

@@ -28,4 +28,4 @@ returns-in_err-canonical_bytes-clause-first_failure g c =
     refused-fails-at _ _ _ c.from_residual-in_err-canonical_bytes.ensures.1
 
 pub returns-in_err-canonical_bytes-clause-cut : goal.returns-in_err-canonical_bytes-clause-cut
-returns-in_err-canonical_bytes-clause-cut g c over = cut-refused _ _ _ c.from_residual-in_err-canonical_bytes.ensures.1
+returns-in_err-canonical_bytes-clause-cut g c = cut-refused _ _ _ c.from_residual-in_err-canonical_bytes.ensures.1

@@ -29,7 +29,7 @@ returns-in_err-canonical_bytes-clause-first_failure g c =
     refused-fails-at _ _ _ c.from_residual-in_err-canonical_bytes.ensures.1
 
 pub returns-in_err-canonical_bytes-clause-cut : goal.returns-in_err-canonical_bytes-clause-cut
-returns-in_err-canonical_bytes-clause-cut g c over = cut-refused _ _ _ c.from_residual-in_err-canonical_bytes.ensures.1
+returns-in_err-canonical_bytes-clause-cut g c = cut-refused _ _ _ c.from_residual-in_err-canonical_bytes.ensures.1
 
 -- of the printing memory alone is told
 pub returns-in_err-text_of-clause-near : goal.returns-in_err-text_of-clause-near
@@ -44,4 +44,4 @@ pub returns-in_err-text_of-clause-first_failure : goal.returns-in_err-text_of-cl
 returns-in_err-text_of-clause-first_failure g c = refused-fails-at _ Memory _ c.from_residual-in_err-text_of.ensures.1
 
 pub returns-in_err-text_of-clause-cut : goal.returns-in_err-text_of-clause-cut
-returns-in_err-text_of-clause-cut g c over = cut-refused _ Memory _ c.from_residual-in_err-text_of.ensures.1
+returns-in_err-text_of-clause-cut g c = cut-refused _ Memory _ c.from_residual-in_err-text_of.ensures.1

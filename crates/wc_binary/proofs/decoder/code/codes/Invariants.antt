@@ -2,12 +2,13 @@ use Rattle.std.proofs.Common.{◌-◌}
 use Rattle.wc_binary.specs.Reading.Reading.{read}
 use Rattle.wc_binary.specs.Standard.Values.{times}
 use Rattle.wc_binary.specs.Standard.Contents.{code}
-use Rattle.wc_binary.proofs.reading.Times.{Leads, with_first}
+use Rattle.wc_binary.proofs.reading.Behind.{Leads}
+use Rattle.wc_binary.proofs.reading.Times.{with_first}
 use Rattle.wc_binary.proofs.decoder.code.codes.Given as goal
 
 abbrev pub invariant-loop : goal.invariant-loop
 invariant-loop g l =
     let old = g.S.Source.input l.fn.source in
     let now = g.S.Source.input l.source in
-    Leads old now (with_first l.codes (read (times (l.count - l.counter) code) now.place now.left))
-    (read (times l.count code) old.place old.left)
+    Leads old now (λ x. with_first l.codes (read (times (l.count - l.counter) code) now.place x))
+    (λ x. read (times l.count code) old.place x)

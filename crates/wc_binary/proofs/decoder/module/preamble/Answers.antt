@@ -2,7 +2,7 @@ use Rattle.std.proofs.Common.{[], ◌∷◌}
 use Rattle.wc_binary.specs.declared.fault.BinWhy.TheVariants.{Magic, Version}
 use Rattle.wc_binary.specs.Standard.Values.{exactly}
 use Rattle.wc_binary.specs.Standard.Module.{preamble}
-use Rattle.wc_binary.proofs.reading.Times.{then-gives}
+use Rattle.wc_binary.proofs.reading.Behind.{then-gives}
 use Rattle.wc_binary.proofs.decoder.module.preamble.Goals as goal
 
 pub returns : goal.returns

@@ -1,6 +1,6 @@
 use Rattle.std.proofs.lemmas.Result.{err_from_is_err_and}
 use Rattle.wc_binary.specs.Standard.Types.{table_type}
-use Rattle.wc_binary.proofs.reading.Times.{times-more, times-fails}
+use Rattle.wc_binary.proofs.reading.Times.{times-more, times-fails, times-done}
 use Rattle.wc_binary.proofs.decoder.types.table_types.Goals as goal
 
 pub loop-preserved : goal.loop-preserved
@@ -15,3 +15,7 @@ returns-in_err-table_type g c =
     rw (p.1, p.2)
     (times-fails table_type c.loop.tables c.args.count c.loop.counter _ _ _ c.loop.invariant c.loop-test.true _
     c.in_err-table_type.field-0.0 c.in_err-table_type.ensures)
+
+pub returns : goal.returns
+returns g c =
+    times-done table_type c.loop.tables c.args.count c.loop.counter _ _ _ c.loop.invariant c.loop-test.false

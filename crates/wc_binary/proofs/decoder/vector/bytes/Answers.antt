@@ -1,7 +1,8 @@
-use Rattle.std.proofs.Common.{arith, ◌<◌, length}
+use Rattle.std.proofs.Common.{arith, ◌<◌, ◌≤◌, length}
 use Rattle.std.proofs.lemmas.Result.{err_from_is_err_and}
 use Rattle.wc_binary.proofs.reading.Going.{byte-fails}
-use Rattle.wc_binary.proofs.reading.Times.{times-end, times-round}
+use Rattle.wc_binary.proofs.reading.Times.{times-end, times-round, times-done}
+use Rattle.wc_binary.specs.Standard.Values.{any_byte}
 use Rattle.wc_binary.proofs.decoder.vector.bytes.Goals as goal
 
 pub returns-in_err-byte-clause-gives : goal.returns-in_err-byte-clause-gives
@@ -22,3 +23,10 @@ loop-source-preserved g c =
     _ c.in_ok-push.ensures.items _ t.0 _ t.1
     (omega (arith, t.2, c.len-in-loop-source.ensures, c.push.new.self.ok.0)) t.3 in
     record { counted = r.0; leads = r.1 }
+
+pub returns-clause-gives : goal.returns-clause-gives
+returns-clause-gives g c =
+    let le : c.args.count ≤ length c.loop-source.bytes.items =
+    omega (arith, rw c.len.ensures at c.loop-source-test.false) in
+    rw c.from_vec.ensures (times-done any_byte c.loop-source.bytes.items c.args.count (length c.loop-source.bytes.items) _
+    _ _ c.loop-source.invariant.leads le)

@@ -1,7 +1,8 @@
 use Rattle.std.proofs.Common.{◌-◌, ◌≤◌, length}
 use Rattle.wc_binary.specs.Reading.Reading.{read}
 use Rattle.wc_binary.specs.Standard.Values.{times, any_byte}
-use Rattle.wc_binary.proofs.reading.Times.{Leads, with_first}
+use Rattle.wc_binary.proofs.reading.Behind.{Leads}
+use Rattle.wc_binary.proofs.reading.Times.{with_first}
 use Rattle.wc_binary.proofs.decoder.vector.bytes.Given as goal
 
 abbrev pub invariant-loop-source : goal.invariant-loop-source
@@ -12,8 +13,8 @@ invariant-loop-source g l =
       counted : length l.bytes.items ≤ l.count;
       leads :
           Leads old now
-          (with_first l.bytes.items (read (times (l.count - length l.bytes.items) any_byte) now.place now.left))
-          (read (times l.count any_byte) old.place old.left);
+          (λ x. with_first l.bytes.items (read (times (l.count - length l.bytes.items) any_byte) now.place x))
+          (λ x. read (times l.count any_byte) old.place x);
     }
 
 abbrev pub decreases-loop-source : goal.decreases-loop-source

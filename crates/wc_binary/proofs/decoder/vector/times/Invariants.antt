@@ -1,7 +1,8 @@
 use Rattle.std.proofs.Common.{◌≡◌, ◌-◌, length}
 use Rattle.wc_binary.specs.Reading.Reading.{read}
 use Rattle.wc_binary.specs.Standard.Values.{times}
-use Rattle.wc_binary.proofs.reading.Times.{Leads, with_first}
+use Rattle.wc_binary.proofs.reading.Behind.{Leads}
+use Rattle.wc_binary.proofs.reading.Times.{with_first}
 use Rattle.wc_binary.proofs.decoder.vector.times.Given as goal
 
 abbrev pub invariant-loop : goal.invariant-loop
@@ -11,6 +12,6 @@ invariant-loop g l =
     record {
       counted : length l.values ≡ l.counter;
       leads :
-          Leads old now (with_first l.values (read (times (l.count - l.counter) g.V.FromSource.phrase) now.place now.left))
-          (read (times l.count g.V.FromSource.phrase) old.place old.left);
+          Leads old now (λ x. with_first l.values (read (times (l.count - l.counter) g.V.FromSource.phrase) now.place x))
+          (λ x. read (times l.count g.V.FromSource.phrase) old.place x);
     }
