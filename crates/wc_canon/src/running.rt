@@ -65,6 +65,9 @@ pub fn run<R: Read, W: Write>(
     ensures first_failure { IfErr result (λ e. (at : ℕ) → e ≡ RunFault.Read at → failed_at r.new ≡ Some at) }
     ensures again { has_ended r.old ≡ false → was_asked_again r.new ≡ was_asked_again r.old }
 
+    // An answer is that of all bytes of the reader.
+    ensures end { OnOk result (IsAtEnd (R.remaining (device_inner r.new))) }
+
     // A fault in bytes that were read is told, and no failure of a later read: where the bytes that the reader tells
     // are those that it gave before it failed, they have no fault that shows before their end.
     ensures cut { IsAtEnd (R.remaining (device_inner r.new)) → IfErr result
