@@ -1,5 +1,6 @@
 -- What a comparison of two inputs tells.
-use Rattle.std.specs.Prelude.{◌≢◌, ℕ, List, Bool, true, false, Option, IfSome, Result, Ok, Err, ⊤}
+use Rattle.std.specs.Prelude.{◌≢◌, ◌⊎◌, ℕ, List, Bool, true, false, Option, IfSome, Result, Ok, Err, ⊤}
+use Rattle.std.specs.Io.KnownBytes.{IsAtEnd}
 use Rattle.wc_ast.specs.declared.module.Module.{Module}
 use Rattle.wc_canon.specs.declared.fault.Refusal.{Refusal}
 use Rattle.wc_canon.specs.declared.fault.RunFault.{RunFault}
@@ -9,6 +10,7 @@ use Rattle.wc_canon.specs.declared.comparing.Comparison.TheVariants.{Same, Diffe
 use Rattle.wc_canon.specs.declared.comparing.Side.{Side}
 use Rattle.wc_canon.specs.declared.comparing.Side.TheVariants.{A, B}
 use Rattle.wc_canon.specs.Input.{Means, IsAccepted, HasFault, IsRefused}
+use Rattle.wc_canon.specs.Run.{RefusesNear}
 
 -- both inputs are accepted and denote the same module
 abbrev pub IsSame : List ℕ → List ℕ → Type 0
@@ -47,6 +49,23 @@ ComparesFrom x y (Err e) = FaultsSide x y e.0 e.1
 abbrev pub OfSide : Side → (RunFault → Type 0) → (RunFault → Type 0) → RunFault → Type 0
 OfSide A P Q f = P f
 OfSide B P Q f = Q f
+
+-- the bytes of a reader were judged: it was read to its end, or as far as their fault shows. x are its bytes before and
+-- new those after, where they are known; count is how many were read
+abbrev pub WasJudged : Option (List ℕ) → Option (List ℕ) → ℕ → Type 0
+WasJudged x new count = IsAtEnd new ⊎ ((f : Refusal) × IfSome x (λ u. HasFault u f × RefusesNear count (Refused f) u))
+
+-- which sides were judged: both behind a comparison and a refusal, whatever side it names, and A behind what else is told
+-- of B. P says that A was, Q that B was, and N that B wasn't asked for anything
+abbrev pub GoesOver : Type 0 → Type 0 → Type 0 → Result Comparison (Side × RunFault) → Type 0
+GoesOver P Q N (Ok c) = P × Q
+GoesOver P Q N (Err (side, Refused f)) = P × Q
+GoesOver P Q N (Err (A, Read at)) = N
+GoesOver P Q N (Err (A, Write written)) = N
+GoesOver P Q N (Err (A, Memory)) = N
+GoesOver P Q N (Err (B, Read at)) = P
+GoesOver P Q N (Err (B, Write written)) = P
+GoesOver P Q N (Err (B, Memory)) = P
 
 -- a failed read was told of the side
 abbrev pub is_read_fault_of : Side → Result Comparison (Side × RunFault) → Bool

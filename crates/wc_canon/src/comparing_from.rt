@@ -1,10 +1,11 @@
 //! Whether the bytes of two readers denote the same module.
 
-ghost use Rattle.std.specs.Prelude.{ℕ, ◌≡◌, ◌≢◌, IfErr, IfOk, IfSome, Some, false};
+ghost use Rattle.std.specs.Prelude.{ℕ, ◌≡◌, ◌≢◌, IfErr, IfOk, IfSome, OnOk, Some, false};
+ghost use Rattle.std.specs.Io.KnownBytes.{IsAtEnd};
 ghost use Rattle.wc_device.specs.Device.{device_inner, failed_at, has_failed, has_ended, was_asked_again, read_count};
 ghost use Rattle.wc_canon.specs.declared.fault.Refusal.TheVariants as refusals;
 ghost use Rattle.wc_canon.specs.Run.{RefusesNear, ReadsCut, is_read_fault};
-ghost use Rattle.wc_canon.specs.Comparing.{ComparesFrom, OfSide, is_read_fault_of};
+ghost use Rattle.wc_canon.specs.Comparing.{ComparesFrom, OfSide, WasJudged, GoesOver, is_read_fault_of};
 ghost use Rattle.wc_canon.specs.Inner.Sides.{IsJudgedFrom, IsUnjudged};
 
 use crate::comparing::{Comparison, Side, tell_apart};
@@ -24,6 +25,8 @@ fn judge_from<R: Read>(
     ensures judged { IfOk result (IsJudgedFrom (R.remaining (device_inner r.old))) }
     ensures near { IfOk result (λ j. IfErr j (λ f. IfSome (R.remaining (device_inner r.old))
         (RefusesNear (read_count r.new) (RunFault.Refused f)))) }
+    ensures goes_over { OnOk result (WasJudged (R.remaining (device_inner r.old)) (R.remaining (device_inner r.new))
+        (read_count r.new)) }
     ensures memory { IfOk result (λ j. IfErr j (λ f. f ≢ refusals.Memory)) }
     ensures unjudged { IfErr result IsUnjudged }
     ensures read { is_read_fault result ≡ has_failed r.new }
@@ -58,6 +61,13 @@ pub fn compare_from<R: Read, S: Read>(
         (λ f. IfSome (R.remaining (device_inner a.old)) (RefusesNear (read_count a.new) f))
         (λ f. IfSome (S.remaining (device_inner b.old)) (RefusesNear (read_count b.new) f)) e.1) }
     ensures memory { IfErr result (λ e. e.1 ≢ RunFault.Refused refusals.Memory) }
+
+    // Behind a comparison or a refusal both sides were judged, B also where A is refused. Want of memory is told of A only
+    // while nothing was asked of B, and of B only once A was judged.
+    ensures goes_over { GoesOver
+        (WasJudged (R.remaining (device_inner a.old)) (R.remaining (device_inner a.new)) (read_count a.new))
+        (WasJudged (S.remaining (device_inner b.old)) (S.remaining (device_inner b.new)) (read_count b.new))
+        (b.new ≡ b.old) result }
 
     // A read is told as failed exactly where it did, at its place, and nothing is read after that or after the end.
     ensures read_a { is_read_fault_of Side.A result ≡ has_failed a.new }

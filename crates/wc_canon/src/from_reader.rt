@@ -75,6 +75,7 @@ fn read_text<R: Read>(
     ensures read_at { IfErr result (λ e. (at : ℕ) → e ≡ RunFault.Read at → at ≡ read_count r.new) }
     ensures first_failure { IfErr result (λ e. (at : ℕ) → e ≡ RunFault.Read at → failed_at r.new ≡ Some at) }
     ensures again { has_ended r.old ≡ false → was_asked_again r.new ≡ was_asked_again r.old }
+    ensures end { OnOk result (IsAtEnd (R.remaining (device_inner r.new))) }
     ensures cut { (x : Maybe (List ℕ)) → Consumes x (R.remaining (device_inner r.old)) front.now
         → IfErr result (λ e. IfSome x (ReadsCut e)) }
     ensures unwritten { is_write_fault result ≡ false }
@@ -104,6 +105,7 @@ fn read_binary<R: Read>(
     ensures read_at { IfErr result (λ e. (at : ℕ) → e ≡ RunFault.Read at → at ≡ read_count r.new) }
     ensures first_failure { IfErr result (λ e. (at : ℕ) → e ≡ RunFault.Read at → failed_at r.new ≡ Some at) }
     ensures again { has_ended r.old ≡ false → was_asked_again r.new ≡ was_asked_again r.old }
+    ensures end { OnOk result (IsAtEnd (R.remaining (device_inner r.new))) }
     ensures cut { (x : Maybe (List ℕ)) → Consumes x (R.remaining (device_inner r.old)) front.now
         → IfErr result (λ e. IfSome x (ReadsCut e)) }
     ensures unwritten { is_write_fault result ≡ false }
@@ -138,6 +140,7 @@ pub(crate) fn read_module<R: Read>(
     ensures read_at { IfErr result (λ e. (at : ℕ) → e ≡ RunFault.Read at → at ≡ read_count r.new) }
     ensures first_failure { IfErr result (λ e. (at : ℕ) → e ≡ RunFault.Read at → failed_at r.new ≡ Some at) }
     ensures again { has_ended r.old ≡ false → was_asked_again r.new ≡ was_asked_again r.old }
+    ensures end { OnOk result (IsAtEnd (R.remaining (device_inner r.new))) }
     ensures cut { IfErr result (λ e. IfSome (R.remaining (device_inner r.old)) (ReadsCut e)) }
     ensures unwritten { is_write_fault result ≡ false }
     ensures memory { ¬ (IsErrOf result (RunFault.Refused refusals.Memory)) }

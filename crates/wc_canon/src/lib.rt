@@ -16,6 +16,7 @@ mod printing;
 mod reading;
 mod rendering;
 mod running;
+mod version;
 
 pub use accepting::accept;
 pub use comparing::{Comparison, Side, compare};
@@ -31,3 +32,4 @@ pub use printing::to_text;
 pub use reading::{accept_from, normalise_from, text_from};
 pub use rendering::render;
 pub use running::{Job, run};
+pub use version::VERSION;

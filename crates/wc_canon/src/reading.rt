@@ -35,6 +35,7 @@ pub fn normalise_from<R: Read>(alloc: Global, r: &mut Device<R>) -> Result<Vec<u
     ensures read_at { IfErr result (λ e. (at : ℕ) → e ≡ RunFault.Read at → at ≡ read_count r.new) }
     ensures first_failure { IfErr result (λ e. (at : ℕ) → e ≡ RunFault.Read at → failed_at r.new ≡ Some at) }
     ensures again { has_ended r.old ≡ false → was_asked_again r.new ≡ was_asked_again r.old }
+    ensures end { OnOk result (IsAtEnd (R.remaining (device_inner r.new))) }
     ensures cut { IfErr result (λ e. IfSome (R.remaining (device_inner r.old)) (ReadsCut e)) }
     ensures unwritten { is_write_fault result ≡ false }
     ensures memory { ¬ (IsErrOf result (RunFault.Refused refusals.Memory)) }
@@ -70,6 +71,7 @@ pub fn accept_from<R: Read>(alloc: Global, r: &mut Device<R>) -> Result<(), RunF
     ensures read_at { IfErr result (λ e. (at : ℕ) → e ≡ RunFault.Read at → at ≡ read_count r.new) }
     ensures first_failure { IfErr result (λ e. (at : ℕ) → e ≡ RunFault.Read at → failed_at r.new ≡ Some at) }
     ensures again { has_ended r.old ≡ false → was_asked_again r.new ≡ was_asked_again r.old }
+    ensures end { OnOk result (IsAtEnd (R.remaining (device_inner r.new))) }
     ensures cut { IfErr result (λ e. IfSome (R.remaining (device_inner r.old)) (ReadsCut e)) }
     ensures unwritten { is_write_fault result ≡ false }
     ensures memory { ¬ (IsErrOf result (RunFault.Refused refusals.Memory)) }
@@ -93,6 +95,7 @@ pub fn text_from<R: Read>(alloc: Global, r: &mut Device<R>) -> Result<String, Ru
     ensures read_at { IfErr result (λ e. (at : ℕ) → e ≡ RunFault.Read at → at ≡ read_count r.new) }
     ensures first_failure { IfErr result (λ e. (at : ℕ) → e ≡ RunFault.Read at → failed_at r.new ≡ Some at) }
     ensures again { has_ended r.old ≡ false → was_asked_again r.new ≡ was_asked_again r.old }
+    ensures end { OnOk result (IsAtEnd (R.remaining (device_inner r.new))) }
     ensures cut { IfErr result (λ e. IfSome (R.remaining (device_inner r.old)) (ReadsCut e)) }
     ensures unwritten { is_write_fault result ≡ false }
     ensures memory { ¬ (IsErrOf result (RunFault.Refused refusals.Memory)) }

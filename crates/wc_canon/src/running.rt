@@ -65,6 +65,9 @@ pub fn run<R: Read, W: Write>(
     ensures first_failure { IfErr result (λ e. (at : ℕ) → e ≡ RunFault.Read at → failed_at r.new ≡ Some at) }
     ensures again { has_ended r.old ≡ false → was_asked_again r.new ≡ was_asked_again r.old }
 
+    // An answer is that of all bytes of the reader.
+    ensures end { OnOk result (IsAtEnd (R.remaining (device_inner r.new))) }
+
     // A fault in bytes that were read is told, and no failure of a later read: where one is told of a binary, the bytes
     // before it have no fault that shows before their end. A text isn't judged before all of it was read.
     ensures cut { IfErr result (λ e. IfSome (R.remaining (device_inner r.old)) (ReadsCut e)) }
