@@ -5,6 +5,7 @@ pub mod ReadNumbers
 pub mod Naming
 pub mod Numbering
 pub mod Putting
+pub mod EscapeTable
 pub mod Stringing
 pub mod Values
 pub mod Instructions

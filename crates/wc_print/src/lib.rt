@@ -3,6 +3,7 @@
 
 mod bodies;
 mod definitions;
+mod escapes;
 mod externals;
 mod field;
 mod laws;
