@@ -8,9 +8,7 @@ ghost use Rattle.wc_cli.specs.Program.{each_app, compare_app, program};
 
 use clap::{Arg, ArgAction, Command};
 use std::alloc::{AllocError, Global};
-
-/// The number of this version of the program. It stands here alone.
-const VERSION: &str = "0.1.0";
+use wc_canon::VERSION;
 
 /// A path that has to be given.
 fn path<'a>(alloc: Global, id: &'a str, help: &'a str) -> Arg<'a>
