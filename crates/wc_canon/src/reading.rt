@@ -1,6 +1,7 @@
 //! What the bytes of a reader are answered.
 
 ghost use Rattle.std.specs.Prelude.{ℕ, ◌≡◌, IfErr, IfSome, IsErrOf, OnOk, Some, false};
+ghost use Rattle.std.specs.Io.KnownBytes.{IsAtEnd};
 ghost use Rattle.wc_device.specs.Device.{device_inner, failed_at, has_failed, has_ended, was_asked_again, read_count};
 ghost use Rattle.wc_canon.specs.declared.fault.Refusal.TheVariants as refusals;
 ghost use Rattle.wc_canon.specs.Input.{KeepsRules, IsAccepted};

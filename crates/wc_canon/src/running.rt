@@ -1,7 +1,7 @@
 //! From a reader to a writer.
 
 ghost use Rattle.std.specs.Prelude.{ℕ, ◌≡◌, ◌≤◌, length, take, IfOk, IfErr, IfSome, IsErrOf, OnOk, Some, false};
-ghost use Rattle.std.specs.Io.KnownBytes.{Appends};
+ghost use Rattle.std.specs.Io.KnownBytes.{Appends, IsAtEnd};
 ghost use Rattle.wc_device.specs.Device.{device_inner, failed_at, has_failed, has_ended, was_asked_again, read_count};
 ghost use Rattle.wc_canon.specs.declared.fault.Refusal.TheVariants as refusals;
 ghost use Rattle.wc_canon.specs.Run.{Answers, RefusesNear, ReadsCut, IsQuiet, is_read_fault, is_write_fault};
