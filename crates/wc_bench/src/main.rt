@@ -5,8 +5,10 @@
 #![tactic(auto)]
 
 use anyhow::{Context, Result, bail};
+use std::alloc::Global;
 use std::time::Instant;
 use std::{env, fs};
+use wc_ast::Module;
 use wc_binary::{decode, encode};
 use wc_check::check;
 use wc_print::print;
@@ -59,68 +61,79 @@ struct Made {
     nanoseconds: u128,
 }
 
+/// So many units, made since then.
+fn made(rt: &HostRuntime, start: Instant, amount: usize) -> Result<Made> {
+    Ok(Made {
+        amount,
+        nanoseconds: start.elapsed(rt)?.as_nanos(),
+    })
+}
+
 /// Makes the tokens of the text.
 fn make_tokens(rt: &HostRuntime, text: &[u8]) -> Result<Made> {
     let start = Instant::now(rt)?;
-    let Ok(tokens) = lex(rt.alloc(), text) else {
-        bail!("the text has a fault");
-    };
-    Ok(Made {
-        amount: tokens.as_slice().len(),
-        nanoseconds: start.elapsed(rt)?.as_nanos(),
-    })
+    match lex(rt.alloc(), text) {
+        Ok(tokens) => made(rt, start, tokens.as_slice().len()),
+        Err(_) => bail!("the text has a fault"),
+    }
+}
+
+/// The module of the bytes. Who holds it hands a reference on, so that few paths let it go.
+fn decoded(alloc: Global, bytes: &[u8]) -> Result<Module> {
+    match decode(alloc, bytes) {
+        Ok(module) => Ok(module),
+        Err(_) => bail!("the bytes are no module"),
+    }
 }
 
 /// Makes the module, and tells its functions.
 fn make_module(rt: &HostRuntime, bytes: &[u8]) -> Result<Made> {
     let start = Instant::now(rt)?;
-    let Ok(module) = decode(rt.alloc(), bytes) else {
-        bail!("the bytes are no module");
-    };
-    Ok(Made {
-        amount: module.funcs.len(),
-        nanoseconds: start.elapsed(rt)?.as_nanos(),
-    })
+    let module = decoded(rt.alloc(), bytes)?;
+    made(rt, start, module.funcs.len())
+}
+
+/// Tells the functions of a module that breaks no rule.
+fn judged(rt: &HostRuntime, start: Instant, module: &Module) -> Result<Made> {
+    if check(rt.alloc(), module).is_err() {
+        bail!("the module breaks a rule");
+    }
+    made(rt, start, module.funcs.len())
 }
 
 /// Makes the module, which breaks no rule, and tells its functions.
 fn make_checked(rt: &HostRuntime, bytes: &[u8]) -> Result<Made> {
     let start = Instant::now(rt)?;
-    let Ok(module) = decode(rt.alloc(), bytes) else {
-        bail!("the bytes are no module");
-    };
-    if check(rt.alloc(), &module).is_err() {
-        bail!("the module breaks a rule");
+    let module = decoded(rt.alloc(), bytes)?;
+    judged(rt, start, &module)
+}
+
+/// Tells the canonical bytes of a module.
+fn written(rt: &HostRuntime, start: Instant, module: &Module) -> Result<Made> {
+    match encode(rt.alloc(), module) {
+        Ok(canonical) => made(rt, start, canonical.len()),
+        Err(_) => bail!("the module has no bytes"),
     }
-    Ok(Made {
-        amount: module.funcs.len(),
-        nanoseconds: start.elapsed(rt)?.as_nanos(),
-    })
 }
 
 /// Makes the module's canonical bytes.
 fn make_bytes(rt: &HostRuntime, bytes: &[u8]) -> Result<Made> {
     let start = Instant::now(rt)?;
-    let Ok(module) = decode(rt.alloc(), bytes) else {
-        bail!("the bytes are no module");
-    };
-    let Ok(canonical) = encode(rt.alloc(), &module) else {
-        bail!("the module has no bytes");
-    };
-    Ok(Made {
-        amount: canonical.len(),
-        nanoseconds: start.elapsed(rt)?.as_nanos(),
-    })
+    let module = decoded(rt.alloc(), bytes)?;
+    written(rt, start, &module)
+}
+
+/// The text of a module, and how long it took to print it, in nanoseconds.
+fn text_of(rt: &HostRuntime, module: &Module) -> Result<(String, u128)> {
+    let start = Instant::now(rt)?;
+    let text = print(rt.alloc(), module)?;
+    Ok((text, start.elapsed(rt)?.as_nanos()))
 }
 
 /// The text of the module of these bytes, and how long it took to print it, in nanoseconds.
 fn printed(rt: &HostRuntime, bytes: &[u8]) -> Result<(String, u128)> {
-    let Ok(module) = decode(rt.alloc(), bytes) else {
-        bail!("the bytes are no module");
-    };
-    let start = Instant::now(rt)?;
-    let text = print(rt.alloc(), &module)?;
-    Ok((text, start.elapsed(rt)?.as_nanos()))
+    let module = decoded(rt.alloc(), bytes)?;
+    text_of(rt, &module)
 }
 
 /// Makes the module's text.

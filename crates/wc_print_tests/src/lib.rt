@@ -1,5 +1,7 @@
-//! The tests of `wc_print`, over its public items.
+//! The tests of `wc_print` and `wc_printed`, over their public items.
 #![tactic(auto)]
 
+#[cfg(test)]
+mod printed;
 #[cfg(test)]
 mod tests;

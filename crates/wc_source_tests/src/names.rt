@@ -1,0 +1,7 @@
+//! Texts, and their modules or the faults of their names.
+
+mod asking;
+mod locals;
+mod modules;
+mod refused;
+mod rows;

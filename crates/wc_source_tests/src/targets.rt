@@ -1,0 +1,4 @@
+//! Bodies with names, and what becomes of them.
+
+mod given;
+mod tests;
