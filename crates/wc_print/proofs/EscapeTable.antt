@@ -1,8 +1,13 @@
 -- The table of what stands for each byte in a string.
-use Rattle.std.proofs.Common.{◌≡◌, ℕ, zero, suc, ◌+◌, ◌<◌, Bool, true, false, ◌&&◌, List, [], ◌∷◌, ◌++◌, length, get_or, take}
+use Rattle.std.proofs.Common.{◌≡◌, ℕ, zero, suc, ◌+◌, ◌<◌, ◌≤◌, ◌==◌, Bool, true, false, ◌&&◌, List, [], ◌∷◌, ◌++◌}
+use Rattle.std.proofs.Common.{length, get_or, take, drop, set, nat_le}
 use Rattle.std.proofs.Common.{refl, ap, ◌∙◌, arith, add-zero, zero-add}
 use Rattle.std.specs.Str.{bytes_eq}
+use Rattle.std.specs.List.{list_all}
 use Rattle.std.proofs.Math.Seq.{take-append-add}
+use Rattle.std.proofs.lemmas.Bool.Decides.{nat_tests}
+use Rattle.std.proofs.lemmas.List.Edits.{sets, sets-eq}
+use Rattle.std.proofs.lemmas.List.{length-take-le, length-append, take-append-le}
 use Rattle.std.proofs.lemmas.Slice.Eq.{bytes_eq-Decides}
 use Rattle.wc_print.specs.declared.escapes.TheConstants.{ESCAPES}
 use Rattle.wc_print.specs.Printed.{escaped}
@@ -42,7 +47,41 @@ table-told = refl
 pub escape-told : (b : ℕ) → b < 256 → told (get_or ESCAPES b []) ≡ escaped b
 escape-told b lt = row-told ESCAPES 0 b table-told lt ∙ ap escaped (zero-add b)
 
--- what is too much is cut off
-pub cut-behind : (old row ext new : List ℕ) (len size : ℕ) → len ≡ length old → ext ≡ old ++ row → new ≡ take (len + size) ext
-    → new ≡ old ++ take size row
-cut-behind old row ext new len size e f h = h ∙ rw (e, f) (take-append-add old row size)
+-- what each row is, one of them is
+row-test : (test : List ℕ → Bool) (rs : List (List ℕ)) (i : ℕ) → list_all test rs ≡ true → i < length rs
+    → test (get_or rs i []) ≡ true
+row-test test [] i e lt = absurd (omega arith)
+row-test test (r ∷ rs) zero e lt = both-first (test r) _ e
+row-test test (r ∷ rs) (suc i) e lt = row-test test rs i (both-second (test r) _ e) (omega (arith, lt))
+
+-- three bytes of a row at most are told
+pub escape-short : (b : ℕ) → b < 256 → get_or (get_or ESCAPES b []) 3 0 ≤ 3
+escape-short b lt = grind (arith, nat_tests, row-test (λ r. nat_le (get_or r 3 0) 3) ESCAPES b refl lt)
+
+pub escape-sized : (b : ℕ) → b < 256 → length (get_or ESCAPES b []) ≡ 4
+escape-sized b lt = grind (arith, nat_tests, row-test (λ r. length r == 4) ESCAPES b refl lt)
+
+row-kept : (room : List ℕ) (a b c d at i j k n : ℕ) → i ≡ suc at → j ≡ suc (suc at) → k ≡ suc (suc (suc at))
+    → at + 4 ≤ length room → n ≤ 3
+    → take (at + n) (set (set (set (set room at a) i b) j c) k d) ≡ take at room ++ take n (a ∷ b ∷ c ∷ d ∷ [])
+row-kept room a b c d at i j k n ei ej ek fits short =
+    let row : List ℕ = a ∷ b ∷ c ∷ d ∷ [] in
+    let front : length (take at room) ≡ at = length-take-le at room (omega (arith, fits)) in
+    let within : at + n ≤ length (take at room ++ row) = omega (arith, length-append (take at room) row, front, short) in
+    let all : sets room at row ≡ take at room ++ row ++ drop (at + 4) room = sets-eq row room at fits in
+    let cut : take (at + n) (sets room at row) ≡ take at room ++ take n row =
+    ap (λ (x : List ℕ). take (at + n) x) all ∙ take-append-le (at + n) (take at room ++ row) (drop (at + 4) room) within
+    ∙ rw front at (take-append-add (take at room) row n) in
+    rw (ei, ej, ek) cut
+
+-- a whole row is written from a place on, and so much of it is kept
+pub row-written : (room row new : List ℕ) (at n : ℕ) → length row ≡ 4 → at + 4 ≤ length room → n ≤ 3
+    → new ≡ set (set (set (set room at (get_or row 0 0)) (at + 1) (get_or row 1 0)) (at + 2) (get_or row 2 0)) (at + 3) (get_or row 3 0)
+    → take (at + n) new ≡ take at room ++ take n row
+row-written room [] new at n four fits short e = absurd (omega arith)
+row-written room (a ∷ []) new at n four fits short e = absurd (omega arith)
+row-written room (a ∷ b ∷ []) new at n four fits short e = absurd (omega arith)
+row-written room (a ∷ b ∷ c ∷ []) new at n four fits short e = absurd (omega arith)
+row-written room (a ∷ b ∷ c ∷ d ∷ []) new at n four fits short e =
+    rw e (row-kept room a b c d at (at + 1) (at + 2) (at + 3) n (omega arith) (omega arith) (omega arith) fits short)
+row-written room (a ∷ b ∷ c ∷ d ∷ x ∷ xs) new at n four fits short e = absurd (omega arith)

@@ -1,21 +1,76 @@
 -- Strings as they are put.
-use Rattle.std.proofs.Common.{◌≡◌, ℕ, suc, ◌≤◌, List, [], ◌∷◌, ◌++◌, length, get_or, drop, sym, ◌∙◌}
-use Rattle.std.proofs.Common.{append_assoc, Fits, w8}
-use Rattle.std.proofs.lemmas.List.{append-nil, drop_all}
-use Rattle.std.specs.List.{AllByRecursion, flat_map}
-use Rattle.wc_print.specs.Printed.{escaped, quoted, after}
-use Rattle.wc_print.specs.Printable.{IsByte, Put}
+use Rattle.std.proofs.Common.{◌≡◌, ℕ, zero, suc, ◌+◌, ◌-◌, ◌<◌, ◌≤◌, ◌/◌, ◌%◌, Bool, true, List, [], ◌∷◌, ◌++◌}
+use Rattle.std.proofs.Common.{length, get_or, take, drop, inl, inr}
+use Rattle.std.proofs.Common.{refl, sym, ap, ◌∙◌, arith, append_assoc, Fits, w8}
+use Rattle.std.specs.Prelude.{if◌then◌else◌}
+use Rattle.std.proofs.lemmas.List.{append-nil, length-drop, take-append-drop, nil_from_length}
+use Rattle.std.proofs.lemmas.List.Edits.{length-between, get_or-between}
+use Rattle.std.proofs.lemmas.Bool.{cases_lt}
+use Rattle.std.proofs.lemmas.Grind.{flat_map-append}
+use Rattle.std.specs.List.{AllByRecursion, flat_map, between}
+use Rattle.wc_print.specs.Printed.{stands, hex, escaped, quoted, after}
+use Rattle.wc_print.specs.Printable.{IsByte, Put, LeavesEscaped}
 
 bytes-fit : (bs : List ℕ) → ((i : ℕ) → Fits w8 (get_or bs i 0)) → AllByRecursion IsByte bs
 bytes-fit [] h = tt
 bytes-fit (b ∷ bs) h = ((h 0).fits, bytes-fit bs (λ i. h (suc i)))
 
+as-itself : (b : ℕ) → stands b ≡ true → escaped b ≡ b ∷ []
+as-itself b e = ap (λ (t : Bool). if t then (b ∷ []) else (92 ∷ hex (b / 16) ∷ hex (b % 16) ∷ [])) e
+
+-- bytes that stand for themselves
+pub as-themselves : (bs : List ℕ) (n : ℕ) → n ≤ length bs → ((k : ℕ) → k < n → stands (get_or bs k 0) ≡ true)
+    → flat_map escaped (take n bs) ≡ take n bs
+as-themselves bs zero le h = refl
+as-themselves [] (suc n) le h = absurd (omega arith)
+as-themselves (b ∷ bs) (suc n) le h =
+    let here : escaped b ≡ b ∷ [] = as-itself b (h 0 (omega arith)) in
+    let others : flat_map escaped (take n bs) ≡ take n bs =
+    as-themselves bs n (omega (arith, le)) (λ k lt. h (suc k) (omega (arith, lt))) in
+    ap (λ (x : List ℕ). x ++ flat_map escaped (take n bs)) here ∙ ap (λ (x : List ℕ). b ∷ x) others
+
+-- so many more at a place
+pub stand-more : (bs : List ℕ) (at : ℕ) → at + 16 ≤ length bs → ((k : ℕ) → k < at → stands (get_or bs k 0) ≡ true)
+    → ((k : ℕ) → k < length (between at (at + 16) bs) → stands (get_or (between at (at + 16) bs) k 0) ≡ true)
+    → (at + 16 ≤ length bs) × ((k : ℕ) → k < at + 16 → stands (get_or bs k 0) ≡ true)
+stand-more bs at fits before here = (
+  fits,
+  λ k lt. elim (cases_lt k at) [
+    | inl below ↦ before k below
+    | inr above ↦
+        let e : at + (k - at) ≡ k = omega (arith, above) in
+        let within : k - at < length (between at (at + 16) bs) =
+        omega (arith, length-between bs at (at + 16) fits, above, lt) in
+        let same : get_or (between at (at + 16) bs) (k - at) 0 ≡ get_or bs k 0 =
+        rw e at (get_or-between bs at (at + 16) (k - at) 0 (omega (arith, above, lt))) in
+        rw same at (here (k - at) within)
+  ],
+)
+
+pub leaves-all : (all old : List ℕ) → LeavesEscaped all all old old
+leaves-all all old = record { bytes = refl; fewer = omega arith }
+
+-- so many bytes at the front are put
+pub leaves-behind : (all old put out : List ℕ) (n : ℕ) → put ≡ flat_map escaped (take n all) → out ≡ old ++ put
+    → LeavesEscaped (drop n all) all out old
+leaves-behind all old put out n is e = record {
+  bytes =
+      rw (e, is) (append_assoc old (flat_map escaped (take n all)) (flat_map escaped (drop n all)))
+      ∙ ap (λ (x : List ℕ). old ++ x)
+      (sym (flat_map-append escaped (take n all) (drop n all)) ∙ ap (λ (x : List ℕ). flat_map escaped x) (take-append-drop n all));
+  fewer = omega (arith, length-drop n all);
+}
+
+-- some of those that were left, and then others
+pub leaves-then : {less left all out mid old : List ℕ} → LeavesEscaped less left out mid → LeavesEscaped left all mid old
+    → LeavesEscaped less all out old
+leaves-then h k = record { bytes = h.bytes ∙ k.bytes; fewer = omega (arith, h.fewer, k.fewer) }
+
 -- a space and a quote, all bytes, and a quote
-pub string-put : (bs old mid out new : List ℕ) (i : ℕ) → ((k : ℕ) → Fits w8 (get_or bs k 0)) → length bs ≤ i
-    → mid ≡ old ++ (32 ∷ 34 ∷ []) → out ++ flat_map escaped (drop i bs) ≡ mid ++ flat_map escaped bs
-    → new ≡ out ++ (34 ∷ []) → Put (after (quoted bs) ∷ []) old new
-string-put bs old mid out new i fits le start loop end =
-    let all : out ++ [] ≡ mid ++ flat_map escaped bs = rw (drop_all i bs le) at loop in
+pub string-put : (bs rest old mid out new : List ℕ) → ((k : ℕ) → Fits w8 (get_or bs k 0)) → length rest ≡ 0
+    → mid ≡ old ++ (32 ∷ 34 ∷ []) → LeavesEscaped rest bs out mid → new ≡ out ++ (34 ∷ []) → Put (after (quoted bs) ∷ []) old new
+string-put bs rest old mid out new fits none start left end =
+    let all : out ++ [] ≡ mid ++ flat_map escaped bs = rw (nil_from_length rest none) at left.bytes in
     let done : out ≡ mid ++ flat_map escaped bs = sym (append-nil out) ∙ all in
     record {
       spelled = (bytes-fit bs fits, tt);

@@ -1,22 +1,111 @@
 //! Strings (Core 1.0, 6.3.3).
 
-ghost use Rattle.std.specs.Prelude.{◌≡◌, ◌∷◌, [], ◌++◌, OnOk};
-ghost use Rattle.wc_print.specs.Printed.{escaped, quoted, after};
-ghost use Rattle.wc_print.specs.Printable.{Put};
+ghost use Rattle.std.specs.Prelude.{◌≡◌, ◌≤◌, ◌<◌, ◌+◌, ◌-◌, ◌∷◌, [], ◌++◌, ℕ, true, IsTrue, IfOk, OnOk};
+ghost use Rattle.std.specs.Prelude.{length, take, slice_index};
+ghost use Rattle.std.specs.List.{flat_map};
+ghost use Rattle.wc_print.specs.Printed.{stands, escaped, quoted, after};
+ghost use Rattle.wc_print.specs.Printable.{Put, LeavesEscaped};
 
 use crate::escapes::ESCAPES;
 use std::alloc::AllocError;
 
-/// A byte in a string. A whole row is put, whose size is known beforehand, and then what is too much is cut off.
+/// How many bytes are judged together.
+const CHUNK: usize = 16;
+
+/// How many bytes are escaped together.
+const PIECE: usize = 32;
+
+/// Room for what stands for a piece: at most three bytes for each, and one more, since whole rows are written.
+const ROOM: usize = 97;
+
+/// A byte that stands for itself.
 #[inline(always)]
-fn put_byte(out: &mut Vec<u8>, byte: u8) -> Result<(), AllocError>
-    ensures { OnOk result (out.new.items ≡ out.old.items ++ escaped byte) }
+fn stands(byte: u8) -> bool
+    ensures { result ≡ stands byte }
+{
+    32 <= byte && byte <= 126 && byte != b'"' && byte != b'\\'
+}
+
+/// Whether all these bytes stand for themselves.
+// All are looked at, whatever the first ones are, so that a processor can do it to many at once.
+#[inline(always)]
+fn all_stand(bytes: &[u8]) -> bool
+    ensures { IsTrue result → (k : ℕ) → k < length bytes.now → stands (slice_index bytes.now k) ≡ true }
+{
+    let mut all = true;
+    for byte in bytes {
+        all &= stands(*byte);
+    }
+    all
+}
+
+/// How many bytes at the front stand for themselves, found in chunks.
+#[inline(always)]
+fn standing(bytes: &[u8]) -> usize
+    ensures within { result ≤ length bytes.now }
+    ensures stand { (k : ℕ) → k < result → stands (slice_index bytes.now k) ≡ true }
+{
+    let mut at = 0;
+    while bytes.len() - at >= CHUNK && all_stand(&bytes[at..at + CHUNK]) {
+        at += CHUNK;
+    }
+    at
+}
+
+/// Writes what stands for a byte, from a place on, and tells where it ends. A whole row is written.
+#[inline(always)]
+fn write_byte(room: &mut [u8; ROOM], at: usize, byte: u8) -> usize
+    requires { at + 4 ≤ 97 }
+    ensures within { result ≤ at + 3 }
+    ensures bytes { take result room.new ≡ take at room.old ++ escaped byte }
 {
     let row = &ESCAPES[byte as usize];
-    let end = out.len() + row[3] as usize;
-    out.extend_from_slice(row)?;
-    out.truncate(end);
-    Ok(())
+    room[at] = row[0];
+    room[at + 1] = row[1];
+    room[at + 2] = row[2];
+    room[at + 3] = row[3];
+    at + row[3] as usize
+}
+
+/// Writes what stands for some bytes, and tells how many bytes that is.
+#[inline(always)]
+fn write_bytes(room: &mut [u8; ROOM], bytes: &[u8]) -> usize
+    requires { length bytes.now ≤ 32 }
+    ensures within { result ≤ 96 }
+    ensures bytes { take result room.new ≡ flat_map escaped bytes.now }
+{
+    let mut end = 0;
+    for byte in bytes {
+        end = write_byte(room, end, *byte);
+    }
+    end
+}
+
+/// Puts the bytes at the front that stand for themselves, as far as they are found in chunks, and tells what follows.
+#[inline(always)]
+fn put_standing<'a>(out: &mut Vec<u8>, bytes: &'a [u8]) -> Result<&'a [u8], AllocError>
+    ensures { IfOk result (λ rest. LeavesEscaped rest.now bytes.now out.new.items out.old.items) }
+{
+    let end = standing(bytes);
+    if end == 0 {
+        return Ok(bytes);
+    }
+    let (plain, rest) = bytes.split_at(end);
+    out.extend_from_slice(plain)?;
+    Ok(rest)
+}
+
+/// Puts what stands for the bytes at the front, so many as are escaped together, and tells what follows.
+#[inline(always)]
+fn put_piece<'a>(out: &mut Vec<u8>, bytes: &'a [u8]) -> Result<&'a [u8], AllocError>
+    ensures leaves { IfOk result (λ rest. LeavesEscaped rest.now bytes.now out.new.items out.old.items) }
+    ensures shorter { IfOk result (λ rest. length rest.now ≡ length bytes.now - 32) }
+{
+    let (piece, rest) = bytes.split_at(bytes.len().min(PIECE));
+    let mut room = [0; ROOM];
+    let end = write_bytes(&mut room, piece);
+    out.extend_from_slice(&room[..end])?;
+    Ok(rest)
 }
 
 /// A string that stands for these bytes, behind a space.
@@ -24,8 +113,10 @@ pub fn put_string(out: &mut Vec<u8>, bytes: &[u8]) -> Result<(), AllocError>
     ensures { OnOk result (Put (after (quoted bytes.now) ∷ []) out.old.items out.new.items) }
 {
     out.extend_from_slice(b" \"")?;
-    for byte in bytes {
-        put_byte(out, *byte)?;
+    let mut rest = bytes;
+    while !rest.is_empty() {
+        let others = put_standing(out, rest)?;
+        rest = put_piece(out, others)?;
     }
     out.push(b'"')?;
     Ok(())

@@ -1,2 +1,0 @@
-use Rattle.wc_print.proofs.Putting.{leaves-less}
-use Rattle.wc_print.proofs.bodies.put_all_short.Goals as goal

@@ -1,7 +1,9 @@
+use Rattle.std.proofs.Common.{arith}
+use Rattle.std.proofs.lemmas.Bool.Decides.{nat_tests}
 use Rattle.wc_print.proofs.Stringing.{string-put}
 use Rattle.wc_print.proofs.strings.put_string.Goals as goal
 
 pub returns : goal.returns
 returns c =
-    string-put _ _ _ _ _ _ c.type_inv.bytes c.loop-byte-test.false c.in_ok-extend_from_slice.ensures.items
-    c.loop-byte.invariant c.in_ok-push.ensures.items
+    string-put _ _ _ _ _ _ c.type_inv.bytes (grind (arith, nat_tests, c.is_empty.ensures, c.loop-rest-test.false)) c.in_ok-extend_from_slice.ensures.items
+    c.loop-rest.invariant c.in_ok-push.ensures.items
