@@ -1,5 +1,6 @@
 pub mod Positions
 pub mod FirstStays
+pub mod Numbers
 pub mod Declaring
 pub mod Least
 pub mod Opening

@@ -39,11 +39,7 @@ fn hide<'a>(
 {
     match label {
         None => Ok(None),
-        Some(text) => {
-            let hidden = heights.place(text);
-            heights.put(text, height)?;
-            Ok(hidden)
-        }
+        Some(text) => heights.replace(text, height),
     }
 }
 
