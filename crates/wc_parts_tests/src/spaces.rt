@@ -94,3 +94,35 @@ fn a_text_has_the_place_that_was_put(rt: HostRuntime) -> Result<(), Fail> {
     assert!(rt; put_twice(rt.alloc())? == (false, Some(5), None));
     Ok(())
 }
+
+/// A text of `a` and `b` in the order of Thue and Morse, or the one with the letters exchanged. The two are told apart by
+/// one number, so that only the texts themselves tell which is which.
+fn alike(alloc: Global, exchanged: bool) -> Result<Vec<u8>, AllocError> {
+    let mut text = Vec::new(alloc);
+    for place in 0..1024u32 {
+        let is_odd = place.count_ones() % 2 == 1;
+        text.push(if is_odd == exchanged { b'a' } else { b'b' })?;
+    }
+    Ok(text)
+}
+
+/// The places of two texts of one number, and those that are left once the first is removed.
+fn places_of_alike(alloc: Global) -> Result<[(Option<u32>, Option<u32>); 2], AllocError> {
+    let one = alike(alloc, false)?;
+    let other = alike(alloc, true)?;
+    let mut places = Places::new(alloc);
+    places.put(one.as_slice(), 1)?;
+    let _ = places.add(other.as_slice(), 2)?;
+    let both = (places.place(one.as_slice()), places.place(other.as_slice()));
+    places.remove(one.as_slice());
+    let left = (places.place(one.as_slice()), places.place(other.as_slice()));
+    Ok([both, left])
+}
+
+#[test]
+fn texts_of_one_number_are_told_apart(rt: HostRuntime) -> Result<(), Fail> {
+    let [both, left] = places_of_alike(rt.alloc())?;
+    assert!(rt; both == (Some(1), Some(2)));
+    assert!(rt; left == (None, Some(2)));
+    Ok(())
+}
