@@ -1,48 +1,44 @@
 -- What one stage answers is answered of the whole text.
 use Rattle.std.proofs.Common.{◌≡◌, ◌⊎◌, inl, inr, ℕ, zero, suc, ◌<◌, nat_lt, List, [], ◌∷◌, length, drop, get_or, true}
-use Rattle.std.proofs.Common.{refl, sym, ap, subst, arith}
+use Rattle.std.proofs.Common.{sym, ap, subst, arith}
 use Rattle.std.proofs.Common.{Result, Ok, Err, IfOk, IfErr, MatchResult, IsErrAnd}
 use Rattle.wc_ast.specs.declared.module.Module.{Module}
-use Rattle.wc_tokens.specs.declared.fault.LexFault.{LexFault}
-use Rattle.wc_tokens.specs.declared.fault.LexFault.TheVariants.{Bad, Memory as NoMemoryToLex}
 use Rattle.std.proofs.lemmas.Bool.{ltb-true}
 use Rattle.wc_tokens.specs.declared.token.Token.{Token}
 use Rattle.wc_tokens.specs.Standard.Tokens.{lexemes_of}
 use Rattle.wc_tokens.specs.Standard.Lexemes.{Lexeme, Lexes}
-use Rattle.wc_tokens.specs.Standard.Faults.{IsFault as IsLexFault}
 use Rattle.wc_surface.specs.declared.field.Field.{Field}
-use Rattle.wc_text.specs.Standard.Meaning.{Syn}
-use Rattle.wc_names.specs.Standard.Denoted.{Names as Denote}
+use Rattle.wc_syntax.specs.declared.why.SynWhy.{SynWhy}
+use Rattle.wc_text.specs.Standard.Wholes.{SaysText, IsUngrammatical}
+use Rattle.wc_targets.specs.declared.why.NameWhy.{NameWhy}
+use Rattle.wc_names.specs.Standard.Denoted.{Names as Denote, FirstFault as FirstNameFault}
 use Rattle.wc_source.specs.declared.fault.TextFault.{TextFault}
-use Rattle.wc_source.specs.declared.fault.TextFault.TheVariants.{Lex, Syntax, Names, Memory}
+use Rattle.wc_source.specs.declared.fault.TextFault.TheVariants.{Syntax, Names, Memory}
 use Rattle.wc_source.specs.Texts.{Txt}
-use Rattle.wc_source.specs.Faults.{start_or, FirstFault, IsFault}
-use Rattle.wc_source.specs.Telling.{lexing_fault, IsParsingFault, IsNamingFault}
+use Rattle.wc_source.specs.Faults.{start_or, byte_of, FirstFault, IsFault}
 use Rattle.wc_source.proofs.Laws.{one-module, one-fault, never-both}
 
-pub lexing-told : (text : List ℕ) (f : LexFault) (e : TextFault) → IsLexFault text f → e ≡ lexing_fault f → IsFault text e
-lexing-told text (Bad at why) e p h = inr (subst (FirstFault text) (sym h) p)
-lexing-told text NoMemoryToLex e p h = inl h
+pub syntax-told : (text : List ℕ) (token at : ℕ) (why : SynWhy) → IsUngrammatical text token why
+    → ((ts : List Lexeme) → Lexes text ts → at ≡ byte_of text ts token) → IsFault text (Syntax token at why)
+syntax-told text token at why g p =
+    inr (record { tokens = g.tokens; lexes = g.lexes; first = g.first; place = p g.tokens g.lexes })
 
-pub parsing-told : (text : List ℕ) (ts : List Lexeme) (f : TextFault) → Lexes text ts → IsParsingFault text ts f
-    → IsFault text f
-parsing-told text ts (Lex at why) p q = absurd q
-parsing-told text ts (Syntax token at why) p q = inr (record { tokens = ts; lexes = p; first = q.0; place = q.1 })
-parsing-told text ts (Names token at why) p q = absurd q
-parsing-told text ts Memory p q = inl refl
+pub names-told : (text : List ℕ) (fields : List Field) (token at : ℕ) (why : NameWhy) → FirstNameFault fields token why
+    → ((ts : List Lexeme) → Lexes text ts → at ≡ byte_of text ts token) → SaysText text fields
+    → IsFault text (Names token at why)
+names-told text fields token at why h p s =
+    inr (record {
+      tokens = s.tokens;
+      fields = fields;
+      lexes = s.lexes;
+      says = s.says;
+      first = h;
+      place = p s.tokens s.lexes;
+    })
 
-pub naming-told : (text : List ℕ) (ts : List Lexeme) (fields : List Field) (f : TextFault) → Lexes text ts
-    → Syn ts fields → IsNamingFault text ts fields f → IsFault text f
-naming-told text ts fields (Lex at why) p s q = absurd q
-naming-told text ts fields (Syntax token at why) p s q = absurd q
-naming-told text ts fields (Names token at why) p s q =
-    inr (record { tokens = ts; fields = fields; lexes = p; says = s; first = q.0; place = q.1 })
-naming-told text ts fields Memory p s q = inl refl
-
-pub text-read : (text : List ℕ) (ts : List Lexeme) (fields : List Field) (r : Result Module TextFault) → Lexes text ts
-    → Syn ts fields → IfOk r (Denote fields) → IfOk r (Txt text)
-text-read text ts fields (Ok m) p s h = record { tokens = ts; fields = fields; lexes = p; says = s; names = h }
-text-read text ts fields (Err f) p s h = tt
+pub text-read : (text : List ℕ) (fields : List Field) (m : Module) → Denote fields m → SaysText text fields → Txt text m
+text-read text fields m h s =
+    record { tokens = s.tokens; fields = fields; lexes = s.lexes; says = s.says; names = h }
 
 -- ---- the byte of a token
 
