@@ -1,43 +1,21 @@
 //! From the bytes of a text to its module.
 
-ghost use Rattle.std.specs.Prelude.{◌≡◌, ◌⊎◌, List, IfOk, IfErr, MatchResult, IsErrAnd};
-ghost use Rattle.wc_tokens.specs.Standard.Lexemes.{Lexeme, Lexes};
+ghost use Rattle.std.specs.Prelude.{◌≡◌, ◌⊎◌, IfOk, IfErr, MatchResult, IsErrAnd};
 ghost use Rattle.wc_ast.specs.declared.module.Module.{Module as ModuleValue};
 ghost use Rattle.wc_text.specs.Standard.Wholes.{SaysText};
 ghost use Rattle.wc_source.specs.declared.fault.TextFault.{TextFault as Fault};
 ghost use Rattle.wc_source.specs.declared.fault.TextFault.TheVariants.{Memory};
 ghost use Rattle.wc_source.specs.Texts.{Txt};
-ghost use Rattle.wc_source.specs.Faults.{byte_of as place_of, FirstFault, IsFault};
+ghost use Rattle.wc_source.specs.Faults.{FirstFault, IsFault};
 
 use crate::fault::TextFault;
+use crate::place::byte_of;
 use std::alloc::Global;
 use wc_ast::Module;
 use wc_declared::NameFault;
 use wc_names::resolve;
 use wc_surface::Surface;
 use wc_text::{TextRefusal, parse_text};
-use wc_tokens::{LexFault, Tokens, lex};
-
-/// The byte at which the token of this number begins, or the text's length, where no token is left.
-fn byte_of(text: &[u8], tokens: &Tokens<'_>, token: u64) -> u64
-    ensures { result ≡ place_of text.now tokens.now token }
-{
-    match tokens.as_slice().get(token as usize) {
-        Some(token) => token.start as u64,
-        None => text.len() as u64,
-    }
-}
-
-/// The same of a text that has tokens: they are read once more. The error is want of memory.
-#[cold]
-#[inline(never)]
-fn place_of_token(alloc: Global, text: &[u8], token: u64) -> Result<u64, LexFault>
-    ensures at { IfOk result (λ at. (ts : List Lexeme) → Lexes text.now ts → at ≡ place_of text.now ts token) }
-    ensures err { IfErr result (λ f. (ts : List Lexeme) → Lexes text.now ts → f ≡ LexFault.Memory) }
-{
-    let tokens = lex(alloc, text)?;
-    Ok(byte_of(text, &tokens, token))
-}
 
 /// The fields that the text says, or its first fault.
 fn parsed<'a>(alloc: Global, text: &'a [u8]) -> Result<Surface<'a>, TextFault>
@@ -50,10 +28,11 @@ fn parsed<'a>(alloc: Global, text: &'a [u8]) -> Result<Surface<'a>, TextFault>
             at: stop.at,
             why: stop.why,
         }),
-        Err(TextRefusal::Syntax { token, why }) => match place_of_token(alloc, text, token) {
-            Ok(at) => Err(TextFault::Syntax { token, at, why }),
-            Err(_) => Err(TextFault::Memory),
-        },
+        Err(TextRefusal::Syntax { token, why }) => Err(TextFault::Syntax {
+            token,
+            at: byte_of(text, token),
+            why,
+        }),
         Err(TextRefusal::Memory) => Err(TextFault::Memory),
     }
 }
@@ -65,10 +44,11 @@ fn named(alloc: Global, text: &[u8], surface: &Surface<'_>) -> Result<Module, Te
 {
     match resolve(alloc, surface) {
         Ok(module) => Ok(module),
-        Err(NameFault::Bad { token, why }) => match place_of_token(alloc, text, token) {
-            Ok(at) => Err(TextFault::Names { token, at, why }),
-            Err(_) => Err(TextFault::Memory),
-        },
+        Err(NameFault::Bad { token, why }) => Err(TextFault::Names {
+            token,
+            at: byte_of(text, token),
+            why,
+        }),
         Err(NameFault::Memory) => Err(TextFault::Memory),
     }
 }

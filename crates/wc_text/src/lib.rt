@@ -1,6 +1,7 @@
 //! What a text says: from its tokens to its fields (Core 1.0, 6.6).
 #![tactic(auto)]
 
+mod ending;
 mod fault;
 mod fields;
 mod laws;

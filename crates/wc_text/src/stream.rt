@@ -1,9 +1,13 @@
-//! From a text to its fields, token by token.
+//! From a text to its fields, with no token kept.
 
-ghost use Rattle.std.specs.Prelude.{IfOk, IfErr};
-ghost use Rattle.wc_text.specs.Standard.Wholes.{SaysText, IsRefused};
+ghost use Rattle.std.specs.Prelude.{◌≡◌, ◌⊎◌, List, IfOk, IfErr, IsErrAnd, MatchResult};
+ghost use Rattle.wc_surface.specs.declared.field.Field.{Field};
+ghost use Rattle.wc_text.specs.declared.refusal.TextRefusal.{TextRefusal as Refusal};
+ghost use Rattle.wc_text.specs.declared.refusal.TextRefusal.TheVariants.{Memory};
+ghost use Rattle.wc_text.specs.Standard.Wholes.{SaysText, FirstRefusal, IsRefused};
 ghost use Rattle.wc_text.specs.Kept.Refusing.{RefusesBy};
 
+use crate::ending::ended;
 use crate::fault::SynFault;
 use crate::refusal::TextRefusal;
 use crate::taking::take_token;
@@ -11,11 +15,10 @@ use crate::text_draft::TextDraft;
 use std::alloc::Global;
 use wc_body::NESTING_LIMIT;
 use wc_surface::Surface;
-use wc_syntax::{Reading, SynWhy};
+use wc_syntax::Reading;
 use wc_tokens::Lexer;
 
-/// The first fault of a text of whose tokens this is the first that the grammar refuses: what is left may have no
-/// tokens.
+/// The first fault of a text whose tokens so far have this one: what is left may have no tokens.
 #[cold]
 #[inline(never)]
 fn refused(lexer: &Lexer<'_>, fault: SynFault) -> TextRefusal
@@ -30,13 +33,9 @@ fn refused(lexer: &Lexer<'_>, fault: SynFault) -> TextRefusal
     }
 }
 
-/// The fields that a text says (Core 1.0, 6.2 to 6.6), or its first fault: of its characters, else of its grammar. Its
-/// tokens are not kept.
-///
-/// At most `NESTING_LIMIT` blocks and folded instructions are nested in one another. `Memory` comes only where memory
-/// was refused.
-pub fn parse_text<'a>(alloc: Global, text: &'a [u8]) -> Result<Surface<'a>, TextRefusal>
-    ensures ok { IfOk result (λ surface. SaysText text.now surface) }
+/// The fields, or the first fault.
+fn fields_or_refusal<'a>(alloc: Global, text: &'a [u8]) -> Result<Surface<'a>, TextRefusal>
+    ensures ok { IfOk result (λ fields. SaysText text.now fields) }
     ensures fault { IfErr result (λ refusal. IsRefused text.now refusal) }
 {
     let mut lexer = Lexer::new(text)?;
@@ -45,17 +44,30 @@ pub fn parse_text<'a>(alloc: Global, text: &'a [u8]) -> Result<Surface<'a>, Text
     let mut at: usize = 0;
     while let Some(token) = lexer.next()? {
         match take_token(alloc, &mut reading, &mut draft, at, &token) {
-            Ok(()) => {}
+            Ok(()) => at += 1,
             Err(fault) => return Err(refused(&lexer, fault)),
         }
-        at += 1;
     }
-    if reading.is_text() {
-        Ok(Surface::new(draft.into_fields(alloc)))
-    } else {
-        Err(TextRefusal::Syntax {
-            token: at as u64,
-            why: SynWhy::End,
-        })
+    match ended(alloc, &reading, draft, at) {
+        Ok(fields) => Ok(fields),
+        Err(fault) => Err(refused(&lexer, fault)),
     }
+}
+
+/// The fields that a text says (Core 1.0, 6.2 to 6.6), or its first fault: of its length, its encoding and its tokens,
+/// else of its grammar, as [`parse`](crate::parse) tells it. No token is kept.
+///
+/// At most `NESTING_LIMIT` blocks and folded instructions are nested in one another. `Memory` comes only where memory
+/// was refused.
+pub fn parse_text<'a>(alloc: Global, text: &'a [u8]) -> Result<Surface<'a>, TextRefusal>
+    ensures ok { IfOk result (λ surface. SaysText text.now surface) }
+    ensures fault { IfErr result (λ refusal. IsRefused text.now refusal) }
+
+    // So the answer is these fields exactly where the text says them, and this fault exactly where it is the first.
+    ensures only { (fields : List Field) → SaysText text.now fields
+        → MatchResult result (λ surface. surface ≡ fields) (λ refusal. refusal ≡ Memory) }
+    ensures only_fault { (refusal : Refusal) → FirstRefusal text.now refusal
+        → IsErrAnd result (λ found. (found ≡ refusal) ⊎ (found ≡ Memory)) }
+{
+    fields_or_refusal(alloc, text)
 }

@@ -13,3 +13,5 @@ mod refused;
 mod rows;
 #[cfg(test)]
 mod texts;
+#[cfg(test)]
+mod wholes;
