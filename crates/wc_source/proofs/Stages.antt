@@ -1,11 +1,7 @@
 -- What one stage answers is answered of the whole text.
-use Rattle.std.proofs.Common.{◌≡◌, ◌⊎◌, inl, inr, ℕ, zero, suc, ◌<◌, nat_lt, List, [], ◌∷◌, length, drop, get_or, true}
-use Rattle.std.proofs.Common.{sym, ap, subst, arith}
+use Rattle.std.proofs.Common.{◌≡◌, ◌⊎◌, inl, inr, ℕ, List}
 use Rattle.std.proofs.Common.{Result, Ok, Err, IfOk, IfErr, MatchResult, IsErrAnd}
 use Rattle.wc_ast.specs.declared.module.Module.{Module}
-use Rattle.std.proofs.lemmas.Bool.{ltb-true}
-use Rattle.wc_tokens.specs.declared.token.Token.{Token}
-use Rattle.wc_tokens.specs.Standard.Tokens.{lexemes_of}
 use Rattle.wc_tokens.specs.Standard.Lexemes.{Lexeme, Lexes}
 use Rattle.wc_surface.specs.declared.field.Field.{Field}
 use Rattle.wc_syntax.specs.declared.why.SynWhy.{SynWhy}
@@ -15,7 +11,7 @@ use Rattle.wc_names.specs.Standard.Denoted.{Names as Denote, FirstFault as First
 use Rattle.wc_source.specs.declared.fault.TextFault.{TextFault}
 use Rattle.wc_source.specs.declared.fault.TextFault.TheVariants.{Syntax, Names, Memory}
 use Rattle.wc_source.specs.Texts.{Txt}
-use Rattle.wc_source.specs.Faults.{start_or, byte_of, FirstFault, IsFault}
+use Rattle.wc_source.specs.Faults.{byte_of, FirstFault, IsFault}
 use Rattle.wc_source.proofs.Laws.{one-module, one-fault, never-both}
 
 pub syntax-told : (text : List ℕ) (token at : ℕ) (why : SynWhy) → IsUngrammatical text token why
@@ -39,19 +35,6 @@ names-told text fields token at why h p s =
 pub text-read : (text : List ℕ) (fields : List Field) (m : Module) → Denote fields m → SaysText text fields → Txt text m
 text-read text fields m h s =
     record { tokens = s.tokens; fields = fields; lexes = s.lexes; says = s.says; names = h }
-
--- ---- the byte of a token
-
-byte-at : (size : ℕ) (items : List Token) (n : ℕ) (t d : Token) → n < length items → t ≡ get_or items n d
-    → t.start ≡ start_or size (drop n (lexemes_of items))
-byte-at size [] n t d lt e = absurd (omega arith)
-byte-at size (x ∷ xs) zero t d lt e = ap (λ (y : Token). y.start) e
-byte-at size (x ∷ xs) (suc n) t d lt e = byte-at size xs n t d (omega arith) e
-
-pub byte-there : (size : ℕ) (items : List Token) (ts : List Lexeme) (n : ℕ) (t d : Token) → lexemes_of items ≡ ts
-    → true ≡ nat_lt n (length items) → t ≡ get_or items n d → t.start ≡ start_or size (drop n ts)
-byte-there size items ts n t d e lt h =
-    subst (λ us. t.start ≡ start_or size (drop n us)) e (byte-at size items n t d (ltb-true n (length items) (sym lt)) h)
 
 -- ---- the only answer
 

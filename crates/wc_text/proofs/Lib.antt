@@ -9,3 +9,4 @@ pub mod Streams
 pub mod Sizes
 pub mod Few
 pub mod Answering
+pub mod Wholes

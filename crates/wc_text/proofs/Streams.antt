@@ -1,11 +1,13 @@
 -- Texts whose tokens are not kept.
-use Rattle.std.proofs.Common.{◌≡◌, ℕ, zero, suc, ◌+◌, ◌<◌, ◌≤◌, List, [], ◌∷◌, length, drop, IsUtf8}
-use Rattle.std.proofs.Common.{refl, sym, subst, arith}
+use Rattle.std.proofs.Common.{◌≡◌, ◌⊎◌, inl, inr, ℕ, zero, suc, ◌+◌, ◌<◌, ◌≤◌, List, [], ◌∷◌, length, drop, IsUtf8}
+use Rattle.std.proofs.Common.{Option, Some, None, Ok, sym, subst, arith}
+use Rattle.wc_tokens.specs.declared.token.Token.{Token}
 use Rattle.wc_tokens.specs.declared.fault.Stop.{Stop}
 use Rattle.wc_tokens.specs.Standard.Gaps.{Gaps}
-use Rattle.wc_tokens.specs.Standard.Lexemes.{Lexeme, HasForm, Lexes, Lexed, longest}
-use Rattle.wc_tokens.specs.Standard.Faults.{FirstFault as FirstLexFault, lexical, Stops}
-use Rattle.wc_tokens.specs.Standard.Streams.{Unread, unread, Gives}
+use Rattle.wc_tokens.specs.Standard.Lexemes.{Lexeme, HasForm, Lexes, longest}
+use Rattle.wc_tokens.specs.Standard.Faults.{lexical, Stops}
+use Rattle.wc_tokens.specs.Standard.Streams.{Unread, unread, Gives, IsRead as IsTaken}
+use Rattle.wc_tokens.specs.Standard.Tokens.{lexeme_of}
 use Rattle.wc_tokens.proofs.Lexing.StreamLaws.{IsReading, IsReading-start, IsReading-token, IsReading-end}
 use Rattle.wc_tokens.proofs.Lexing.StreamLaws.{IsReading-rest, IsReading-stop}
 use Rattle.wc_body.specs.Standard.Nested.{nesting_limit}
@@ -20,7 +22,7 @@ use Rattle.wc_text.specs.Standard.Texts.{nothing}
 use Rattle.wc_text.specs.Standard.Faults.{FirstFault, IsFault}
 use Rattle.wc_text.specs.Standard.Wholes.{IsRefused}
 use Rattle.wc_text.specs.Kept.Refusing.{RefusesBy}
-use Rattle.wc_text.specs.Kept.SaidSoFar.{IsSaid, SaysMore, Refuses}
+use Rattle.wc_text.specs.Kept.SaidSoFar.{IsSaid, IsAllSaid, SaysMore, Refuses}
 use Rattle.wc_text.proofs.Said.{said-first}
 use Rattle.wc_text.proofs.Forms.{few}
 
@@ -46,25 +48,45 @@ stream-first text u s d e short utf8 r q =
       said = said-first w.0 s d r q;
     }
 
+-- ---- one more token
+
 below : {X : Type 0} (n : ℕ) (xs : List X) (x : X) (rest : List X) → drop n xs ≡ x ∷ rest → n < length xs
 below zero [] x rest e = absurd cc
 below zero (y ∷ xs) x rest e = omega arith
 below (suc n) [] x rest e = absurd cc
 below (suc n) (y ∷ xs) x rest e = let i = below n xs x rest e in omega (arith, i)
 
--- ---- one more token
-
 -- it is one of the tokens of the text
-pub record IsFound (text : List ℕ) (at : ℕ) (t : Lexeme) (u v : Unread) (s : Standing) (d : TextDraft) : Type 0 where
+pub record IsFound (text : List ℕ) (at : ℕ) (t : Lexeme) (v : Unread) (s : Standing) (d : TextDraft) : Type 0 where
   pub few : at < 4294967296
   pub form : HasForm t.kind t.text
   pub taken : (s' : Standing) (d' : TextDraft) → SaysMore t at s d s' d' → IsStream text (at + 1) v s' d'
-  pub refused : (f : SynFault) → Refuses t at s d f
-      → (ts : List Lexeme) × IsReading text ts (at + 1) v × IsFault ts f
+  pub refused : (f : SynFault) (r : TextRefusal) → Refuses t at s d f → RefusesBy v f r → IsRefused text r
 
-pub stream-token : {text : List ℕ} {at : ℕ} {u v : Unread} {s : Standing} {d : TextDraft} (t : Lexeme)
-    → IsStream text at u s d → Gives u t v → IsFound text at t u v s d
-stream-token {text} {at} {u} {v} {s} {d} t w g =
+-- ---- faults
+
+-- a fault of what is left is one of the text
+pub stream-stop : {text : List ℕ} {at : ℕ} {u : Unread} {s : Standing} {d : TextDraft} (stop : Stop)
+    → IsStream text at u s d → Stops u.size u.rest stop.at stop.why → IsRefused text (Lex stop)
+stream-stop stop w h = inr (lexical w.short w.utf8 (IsReading-stop stop.at stop.why w.reading h))
+
+-- what is left of the text decides, of its fault or of that of its tokens
+refused-told : {text : List ℕ} {ts : List Lexeme} {at : ℕ} {u : Unread} (f : SynFault) (r : TextRefusal)
+    → length text ≤ longest → IsUtf8 text → IsReading text ts at u → IsFault ts f → RefusesBy u f r → IsRefused text r
+refused-told fault.Memory r short utf8 reading h e = inl e
+refused-told (fault.Bad token why) (Lex stop) short utf8 reading h e =
+    inr (lexical short utf8 (IsReading-stop stop.at stop.why reading e))
+refused-told {text} {ts} (fault.Bad token why) (Syntax at reason) short utf8 reading h e = inr (record {
+  tokens = ts;
+  lexes = record { short = short; utf8 = utf8; lexed = IsReading-rest reading e.2.1 };
+  first = subst (λ (n : ℕ). FirstFault ts n reason) (sym e.0)
+      (subst (λ (y : SynWhy). FirstFault ts token y) (sym e.1) h);
+})
+refused-told (fault.Bad token why) Memory short utf8 reading h e = absurd e
+
+token-found : {text : List ℕ} {at : ℕ} {u v : Unread} {s : Standing} {d : TextDraft} (t : Lexeme)
+    → IsStream text at u s d → Gives u t v → IsFound text at t v s d
+token-found {text} {at} {u} {v} {s} {d} t w g =
     let n = IsReading-token t w.reading g in
     let under = below at w.tokens t (drop (at + 1) w.tokens) n.stands in
     record {
@@ -78,12 +100,14 @@ stream-token {text} {at} {u} {v} {s} {d} t w g =
         reading = n.reading;
         said = says w.tokens _ w.said n.stands;
       };
-      refused = λ f refuses. (
-        w.tokens,
-        n.reading,
-        refuses w.tokens _ w.said n.stands w.reading.in_order,
-      );
+      refused = λ f r refuses.
+          refused-told f r w.short w.utf8 n.reading (refuses w.tokens _ w.said n.stands w.reading.in_order);
     }
+
+pub stream-token : {text : List ℕ} {at : ℕ} {u v : Unread} {s : Standing} {d : TextDraft} {o : Option Token} (t : Token)
+    → IsStream text at u s d → IsTaken u v (Ok o) → o ≡ Some t → IsFound text at (lexeme_of t) v s d
+stream-token {u = u} {v = v} t w r e =
+    token-found (lexeme_of t) w (subst (λ (x : Option Token). IsTaken u v (Ok x)) e r)
 
 -- ---- the end
 
@@ -94,35 +118,30 @@ past (suc n) [] e = omega arith
 past (suc n) (y ∷ xs) e = let i = past n xs e in omega (arith, i)
 
 -- all of the tokens were read
-pub record IsWhole (text : List ℕ) (at : ℕ) (tokens : List Lexeme) : Type 0 where
+pub record IsWhole (text : List ℕ) (at : ℕ) (u : Unread) (s : Standing) (d : TextDraft) : Type 0 where
+  pub tokens : List Lexeme
   pub lexes : Lexes text tokens
-  pub count : at ≡ length tokens
+  pub all : IsAllSaid tokens at s d
+  pub refused : (f : SynFault) (r : TextRefusal) → IsFault tokens f → RefusesBy u f r → IsRefused text r
 
-pub stream-end : {text : List ℕ} {at : ℕ} {u : Unread} {s : Standing} {d : TextDraft} (w : IsStream text at u s d)
-    → Gaps u.rest [] → IsWhole text at w.tokens
-stream-end {text} {at} w g =
+all-read : {text : List ℕ} {at : ℕ} {u v : Unread} {s : Standing} {d : TextDraft} → IsStream text at u s d
+    → Gaps u.rest [] → v ≡ u → IsWhole text at v s d
+all-read {text} {at} {u} {v} w g same =
     let e = IsReading-end w.reading g in
     let l = past at w.tokens e.all in
     record {
+      tokens = w.tokens;
       lexes = record { short = w.short; utf8 = w.utf8; lexed = e.lexed };
-      count = let m = w.within in omega (arith, l, m);
+      all = record {
+        in_order = w.reading.in_order;
+        all = let m = w.within in omega (arith, l, m);
+        said = w.said;
+      };
+      refused = λ f r. refused-told f r w.short w.utf8
+          (subst (λ (x : Unread). IsReading text w.tokens at x) (sym same) w.reading);
     }
 
--- ---- faults
-
-pub stream-stop : {text : List ℕ} {at : ℕ} {u : Unread} {s : Standing} {d : TextDraft} (stop : Stop)
-    → IsStream text at u s d → Stops u.size u.rest stop.at stop.why → FirstLexFault text stop.at stop.why
-stream-stop stop w h = lexical w.short w.utf8 (IsReading-stop stop.at stop.why w.reading h)
-
-pub refused-told : {text : List ℕ} {ts : List Lexeme} {at : ℕ} {u : Unread} (f : SynFault) (r : TextRefusal)
-    → length text ≤ longest → IsUtf8 text → IsReading text ts at u → IsFault ts f → RefusesBy u f r → IsRefused text r
-refused-told {text} fault.Memory r short utf8 reading h e = subst (IsRefused text) (sym e) tt
-refused-told (fault.Bad token why) (Lex stop) short utf8 reading h e =
-    lexical short utf8 (IsReading-stop stop.at stop.why reading e)
-refused-told {text} {ts} (fault.Bad token why) (Syntax at reason) short utf8 reading h e = record {
-  tokens = ts;
-  lexes = record { short = short; utf8 = utf8; lexed = IsReading-rest reading e.2.1 };
-  first = subst (λ (n : ℕ). FirstFault ts n reason) (sym e.0)
-      (subst (λ (y : SynWhy). FirstFault ts token y) (sym e.1) h);
-}
-refused-told (fault.Bad token why) Memory short utf8 reading h e = absurd e
+pub stream-end : {text : List ℕ} {at : ℕ} {u v : Unread} {s : Standing} {d : TextDraft} {o : Option Token}
+    → IsStream text at u s d → IsTaken u v (Ok o) → o ≡ None → IsWhole text at v s d
+stream-end {u = u} {v = v} w r e =
+    let g : IsTaken u v (Ok None) = subst (λ (x : Option Token). IsTaken u v (Ok x)) e r in all-read w g.0 g.1
