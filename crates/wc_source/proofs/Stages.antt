@@ -4,21 +4,16 @@ use Rattle.std.proofs.Common.{Result, Ok, Err, IfOk, IfErr, MatchResult, IsErrAn
 use Rattle.wc_ast.specs.declared.module.Module.{Module}
 use Rattle.wc_tokens.specs.Standard.Lexemes.{Lexeme, Lexes}
 use Rattle.wc_surface.specs.declared.field.Field.{Field}
-use Rattle.wc_syntax.specs.declared.why.SynWhy.{SynWhy}
-use Rattle.wc_text.specs.Standard.Wholes.{SaysText, IsUngrammatical}
+use Rattle.wc_text.specs.Standard.Wholes.{SaysText}
 use Rattle.wc_targets.specs.declared.why.NameWhy.{NameWhy}
 use Rattle.wc_names.specs.Standard.Denoted.{Names as Denote, FirstFault as FirstNameFault}
 use Rattle.wc_source.specs.declared.fault.TextFault.{TextFault}
-use Rattle.wc_source.specs.declared.fault.TextFault.TheVariants.{Syntax, Names, Memory}
+use Rattle.wc_source.specs.declared.fault.TextFault.TheVariants.{Names, Memory}
 use Rattle.wc_source.specs.Texts.{Txt}
 use Rattle.wc_source.specs.Faults.{byte_of, FirstFault, IsFault}
 use Rattle.wc_source.proofs.Laws.{one-module, one-fault, never-both}
 
-pub syntax-told : (text : List ℕ) (token at : ℕ) (why : SynWhy) → IsUngrammatical text token why
-    → ((ts : List Lexeme) → Lexes text ts → at ≡ byte_of text ts token) → IsFault text (Syntax token at why)
-syntax-told text token at why g p =
-    inr (record { tokens = g.tokens; lexes = g.lexes; first = g.first; place = p g.tokens g.lexes })
-
+-- the first fault of the names
 pub names-told : (text : List ℕ) (fields : List Field) (token at : ℕ) (why : NameWhy) → FirstNameFault fields token why
     → ((ts : List Lexeme) → Lexes text ts → at ≡ byte_of text ts token) → SaysText text fields
     → IsFault text (Names token at why)
@@ -32,6 +27,7 @@ names-told text fields token at why h p s =
       place = p s.tokens s.lexes;
     })
 
+-- the module
 pub text-read : (text : List ℕ) (fields : List Field) (m : Module) → Denote fields m → SaysText text fields → Txt text m
 text-read text fields m h s =
     record { tokens = s.tokens; fields = fields; lexes = s.lexes; says = s.says; names = h }

@@ -2,6 +2,7 @@
 
 ghost use Rattle.std.specs.Prelude.{◌≡◌, ◌⊎◌, List, IfOk, IfErr, IsErrAnd, MatchResult};
 ghost use Rattle.wc_surface.specs.declared.field.Field.{Field};
+ghost use Rattle.wc_text.specs.declared.fault.SynFault.TheVariants.{Bad};
 ghost use Rattle.wc_text.specs.declared.refusal.TextRefusal.{TextRefusal as Refusal};
 ghost use Rattle.wc_text.specs.declared.refusal.TextRefusal.TheVariants.{Memory};
 ghost use Rattle.wc_text.specs.Standard.Wholes.{SaysText, FirstRefusal, IsRefused};
@@ -15,21 +16,30 @@ use crate::text_draft::TextDraft;
 use std::alloc::Global;
 use wc_body::NESTING_LIMIT;
 use wc_surface::Surface;
-use wc_syntax::Reading;
+use wc_syntax::{Reading, SynWhy};
 use wc_tokens::Lexer;
 
-/// The first fault of a text whose tokens so far have this one: what is left may have no tokens.
+/// The first fault of a text of whose tokens this is the first that the grammar refuses: what is left may have no tokens.
 #[cold]
 #[inline(never)]
-fn refused(lexer: &Lexer<'_>, fault: SynFault) -> TextRefusal
-    ensures { RefusesBy lexer.now fault result }
+fn ungrammatical(lexer: &Lexer<'_>, token: u64, why: SynWhy) -> TextRefusal
+    ensures { RefusesBy lexer.now (Bad token why) result }
 {
-    let SynFault::Bad { token, why } = fault else {
-        return TextRefusal::Memory;
-    };
     match lexer.check_rest() {
         Ok(_) => TextRefusal::Syntax { token, why },
         Err(stop) => TextRefusal::Lex(stop),
+    }
+}
+
+/// The first fault of a text whose tokens so far have this one.
+// It takes what is left for itself, so that a loop needs no place for it in memory.
+#[inline(always)]
+fn refused(lexer: Lexer<'_>, fault: SynFault) -> TextRefusal
+    ensures { RefusesBy lexer.entry fault result }
+{
+    match fault {
+        SynFault::Bad { token, why } => ungrammatical(&lexer, token, why),
+        SynFault::Memory => TextRefusal::Memory,
     }
 }
 
@@ -45,12 +55,12 @@ fn fields_or_refusal<'a>(alloc: Global, text: &'a [u8]) -> Result<Surface<'a>, T
     while let Some(token) = lexer.next()? {
         match take_token(alloc, &mut reading, &mut draft, at, &token) {
             Ok(()) => at += 1,
-            Err(fault) => return Err(refused(&lexer, fault)),
+            Err(fault) => return Err(refused(lexer, fault)),
         }
     }
     match ended(alloc, &reading, draft, at) {
         Ok(fields) => Ok(fields),
-        Err(fault) => Err(refused(&lexer, fault)),
+        Err(fault) => Err(refused(lexer, fault)),
     }
 }
 

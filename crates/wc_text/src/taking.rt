@@ -22,8 +22,38 @@ use wc_syntax::{Reading, Role};
 use wc_tokens::{Token, TokenKind};
 use wc_words::{Symbol, Value, symbol_of};
 
-/// Any token.
+/// Any token, by the whole table of the grammar.
 #[inline(never)]
+fn take_by_table<'a>(
+    alloc: Global,
+    reading: &mut Reading,
+    draft: &mut TextDraft<'a>,
+    at: usize,
+    token: Token<'a>,
+    symbol: Symbol,
+) -> Result<(), SynFault>
+    requires few { at < 2 ^ 32 }
+    requires form { HasForm token.kind token.text.now }
+    requires symbol { TokenIs token.kind token.text.now symbol }
+    ensures said { OnOk result (SaysMore (lexeme_of token) at reading.old draft.old reading.new draft.new) }
+    ensures fault { IfErr result (Refuses (lexeme_of token) at reading.old draft.old) }
+{
+    let Some(role) = reading.take(at, symbol.kind)? else {
+        return Ok(());
+    };
+    let word = Word {
+        token: at as u32,
+        symbol,
+        text: token.text,
+    };
+    let bytes = bytes_of(alloc, &token)?;
+    draft.take(alloc, role, &word, bytes)?;
+    Ok(())
+}
+
+/// Any token.
+// The token is copied for the call alone, so that it needs no place in memory where it is read without the table.
+#[inline(always)]
 fn take_any<'a>(
     alloc: Global,
     reading: &mut Reading,
@@ -38,17 +68,7 @@ fn take_any<'a>(
     ensures said { OnOk result (SaysMore (lexeme_of token.now) at reading.old draft.old reading.new draft.new) }
     ensures fault { IfErr result (Refuses (lexeme_of token.now) at reading.old draft.old) }
 {
-    let Some(role) = reading.take(at, symbol.kind)? else {
-        return Ok(());
-    };
-    let word = Word {
-        token: at as u32,
-        symbol,
-        text: token.text,
-    };
-    let bytes = bytes_of(alloc, token)?;
-    draft.take(alloc, role, &word, bytes)?;
-    Ok(())
+    take_by_table(alloc, reading, draft, at, *token, symbol)
 }
 
 /// Keeps a token of an instruction. The error is want of memory.
@@ -79,14 +99,15 @@ fn take_open<'a>(
     draft: &mut TextDraft<'a>,
     at: usize,
     token: &Token<'a>,
+    symbol: Symbol,
 ) -> Result<(), SynFault>
     requires few { at < 2 ^ 32 }
     requires form { HasForm token.now.kind token.now.text.now }
     requires kind { token.now.kind ≡ tokens.Open }
+    requires symbol { TokenIs token.now.kind token.now.text.now symbol }
     ensures said { OnOk result (SaysMore (lexeme_of token.now) at reading.old draft.old reading.new draft.new) }
     ensures fault { IfErr result (Refuses (lexeme_of token.now) at reading.old draft.old) }
 {
-    let symbol = symbol_of(token);
     if reading.take_open() {
         return Ok(());
     }
@@ -101,14 +122,15 @@ fn take_close<'a>(
     draft: &mut TextDraft<'a>,
     at: usize,
     token: &Token<'a>,
+    symbol: Symbol,
 ) -> Result<(), SynFault>
     requires few { at < 2 ^ 32 }
     requires form { HasForm token.now.kind token.now.text.now }
     requires kind { token.now.kind ≡ tokens.Close }
+    requires symbol { TokenIs token.now.kind token.now.text.now symbol }
     ensures said { OnOk result (SaysMore (lexeme_of token.now) at reading.old draft.old reading.new draft.new) }
     ensures fault { IfErr result (Refuses (lexeme_of token.now) at reading.old draft.old) }
 {
-    let symbol = symbol_of(token);
     if reading.take_held_end() {
         keep(draft, Role::HeldEnd, at, symbol, token.text)?;
         return Ok(());
@@ -204,14 +226,15 @@ fn take_word<'a>(
     draft: &mut TextDraft<'a>,
     at: usize,
     token: &Token<'a>,
+    symbol: Symbol,
 ) -> Result<(), SynFault>
     requires few { at < 2 ^ 32 }
     requires form { HasForm token.now.kind token.now.text.now }
     requires kind { token.now.kind ≡ tokens.Word }
+    requires symbol { TokenIs token.now.kind token.now.text.now symbol }
     ensures said { OnOk result (SaysMore (lexeme_of token.now) at reading.old draft.old reading.new draft.new) }
     ensures fault { IfErr result (Refuses (lexeme_of token.now) at reading.old draft.old) }
 {
-    let symbol = symbol_of(token);
     match symbol.value {
         Value::Instruction(_) => take_name(alloc, reading, draft, at, token, symbol),
         Value::Number(_) => take_number(alloc, reading, draft, at, token, symbol),
@@ -234,13 +257,11 @@ pub(crate) fn take_token<'a>(
     ensures said { OnOk result (SaysMore (lexeme_of token.now) at reading.old draft.old reading.new draft.new) }
     ensures fault { IfErr result (Refuses (lexeme_of token.now) at reading.old draft.old) }
 {
+    let symbol = symbol_of(token);
     match token.kind {
-        TokenKind::Open => take_open(alloc, reading, draft, at, token),
-        TokenKind::Close => take_close(alloc, reading, draft, at, token),
-        TokenKind::Word => take_word(alloc, reading, draft, at, token),
-        TokenKind::Id | TokenKind::Str => {
-            let symbol = symbol_of(token);
-            take_any(alloc, reading, draft, at, token, symbol)
-        }
+        TokenKind::Open => take_open(alloc, reading, draft, at, token, symbol),
+        TokenKind::Close => take_close(alloc, reading, draft, at, token, symbol),
+        TokenKind::Word => take_word(alloc, reading, draft, at, token, symbol),
+        TokenKind::Id | TokenKind::Str => take_any(alloc, reading, draft, at, token, symbol),
     }
 }

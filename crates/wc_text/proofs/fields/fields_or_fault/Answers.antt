@@ -45,12 +45,14 @@ loop-at-preserved c =
 pub ended-requires : goal.ended-requires
 ended-requires c =
     let all = c.as_slice-all.result.now in
-    let o : InOrder 0 (lexemes_of all) = rw c.as_slice-all.ensures.tokens c.as_slice-all.ensures.in_order in
-    (lexemes_of all, record {
-      in_order = o;
-      all = all-lexemes all c.loop-at.at c.loop-at.invariant.within c.loop-at-test.false;
-      said = c.loop-at.invariant.said;
-    })
+    let o : InOrder 0 (lexemes_of all) = rw c.as_slice-all.ensures.tokens c.as_slice-all.ensures.in_order in (
+      lexemes_of all,
+      record {
+        in_order = o;
+        all = all-lexemes all c.loop-at.at c.loop-at.invariant.within c.loop-at-test.false;
+        said = c.loop-at.invariant.said;
+      },
+    )
 
 pub returns : goal.returns
 returns c =

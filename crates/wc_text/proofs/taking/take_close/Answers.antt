@@ -9,7 +9,7 @@ use Rattle.wc_text.proofs.taking.take_close.Goals as goal
 
 pub returns-then-take_held_end-clause-said : goal.returns-then-take_held_end-clause-said
 returns-then-take_held_end-clause-said c = λ ts rest w e.
-    said-held-end w _ rest _ _ _ e c.requires.kind c.symbol_of-symbol.ensures.symbol
+    said-held-end w _ rest _ _ _ e c.requires.kind c.requires.symbol
     (c.take_held_end.ensures.read c.if-take_held_end.true nesting_limit c.args.at w.kinds w.es w.read (said-count w _ rest e))
     c.in_ok-keep.ensures
 

@@ -9,7 +9,7 @@ use Rattle.wc_text.proofs.taking.take_open.Goals as goal
 
 pub returns-then-take_open-clause-said : goal.returns-then-take_open-clause-said
 returns-then-take_open-clause-said c = λ ts rest w e.
-    said-open w _ rest _ _ e c.requires.kind c.symbol_of-symbol.ensures.symbol
+    said-open w _ rest _ _ e c.requires.kind c.requires.symbol
     (c.take_open.ensures.read c.if-take_open.true nesting_limit c.args.at w.kinds w.es w.read (said-count w _ rest e))
 
 pub returns-clause-said : goal.returns-clause-said
