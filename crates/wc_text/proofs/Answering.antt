@@ -151,11 +151,11 @@ abbrev pub Answers : List Lexeme → Result (List Field) SynFault → Type 0
 Answers ts result = MatchResult result (λ fields. Syn ts fields) (λ f. IsFault ts f)
 
 -- what is told at the end of all tokens
-pub answers-whole : (ts : List Lexeme) (at : ℕ) (s : Standing) (d : TextDraft) (result : Result (List Field) SynFault)
-    → IsAllSaid ts at s d → IfOk result (λ fields. (us : List Lexeme) → IsAllSaid us at s d → Syn us fields)
-    → IfErr result (λ f. (us : List Lexeme) → IsAllSaid us at s d → IsFault us f) → Answers ts result
-answers-whole ts at s d (Ok fields) w says faults = says ts w
-answers-whole ts at s d (Err f) w says faults = faults ts w
+pub answers-whole : (ts : List Lexeme) (n : ℕ) (s : Standing) (d : TextDraft) (result : Result (List Field) SynFault)
+    → IsAllSaid ts n s d → IfOk result (λ fields. (us : List Lexeme) → IsAllSaid us n s d → Syn us fields)
+    → IfErr result (λ f. (us : List Lexeme) → IsAllSaid us n s d → IsFault us f) → Answers ts result
+answers-whole ts n s d (Ok fields) w says faults = says ts w
+answers-whole ts n s d (Err f) w says faults = faults ts w
 
 pub answers-fields : (ts : List Lexeme) (result : Result (List Field) SynFault) → Answers ts result
     → IfOk result (λ fields. Syn ts fields)
