@@ -35,8 +35,8 @@ fn take_by_table<'a>(
     requires few { at < 2 ^ 32 }
     requires form { HasForm token.kind token.text.now }
     requires symbol { TokenIs token.kind token.text.now symbol }
-    ensures said { OnOk result (SaysMore (lexeme_of token) at reading.old draft.old reading.new draft.new) }
-    ensures fault { IfErr result (Refuses (lexeme_of token) at reading.old draft.old) }
+    ensures said { OnOk result (SaysMore (lexeme_of token.entry) at reading.old draft.old reading.new draft.new) }
+    ensures fault { IfErr result (Refuses (lexeme_of token.entry) at reading.old draft.old) }
 {
     let Some(role) = reading.take(at, symbol.kind)? else {
         return Ok(());
