@@ -8,6 +8,7 @@ ghost use Rattle.std.specs.Prelude.{◌≡◌, ◌<◌, ◌^◌, IfErr, OnOk};
 ghost use Rattle.wc_tokens.specs.Standard.Lexemes.{HasForm};
 ghost use Rattle.wc_tokens.specs.Standard.Tokens.{lexeme_of};
 ghost use Rattle.wc_tokens.specs.declared.token.TokenKind.TheVariants as tokens;
+ghost use Rattle.wc_words.specs.Symbols.{bare};
 ghost use Rattle.wc_words.specs.Tokens.{TokenIs};
 ghost use Rattle.wc_drafts.specs.Standard.Tokens.{kept_token};
 ghost use Rattle.wc_text.specs.Standard.Texts.{with_word};
@@ -18,9 +19,20 @@ use crate::string::bytes_of;
 use crate::text_draft::TextDraft;
 use std::alloc::{AllocError, Global};
 use wc_drafts::Word;
-use wc_syntax::{Reading, Role};
+use wc_syntax::{Kind, Reading, Role};
 use wc_tokens::{Token, TokenKind};
 use wc_words::{Symbol, Value, symbol_of};
+
+/// What a token is whose kind says all.
+#[inline(always)]
+fn bare(kind: Kind) -> Symbol
+    ensures { result ≡ bare kind }
+{
+    Symbol {
+        kind,
+        value: Value::Nothing,
+    }
+}
 
 /// Any token, by the whole table of the grammar.
 #[inline(never)]
@@ -99,15 +111,14 @@ fn take_open<'a>(
     draft: &mut TextDraft<'a>,
     at: usize,
     token: &Token<'a>,
-    symbol: Symbol,
 ) -> Result<(), SynFault>
     requires few { at < 2 ^ 32 }
     requires form { HasForm token.now.kind token.now.text.now }
     requires kind { token.now.kind ≡ tokens.Open }
-    requires symbol { TokenIs token.now.kind token.now.text.now symbol }
     ensures said { OnOk result (SaysMore (lexeme_of token.now) at reading.old draft.old reading.new draft.new) }
     ensures fault { IfErr result (Refuses (lexeme_of token.now) at reading.old draft.old) }
 {
+    let symbol = bare(Kind::Open);
     if reading.take_open() {
         return Ok(());
     }
@@ -122,15 +133,14 @@ fn take_close<'a>(
     draft: &mut TextDraft<'a>,
     at: usize,
     token: &Token<'a>,
-    symbol: Symbol,
 ) -> Result<(), SynFault>
     requires few { at < 2 ^ 32 }
     requires form { HasForm token.now.kind token.now.text.now }
     requires kind { token.now.kind ≡ tokens.Close }
-    requires symbol { TokenIs token.now.kind token.now.text.now symbol }
     ensures said { OnOk result (SaysMore (lexeme_of token.now) at reading.old draft.old reading.new draft.new) }
     ensures fault { IfErr result (Refuses (lexeme_of token.now) at reading.old draft.old) }
 {
+    let symbol = bare(Kind::Close);
     if reading.take_held_end() {
         keep(draft, Role::HeldEnd, at, symbol, token.text)?;
         return Ok(());
@@ -218,23 +228,21 @@ fn take_offset<'a>(
     take_any(alloc, reading, draft, at, token, symbol)
 }
 
-/// A word.
+/// A word or a string: what it is has to be looked up.
 #[inline(always)]
-fn take_word<'a>(
+fn take_valued<'a>(
     alloc: Global,
     reading: &mut Reading,
     draft: &mut TextDraft<'a>,
     at: usize,
     token: &Token<'a>,
-    symbol: Symbol,
 ) -> Result<(), SynFault>
     requires few { at < 2 ^ 32 }
     requires form { HasForm token.now.kind token.now.text.now }
-    requires kind { token.now.kind ≡ tokens.Word }
-    requires symbol { TokenIs token.now.kind token.now.text.now symbol }
     ensures said { OnOk result (SaysMore (lexeme_of token.now) at reading.old draft.old reading.new draft.new) }
     ensures fault { IfErr result (Refuses (lexeme_of token.now) at reading.old draft.old) }
 {
+    let symbol = symbol_of(token);
     match symbol.value {
         Value::Instruction(_) => take_name(alloc, reading, draft, at, token, symbol),
         Value::Number(_) => take_number(alloc, reading, draft, at, token, symbol),
@@ -257,11 +265,10 @@ pub(crate) fn take_token<'a>(
     ensures said { OnOk result (SaysMore (lexeme_of token.now) at reading.old draft.old reading.new draft.new) }
     ensures fault { IfErr result (Refuses (lexeme_of token.now) at reading.old draft.old) }
 {
-    let symbol = symbol_of(token);
     match token.kind {
-        TokenKind::Open => take_open(alloc, reading, draft, at, token, symbol),
-        TokenKind::Close => take_close(alloc, reading, draft, at, token, symbol),
-        TokenKind::Word => take_word(alloc, reading, draft, at, token, symbol),
-        TokenKind::Id | TokenKind::Str => take_any(alloc, reading, draft, at, token, symbol),
+        TokenKind::Open => take_open(alloc, reading, draft, at, token),
+        TokenKind::Close => take_close(alloc, reading, draft, at, token),
+        TokenKind::Id => take_any(alloc, reading, draft, at, token, bare(Kind::Id)),
+        TokenKind::Word | TokenKind::Str => take_valued(alloc, reading, draft, at, token),
     }
 }
