@@ -1,3 +1,2 @@
 pub mod Texts
 pub mod Faults
-pub mod Telling

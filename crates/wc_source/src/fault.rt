@@ -2,7 +2,7 @@
 
 use wc_syntax::SynWhy;
 use wc_targets::NameWhy;
-use wc_tokens::{LexFault, LexWhy};
+use wc_tokens::LexWhy;
 
 /// Why a text denotes no module. A token is counted from 0, and a byte is its first one, counted from 0 in the whole
 /// text.
@@ -17,18 +17,4 @@ pub enum TextFault {
     Names { token: u64, at: u64, why: NameWhy },
     /// A growth of memory was refused.
     Memory,
-}
-
-impl From<LexFault> for TextFault {
-    ghost use Rattle.std.specs.Prelude.{◌≡◌};
-    ghost use Rattle.wc_source.specs.Telling.{lexing_fault};
-
-    ghost from_gives = { λ fault told. told ≡ lexing_fault fault };
-
-    fn from(fault: LexFault) -> TextFault {
-        match fault {
-            LexFault::Bad { at, why } => TextFault::Lex { at, why },
-            LexFault::Memory => TextFault::Memory,
-        }
-    }
 }

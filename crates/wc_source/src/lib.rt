@@ -3,6 +3,7 @@
 
 mod fault;
 mod law;
+mod place;
 mod reading;
 
 pub use fault::TextFault;

@@ -6,3 +6,4 @@ mod nesting;
 mod refused;
 mod rows;
 mod texts;
+mod wholes;

@@ -12,6 +12,7 @@ use Rattle.wc_syntax.specs.declared.why.SynWhy.{SynWhy}
 use Rattle.wc_syntax.specs.Phrases.{word, mark}
 use Rattle.wc_syntax.specs.Deriving.{Event, kept, at}
 use Rattle.wc_syntax.specs.Parsing.{IsText}
+use Rattle.wc_syntax.specs.Reading.{Standing}
 use Rattle.wc_syntax.proofs.Exactness.{always-one as kinds-always-one, not-both as kinds-not-both}
 use Rattle.wc_syntax.proofs.Exactness.{one-list as kinds-one-list, one-fault as kinds-one-fault}
 use Rattle.wc_words.specs.declared.symbol.Symbol.{Symbol}
@@ -19,11 +20,13 @@ use Rattle.wc_words.proofs.RangeLemmas.{TokenIs-same}
 use Rattle.wc_drafts.specs.Standard.Tokens.{kept_token}
 use Rattle.wc_surface.specs.declared.field.Field.{Field}
 use Rattle.wc_surface.specs.Standard.Sizes.{IsSurface}
+use Rattle.wc_text.specs.declared.text_draft.TextDraft.{TextDraft}
 use Rattle.wc_text.specs.declared.fault.SynFault.{SynFault}
 use Rattle.wc_text.specs.declared.fault.SynFault.TheVariants.{Bad, Memory}
 use Rattle.wc_text.specs.Standard.Texts.{Item, said}
 use Rattle.wc_text.specs.Standard.Meaning.{Each, none, more, HasKind, StandsFor, IsItem, Syn}
 use Rattle.wc_text.specs.Standard.Faults.{FirstFault, IsFault}
+use Rattle.wc_text.specs.Kept.SaidSoFar.{IsAllSaid}
 use Rattle.wc_text.proofs.Pairs.{each-same}
 use Rattle.wc_text.proofs.Forms.{some-kinds}
 use Rattle.wc_text.proofs.Strings.{stands-same, some-meaning}
@@ -146,6 +149,13 @@ few-fields = fewer-than-bytes
 
 abbrev pub Answers : List Lexeme → Result (List Field) SynFault → Type 0
 Answers ts result = MatchResult result (λ fields. Syn ts fields) (λ f. IsFault ts f)
+
+-- what is told at the end of all tokens
+pub answers-whole : (ts : List Lexeme) (n : ℕ) (s : Standing) (d : TextDraft) (result : Result (List Field) SynFault)
+    → IsAllSaid ts n s d → IfOk result (λ fields. (us : List Lexeme) → IsAllSaid us n s d → Syn us fields)
+    → IfErr result (λ f. (us : List Lexeme) → IsAllSaid us n s d → IsFault us f) → Answers ts result
+answers-whole ts n s d (Ok fields) w says faults = says ts w
+answers-whole ts n s d (Err f) w says faults = faults ts w
 
 pub answers-fields : (ts : List Lexeme) (result : Result (List Field) SynFault) → Answers ts result
     → IfOk result (λ fields. Syn ts fields)

@@ -5,6 +5,8 @@ pub mod Weights
 pub mod Kept
 pub mod Said
 pub mod Usual
+pub mod Streams
 pub mod Sizes
 pub mod Few
 pub mod Answering
+pub mod Wholes

@@ -1,2 +1,3 @@
 -- What private functions speak of.
 pub mod SaidSoFar
+pub mod Refusing

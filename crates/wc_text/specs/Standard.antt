@@ -2,3 +2,4 @@ pub mod Texts
 pub mod Meaning
 pub mod Faults
 pub mod Refused
+pub mod Wholes

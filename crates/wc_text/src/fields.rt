@@ -11,13 +11,14 @@ ghost use Rattle.wc_text.specs.Standard.Faults.{FirstFault, IsFault};
 ghost use Rattle.wc_text.specs.Standard.Meaning.{Syn};
 ghost use Rattle.wc_text.specs.Kept.SaidSoFar.{IsSaid};
 
+use crate::ending::ended;
 use crate::fault::SynFault;
 use crate::taking::take_token;
 use crate::text_draft::TextDraft;
 use std::alloc::Global;
 use wc_body::NESTING_LIMIT;
 use wc_surface::Surface;
-use wc_syntax::{Reading, SynWhy};
+use wc_syntax::Reading;
 use wc_tokens::Tokens;
 
 /// The fields, or the first fault.
@@ -32,14 +33,7 @@ fn fields_or_fault<'a>(alloc: Global, tokens: &Tokens<'a>) -> Result<Surface<'a>
         take_token(alloc, &mut reading, &mut draft, at, &all[at])?;
         at += 1;
     }
-    if reading.is_text() {
-        Ok(Surface::new(draft.into_fields(alloc)))
-    } else {
-        Err(SynFault::Bad {
-            token: at as u64,
-            why: SynWhy::End,
-        })
-    }
+    ended(alloc, &reading, draft, at)
 }
 
 /// The fields of a text (Core 1.0, 6.6.13), or its first fault: the first token such that no text begins with the

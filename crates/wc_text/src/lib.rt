@@ -1,9 +1,12 @@
 //! What a text says: from its tokens to its fields (Core 1.0, 6.6).
 #![tactic(auto)]
 
+mod ending;
 mod fault;
 mod fields;
 mod laws;
+mod refusal;
+mod stream;
 mod string;
 mod taking;
 mod text_draft;
@@ -11,4 +14,6 @@ mod text_draft;
 pub use fault::SynFault;
 pub use fields::parse;
 pub use laws::{always_one, few_fields, never_both, one_fault, one_list};
+pub use refusal::TextRefusal;
+pub use stream::parse_text;
 pub use text_draft::TextDraft;

@@ -8,6 +8,7 @@ ghost use Rattle.std.specs.Prelude.{◌≡◌, ◌<◌, ◌^◌, IfErr, OnOk};
 ghost use Rattle.wc_tokens.specs.Standard.Lexemes.{HasForm};
 ghost use Rattle.wc_tokens.specs.Standard.Tokens.{lexeme_of};
 ghost use Rattle.wc_tokens.specs.declared.token.TokenKind.TheVariants as tokens;
+ghost use Rattle.wc_words.specs.Symbols.{bare};
 ghost use Rattle.wc_words.specs.Tokens.{TokenIs};
 ghost use Rattle.wc_drafts.specs.Standard.Tokens.{kept_token};
 ghost use Rattle.wc_text.specs.Standard.Texts.{with_word};
@@ -18,12 +19,53 @@ use crate::string::bytes_of;
 use crate::text_draft::TextDraft;
 use std::alloc::{AllocError, Global};
 use wc_drafts::Word;
-use wc_syntax::{Reading, Role};
+use wc_syntax::{Kind, Reading, Role};
 use wc_tokens::{Token, TokenKind};
 use wc_words::{Symbol, Value, symbol_of};
 
-/// Any token.
+/// What a token is whose kind says all.
+#[inline(always)]
+fn bare(kind: Kind) -> Symbol
+    ensures { result ≡ bare kind }
+{
+    Symbol {
+        kind,
+        value: Value::Nothing,
+    }
+}
+
+/// Any token, by the whole table of the grammar.
 #[inline(never)]
+fn take_by_table<'a>(
+    alloc: Global,
+    reading: &mut Reading,
+    draft: &mut TextDraft<'a>,
+    at: usize,
+    token: Token<'a>,
+    symbol: Symbol,
+) -> Result<(), SynFault>
+    requires few { at < 2 ^ 32 }
+    requires form { HasForm token.kind token.text.now }
+    requires symbol { TokenIs token.kind token.text.now symbol }
+    ensures said { OnOk result (SaysMore (lexeme_of token.entry) at reading.old draft.old reading.new draft.new) }
+    ensures fault { IfErr result (Refuses (lexeme_of token.entry) at reading.old draft.old) }
+{
+    let Some(role) = reading.take(at, symbol.kind)? else {
+        return Ok(());
+    };
+    let word = Word {
+        token: at as u32,
+        symbol,
+        text: token.text,
+    };
+    let bytes = bytes_of(alloc, &token)?;
+    draft.take(alloc, role, &word, bytes)?;
+    Ok(())
+}
+
+/// Any token.
+// The token is copied for the call alone, so that it needs no place in memory where it is read without the table.
+#[inline(always)]
 fn take_any<'a>(
     alloc: Global,
     reading: &mut Reading,
@@ -38,17 +80,7 @@ fn take_any<'a>(
     ensures said { OnOk result (SaysMore (lexeme_of token.now) at reading.old draft.old reading.new draft.new) }
     ensures fault { IfErr result (Refuses (lexeme_of token.now) at reading.old draft.old) }
 {
-    let Some(role) = reading.take(at, symbol.kind)? else {
-        return Ok(());
-    };
-    let word = Word {
-        token: at as u32,
-        symbol,
-        text: token.text,
-    };
-    let bytes = bytes_of(alloc, token)?;
-    draft.take(alloc, role, &word, bytes)?;
-    Ok(())
+    take_by_table(alloc, reading, draft, at, *token, symbol)
 }
 
 /// Keeps a token of an instruction. The error is want of memory.
@@ -86,7 +118,7 @@ fn take_open<'a>(
     ensures said { OnOk result (SaysMore (lexeme_of token.now) at reading.old draft.old reading.new draft.new) }
     ensures fault { IfErr result (Refuses (lexeme_of token.now) at reading.old draft.old) }
 {
-    let symbol = symbol_of(token);
+    let symbol = bare(Kind::Open);
     if reading.take_open() {
         return Ok(());
     }
@@ -108,7 +140,7 @@ fn take_close<'a>(
     ensures said { OnOk result (SaysMore (lexeme_of token.now) at reading.old draft.old reading.new draft.new) }
     ensures fault { IfErr result (Refuses (lexeme_of token.now) at reading.old draft.old) }
 {
-    let symbol = symbol_of(token);
+    let symbol = bare(Kind::Close);
     if reading.take_held_end() {
         keep(draft, Role::HeldEnd, at, symbol, token.text)?;
         return Ok(());
@@ -196,9 +228,9 @@ fn take_offset<'a>(
     take_any(alloc, reading, draft, at, token, symbol)
 }
 
-/// A word.
+/// A word or a string: what it is has to be looked up.
 #[inline(always)]
-fn take_word<'a>(
+fn take_valued<'a>(
     alloc: Global,
     reading: &mut Reading,
     draft: &mut TextDraft<'a>,
@@ -207,7 +239,6 @@ fn take_word<'a>(
 ) -> Result<(), SynFault>
     requires few { at < 2 ^ 32 }
     requires form { HasForm token.now.kind token.now.text.now }
-    requires kind { token.now.kind ≡ tokens.Word }
     ensures said { OnOk result (SaysMore (lexeme_of token.now) at reading.old draft.old reading.new draft.new) }
     ensures fault { IfErr result (Refuses (lexeme_of token.now) at reading.old draft.old) }
 {
@@ -237,10 +268,7 @@ pub(crate) fn take_token<'a>(
     match token.kind {
         TokenKind::Open => take_open(alloc, reading, draft, at, token),
         TokenKind::Close => take_close(alloc, reading, draft, at, token),
-        TokenKind::Word => take_word(alloc, reading, draft, at, token),
-        TokenKind::Id | TokenKind::Str => {
-            let symbol = symbol_of(token);
-            take_any(alloc, reading, draft, at, token, symbol)
-        }
+        TokenKind::Id => take_any(alloc, reading, draft, at, token, bare(Kind::Id)),
+        TokenKind::Word | TokenKind::Str => take_valued(alloc, reading, draft, at, token),
     }
 }

@@ -3,8 +3,8 @@
 use std::alloc::Global;
 use wc_surface::Surface;
 use wc_syntax::SynWhy;
-use wc_text::{SynFault, parse};
-use wc_tokens::lex;
+use wc_text::{SynFault, TextRefusal, parse, parse_text};
+use wc_tokens::{LexFault, LexWhy, Tokens, lex};
 
 /// What is told of a text.
 #[derive(Clone, Copy, Debug, PartialEq, Eq)]
@@ -13,18 +13,39 @@ pub enum Told {
     Text,
     /// The first token that no text has there, or the number of tokens where one is missing, and the reason.
     Bad(u64, SynWhy),
-    /// It has no tokens.
-    NoTokens,
+    /// It has no tokens: the byte of its first fault, and the reason.
+    Stuck(u64, LexWhy),
     /// Memory was refused.
     Memory,
+    /// Not the same, whether the tokens are kept or not.
+    Unclear,
 }
 
-/// What an answer tells.
-fn told_by(answer: Result<Surface<'_>, SynFault>) -> Told {
-    match answer {
+/// What is told of the tokens of a text.
+fn told_of_tokens(alloc: Global, tokens: &Tokens<'_>) -> Told {
+    match parse(alloc, tokens) {
         Ok(_) => Told::Text,
         Err(SynFault::Bad { token, why }) => Told::Bad(token, why),
         Err(SynFault::Memory) => Told::Memory,
+    }
+}
+
+/// What is told of a text whose tokens are kept.
+fn told_of_kept(alloc: Global, text: &[u8]) -> Told {
+    match lex(alloc, text) {
+        Ok(tokens) => told_of_tokens(alloc, &tokens),
+        Err(LexFault::Bad { at, why }) => Told::Stuck(at, why),
+        Err(LexFault::Memory) => Told::Memory,
+    }
+}
+
+/// What is told of a text whose tokens are not kept.
+fn told_by(answer: Result<Surface<'_>, TextRefusal>) -> Told {
+    match answer {
+        Ok(_) => Told::Text,
+        Err(TextRefusal::Lex(stop)) => Told::Stuck(stop.at, stop.why),
+        Err(TextRefusal::Syntax { token, why }) => Told::Bad(token, why),
+        Err(TextRefusal::Memory) => Told::Memory,
     }
 }
 
@@ -33,10 +54,12 @@ pub fn answer_to(alloc: Global, text: &str) -> Told {
     answer_to_bytes(alloc, text.as_bytes())
 }
 
-/// What is told of the bytes of a text.
+/// What is told of the bytes of a text, whether its tokens are kept or not.
 pub fn answer_to_bytes(alloc: Global, text: &[u8]) -> Told {
-    match lex(alloc, text) {
-        Ok(tokens) => told_by(parse(alloc, &tokens)),
-        Err(_) => Told::NoTokens,
+    let told = told_by(parse_text(alloc, text));
+    if told == told_of_kept(alloc, text) {
+        told
+    } else {
+        Told::Unclear
     }
 }

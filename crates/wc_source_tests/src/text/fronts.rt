@@ -28,20 +28,11 @@ fn stop_of(alloc: Global, text: &str, number: usize) -> Option<usize> {
     }
 }
 
-/// What is told of the bytes before this place.
-fn told_before(alloc: Global, stop: usize) -> Told {
-    match COMMENTED.as_bytes().get(..stop) {
-        Some(front) => answer_to_bytes(alloc, front),
-        None => Told::NoTokens,
-    }
-}
-
-/// What is told of the tokens up to the one of this number.
-fn told_of_front(alloc: Global, last: usize) -> Told {
-    match stop_of(alloc, COMMENTED, last) {
-        Some(stop) => told_before(alloc, stop),
-        None => Told::NoTokens,
-    }
+/// What is told of the tokens up to the one of this number; none where there is none.
+fn told_of_front(alloc: Global, last: usize) -> Option<Told> {
+    let stop = stop_of(alloc, COMMENTED, last)?;
+    let front = COMMENTED.as_bytes().get(..stop)?;
+    Some(answer_to_bytes(alloc, front))
 }
 
 #[test]
@@ -49,9 +40,9 @@ fn fronts_of_a_text_end_too_soon(rt: HostRuntime) {
     for last in 0..TOKENS - 1 {
         assert_eq!(rt;
             told_of_front(rt.alloc(), last),
-            Told::Bad(last as u64 + 1, SynWhy::End)
+            Some(Told::Bad(last as u64 + 1, SynWhy::End))
         );
     }
-    assert_eq!(rt; told_of_front(rt.alloc(), TOKENS - 1), Told::Text);
-    assert_eq!(rt; told_of_front(rt.alloc(), TOKENS), Told::NoTokens);
+    assert_eq!(rt; told_of_front(rt.alloc(), TOKENS - 1), Some(Told::Text));
+    assert_eq!(rt; told_of_front(rt.alloc(), TOKENS), None);
 }

@@ -48,8 +48,3 @@ fn others_are_refused(rt: HostRuntime) {
         assert_eq!(rt; first_wrong(rt.alloc(), rows), None);
     }
 }
-
-#[test]
-fn without_tokens(rt: HostRuntime) {
-    assert_eq!(rt; answer_to(rt.alloc(), "(func) (;"), Told::NoTokens);
-}

@@ -1,5 +1,5 @@
 -- What the first tokens of a text say.
-use Rattle.std.specs.Prelude.{◌≡◌, ℕ, ◌+◌, List, ◌∷◌, take, drop}
+use Rattle.std.specs.Prelude.{◌≡◌, ℕ, ◌+◌, List, ◌∷◌, length, take, drop}
 use Rattle.wc_tokens.specs.Standard.Lexemes.{Lexeme}
 use Rattle.wc_tokens.specs.Standard.Tokens.{InOrder}
 use Rattle.wc_body.specs.Standard.Nested.{nesting_limit}
@@ -21,6 +21,12 @@ pub record IsSaid (ts : List Lexeme) (at : ℕ) (reading : Standing) (draft : Te
   pub items : List Item
   pub are_items : Each (IsItem ts) es items
   pub says : draft ≡ take_items nothing items
+
+-- so many are all of the tokens, in the order of a text
+pub record IsAllSaid (ts : List Lexeme) (at : ℕ) (reading : Standing) (draft : TextDraft) : Type 0 where
+  pub in_order : InOrder 0 ts
+  pub all : at ≡ length ts
+  pub said : IsSaid ts at reading draft
 
 -- behind one more token, the one of this number, the reader stands so, and the draft is what they say
 abbrev pub SaysMore : Lexeme → ℕ → Standing → TextDraft → Standing → TextDraft → Type 0

@@ -4,12 +4,13 @@ use Rattle.wc_body.specs.Standard.Nested.{nesting_limit}
 use Rattle.wc_syntax.specs.Reading.{Standing}
 use Rattle.wc_text.specs.Kept.SaidSoFar.{SaysMore}
 use Rattle.wc_text.proofs.Said.{said-count}
-use Rattle.wc_text.proofs.Usual.{said-held-end}
+use Rattle.wc_text.proofs.Usual.{close-token, said-held-end}
 use Rattle.wc_text.proofs.taking.take_close.Goals as goal
 
 pub returns-then-take_held_end-clause-said : goal.returns-then-take_held_end-clause-said
 returns-then-take_held_end-clause-said c = λ ts rest w e.
-    said-held-end w _ rest _ _ _ e c.requires.kind c.symbol_of-symbol.ensures.symbol
+    said-held-end w _ rest _ _ _ e c.requires.kind
+    (close-token _ _ _ c.requires.kind c.bare-symbol.ensures)
     (c.take_held_end.ensures.read c.if-take_held_end.true nesting_limit c.args.at w.kinds w.es w.read (said-count w _ rest e))
     c.in_ok-keep.ensures
 
@@ -19,3 +20,6 @@ returns-clause-said c =
     (λ (s : Standing). OnOk c.take_any.result
     (SaysMore (lexeme_of c.args.token.now) c.args.at s c.args.draft.now c.take_any.new.reading c.take_any.new.draft))
     (c.take_held_end.ensures.stays c.if-take_held_end.false) c.take_any.ensures.said
+
+pub take_any-requires-clause-symbol : goal.take_any-requires-clause-symbol
+take_any-requires-clause-symbol c = close-token _ _ _ c.requires.kind c.bare-symbol.ensures
