@@ -9,5 +9,6 @@ pub mod EscapeTable
 pub mod Stringing
 pub mod Values
 pub mod Instructions
+pub mod Paging
 pub mod Apart
 pub mod Whole

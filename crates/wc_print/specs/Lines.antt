@@ -1,5 +1,5 @@
 -- Instructions as text (Core 1.0, 6.5).
-use Rattle.std.specs.Prelude.{ℕ, zero, suc, ◌==◌, if◌then◌else◌, List, [], ◌∷◌, ◌++◌, codes, map}
+use Rattle.std.specs.Prelude.{ℕ, zero, suc, ◌==◌, if◌then◌else◌, List, [], ◌∷◌, ◌++◌, codes, map, take, slice_index}
 use Rattle.std.specs.List.{flat_map}
 use Rattle.wc_ops.specs.declared.val_type.ValType.{ValType}
 use Rattle.wc_ops.specs.declared.val_type.ValType.TheVariants.{I32, I64}
@@ -14,6 +14,10 @@ use Rattle.wc_ops.specs.Standard.Opcodes.{row, memory}
 use Rattle.wc_body.specs.Standard.Nested.{Region, block, loop, Code, Mark, plain, begin, begin_if, otherwise, close}
 use Rattle.wc_body.specs.Standard.Nested.{flatten}
 use Rattle.wc_print.specs.Printed.{Printed, opening, closing, word, number, integer, part, Item, next, after, below}
+
+-- so many bytes of a row as its last byte says
+abbrev pub told : List ℕ → List ℕ
+told row = take (slice_index row 23) row
 
 -- ` i32` (6.4.1)
 abbrev pub type_item : ValType → Item

@@ -1,22 +1,20 @@
 //! Instructions: a line for each, or all behind one another.
 
-ghost use Rattle.std.specs.Prelude.{◌≡◌, ◌≤◌, ◌∷◌, [], ◌++◌, length, OnOk};
-ghost use Rattle.std.specs.List.{flat_map};
+ghost use Rattle.std.specs.Prelude.{◌≡◌, ◌≤◌, ◌∷◌, [], ◌++◌, slice_index, OnOk};
 ghost use Rattle.wc_body.specs.Standard.Entries.{mark, begin_of};
 ghost use Rattle.wc_body.specs.Standard.Nested.{flatten, plain};
-ghost use Rattle.wc_body.specs.Standard.Short.{instruction};
 ghost use Rattle.wc_ops.specs.Standard.Opcodes.{memory};
 ghost use Rattle.wc_print.specs.Printed.{Printed, number, after, below, printed};
-ghost use Rattle.wc_print.specs.Printable.{IsSpelled, Put, Leaves};
+ghost use Rattle.wc_print.specs.Printable.{IsSpelled, Put};
 ghost use Rattle.wc_print.specs.Lines.{block_items, number_items, offset_items, bytes_of, align_items, mark_items};
-ghost use Rattle.wc_print.specs.Lines.{body_items, expr_items};
+ghost use Rattle.wc_print.specs.Lines.{told, expr_items};
 ghost use Rattle.wc_print.specs.Places.{item_at};
 
-use crate::lines::{head_line, index_line, memory_line, simple_line};
+use crate::lines::{Row, head_line, index_line, memory_line, simple_line};
 use crate::numbers::{put_integer, put_natural, put_number};
 use crate::types::{put_result, put_type_use};
 use std::alloc::AllocError;
-use wc_ast::{BlockType, Body, BodyRef, Entries, Entry, Instr, Kind, Labels, MemArg, MemOp, Short};
+use wc_ast::{BlockType, Body, Entry, Instr, Kind, Labels, MemArg, MemOp};
 
 /// Where an instruction stands.
 #[derive(Clone, Copy)]
@@ -29,11 +27,12 @@ pub enum Place {
 
 /// Puts a line, or the same behind a space in place of the line's end and four spaces.
 #[inline(always)]
-fn put_at(out: &mut Vec<u8>, place: Place, line: &'static str) -> Result<(), AllocError>
-    ensures { (p : Printed) → line.now ≡ printed (below 4 p ∷ []) → IsSpelled p
+fn put_at(out: &mut Vec<u8>, place: Place, row: &'static Row) -> Result<(), AllocError>
+    requires { slice_index row.now 23 ≤ 23 }
+    ensures { (p : Printed) → told row.now ≡ printed (below 4 p ∷ []) → IsSpelled p
         → OnOk result (Put (item_at place p ∷ []) out.old.items out.new.items) }
 {
-    let line = line.as_bytes();
+    let line = &row[..row[23] as usize];
     match place {
         Place::Line => out.extend_from_slice(line),
         Place::Inline => out.extend_from_slice(&line[line.len().min(4)..]),
@@ -120,19 +119,19 @@ fn put_instr(out: &mut Vec<u8>, place: Place, instr: Instr<'_>) -> Result<(), Al
             put_memory(out, op, arg)
         }
         Instr::BrTable(default, labels) => {
-            put_at(out, place, "\n    br_table")?;
+            put_at(out, place, b"\n    br_table          \x0d")?;
             put_labels(out, default, labels)
         }
         Instr::CallIndirect(index) => {
-            put_at(out, place, "\n    call_indirect")?;
+            put_at(out, place, b"\n    call_indirect     \x12")?;
             put_type_use(out, index)
         }
         Instr::I32Const(n) => {
-            put_at(out, place, "\n    i32.const")?;
+            put_at(out, place, b"\n    i32.const         \x0e")?;
             put_integer(out, i64::from(n))
         }
         Instr::I64Const(n) => {
-            put_at(out, place, "\n    i64.const")?;
+            put_at(out, place, b"\n    i64.const         \x0e")?;
             put_integer(out, n)
         }
     }
@@ -153,80 +152,25 @@ fn put_head(
 }
 
 #[inline(always)]
-fn put_entry(out: &mut Vec<u8>, place: Place, entry: Entry<'_>) -> Result<(), AllocError>
+pub fn put_entry(out: &mut Vec<u8>, place: Place, entry: Entry<'_>) -> Result<(), AllocError>
     ensures { OnOk result (Put (mark_items (item_at place) (mark entry.entry)) out.old.items out.new.items) }
 {
     match entry {
         Entry::Plain(instr) => put_instr(out, place, instr),
         Entry::Begin(kind, block_type) => put_head(out, place, kind, block_type),
-        Entry::Else => put_at(out, place, "\n    else"),
-        Entry::End => put_at(out, place, "\n    end"),
+        Entry::Else => put_at(out, place, b"\n    else              \x09"),
+        Entry::End => put_at(out, place, b"\n    end               \x08"),
     }
-}
-
-/// A short instruction.
-#[inline(always)]
-fn put_short(out: &mut Vec<u8>, place: Place, short: Short) -> Result<(), AllocError>
-    ensures { OnOk result (Put (mark_items (item_at place) (plain (instruction short))) out.old.items out.new.items) }
-{
-    match short {
-        Short::Simple(op) => put_at(out, place, simple_line(op)),
-        Short::Index(op, index) => {
-            put_at(out, place, index_line(op))?;
-            put_number(out, u32::from(index))
-        }
-        Short::I32Const(value) => {
-            put_at(out, place, "\n    i32.const")?;
-            put_integer(out, i64::from(value))
-        }
-        Short::I64Const(value) => {
-            put_at(out, place, "\n    i64.const")?;
-            put_integer(out, i64::from(value))
-        }
-    }
-}
-
-/// The short instructions up to the first entry that isn't one.
-#[inline(always)]
-fn put_all_short(
-    out: &mut Vec<u8>,
-    place: Place,
-    entries: &mut Entries<'_>,
-) -> Result<(), AllocError>
-    ensures puts { OnOk result (Leaves (flat_map (mark_items (item_at place)) entries.new)
-        (flat_map (mark_items (item_at place)) entries.old) out.new.items out.old.items) }
-    ensures fewer { length entries.new ≤ length entries.old }
-{
-    while let Some(short) = entries.next_short() {
-        put_short(out, place, short)?;
-    }
-    Ok(())
-}
-
-/// The instructions of a body.
-#[inline(always)]
-fn put_entries(out: &mut Vec<u8>, place: Place, body: &BodyRef<'_>) -> Result<(), AllocError>
-    ensures { let items = flat_map (mark_items (item_at place)) (flatten body.now) in
-        OnOk result (Put items out.old.items out.new.items) }
-{
-    let mut entries = body.entries();
-    while let Some(entry) = entries.next() {
-        put_entry(out, place, entry)?;
-        put_all_short(out, place, &mut entries)?;
-    }
-    Ok(())
-}
-
-/// The instructions of a function, each on a line.
-pub fn put_lines(out: &mut Vec<u8>, body: &BodyRef<'_>) -> Result<(), AllocError>
-    ensures { OnOk result (Put (body_items body.now) out.old.items out.new.items) }
-{
-    put_entries(out, Place::Line, body)
 }
 
 /// The instructions of a constant expression, on the line.
 pub fn put_inline(out: &mut Vec<u8>, body: &Body) -> Result<(), AllocError>
     ensures { OnOk result (Put (expr_items body.now) out.old.items out.new.items) }
 {
-    put_entries(out, Place::Inline, &body.as_ref())
+    let body = body.as_ref();
+    let mut entries = body.entries();
+    while let Some(entry) = entries.next() {
+        put_entry(out, Place::Inline, entry)?;
+    }
+    Ok(())
 }

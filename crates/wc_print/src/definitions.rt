@@ -5,19 +5,20 @@ ghost use Rattle.std.specs.List.{flat_map};
 ghost use Rattle.wc_print.specs.Printable.{Put};
 ghost use Rattle.wc_print.specs.Layout.{func_items, table_items, memory_items, global_items};
 
-use crate::bodies::{put_inline, put_lines};
+use crate::bodies::put_inline;
 use crate::field::Field;
+use crate::pages::{PAGE, put_lines};
 use crate::types::{put_global_type, put_limits, put_locals, put_type_use};
 use std::alloc::AllocError;
 use wc_ast::{FuncRef, Funcs, Global, Limits};
 
-fn put_func(out: &mut Vec<u8>, func: &FuncRef<'_>) -> Result<(), AllocError>
+fn put_func(out: &mut Vec<u8>, page: &mut [u8; PAGE], func: &FuncRef<'_>) -> Result<(), AllocError>
     ensures { OnOk result (Put (func_items func.now) out.old.items out.new.items) }
 {
     out.extend_from_slice(b"\n  (func")?;
     put_type_use(out, func.ty())?;
     put_locals(out, func.locals())?;
-    put_lines(out, func.body())?;
+    put_lines(out, page, func.body())?;
     out.extend_from_slice(b"\n  )")
 }
 
@@ -25,9 +26,10 @@ fn put_func(out: &mut Vec<u8>, func: &FuncRef<'_>) -> Result<(), AllocError>
 pub fn put_funcs(out: &mut Vec<u8>, funcs: &Funcs) -> Result<(), AllocError>
     ensures { OnOk result (Put (flat_map func_items funcs.now) out.old.items out.new.items) }
 {
+    let mut page = [0; PAGE];
     let mut left = funcs.iter();
     while let Some(func) = left.next() {
-        put_func(out, &func)?;
+        put_func(out, &mut page, &func)?;
     }
     Ok(())
 }

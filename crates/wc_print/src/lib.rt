@@ -9,6 +9,7 @@ mod field;
 mod laws;
 mod lines;
 mod numbers;
+mod pages;
 mod printing;
 mod segments;
 mod strings;

@@ -10,5 +10,5 @@ pub returns : goal.returns
 returns c =
     let kind = c.args.kind in
     rw (head-items (item_at c.args.place) kind c.args.block_type)
-    (chain-last _ _ _ (c.in_ok-put_at.ensures (word (head_word kind)) c.head_line.ensures (head-word kind))
+    (chain-last _ _ _ (c.in_ok-put_at.ensures (word (head_word kind)) c.head_line.ensures.line (head-word kind))
     c.put_block_type.ensures)

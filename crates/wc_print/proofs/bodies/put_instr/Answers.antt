@@ -10,20 +10,20 @@ use Rattle.wc_print.proofs.bodies.put_instr.Goals as goal
 pub returns-in-Simple : goal.returns-in-Simple
 returns-in-Simple c =
     let op = c.in-Simple.op in
-    rw c.in-Simple.is (c.put_at.ensures (word (simple op).name) c.simple_line.ensures (simple-word op))
+    rw c.in-Simple.is (c.put_at.ensures (word (simple op).name) c.simple_line.ensures.line (simple-word op))
 
 pub returns-in_ok-put_at-in-Index : goal.returns-in_ok-put_at-in-Index
 returns-in_ok-put_at-in-Index c =
     let op = c.in-Index.op in
     rw c.in-Index.is
-    (chain-last _ _ _ (c.in_ok-put_at-in-Index.ensures (word (index op).name) c.index_line.ensures (index-word op))
+    (chain-last _ _ _ (c.in_ok-put_at-in-Index.ensures (word (index op).name) c.index_line.ensures.line (index-word op))
     c.put_number.ensures)
 
 pub returns-in_ok-put_at-in-Mem : goal.returns-in_ok-put_at-in-Mem
 returns-in_ok-put_at-in-Mem c =
     let op = c.in-Mem.op in
     rw c.in-Mem.is
-    (chain-last _ _ _ (c.in_ok-put_at-in-Mem.ensures (word (memory op).name) c.memory_line.ensures (memory-word op))
+    (chain-last _ _ _ (c.in_ok-put_at-in-Mem.ensures (word (memory op).name) c.memory_line.ensures.line (memory-word op))
     c.put_memory.ensures)
 
 pub returns-in_ok-put_at-in-BrTable : goal.returns-in_ok-put_at-in-BrTable

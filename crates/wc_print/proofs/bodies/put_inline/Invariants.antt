@@ -1,13 +1,13 @@
 use Rattle.std.proofs.Common.{length}
 use Rattle.std.specs.List.{flat_map}
+use Rattle.wc_print.specs.Printed.{after}
 use Rattle.wc_print.specs.Printable.{Leaves}
 use Rattle.wc_print.specs.Lines.{mark_items}
-use Rattle.wc_print.specs.Places.{item_at}
-use Rattle.wc_print.proofs.bodies.put_entries.Given as goal
+use Rattle.wc_print.proofs.bodies.put_inline.Given as goal
 
 abbrev pub invariant-loop-entry : goal.invariant-loop-entry
 invariant-loop-entry l =
-    Leaves (flat_map (mark_items (item_at l.place)) l.entries) (flat_map (mark_items (item_at l.place)) l.initial.entries)
+    Leaves (flat_map (mark_items (λ p. after p)) l.entries) (flat_map (mark_items (λ p. after p)) l.initial.entries)
     l.out.items l.initial.out.items
 
 abbrev pub decreases-loop-entry : goal.decreases-loop-entry

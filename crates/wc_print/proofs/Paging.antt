@@ -1,0 +1,101 @@
+-- Lines as they are written on a page.
+use Rattle.std.proofs.Common.{◌≡◌, ◌≢◌, ℕ, suc, ◌+◌, ◌/◌, ◌%◌, ◌<◌, ◌≤◌, ◌^◌, List, [], ◌∷◌, ◌++◌, length, set, take, drop}
+use Rattle.std.proofs.Common.{sym, ap, ◌∙◌, arith, append_assoc}
+use Rattle.std.proofs.Common.{codes}
+use Rattle.std.specs.Prelude.{Ok}
+use Rattle.std.specs.Fmt.{decimal}
+use Rattle.std.proofs.lemmas.Fmt.{decimal_digit, decimal_step}
+use Rattle.std.proofs.lemmas.List.{length-append, length-take-le, take_at, take-append-le}
+use Rattle.std.proofs.lemmas.List.Edits.{sets, sets-eq}
+use Rattle.std.proofs.Math.Seq.{take-append-add}
+use Rattle.wc_print.specs.Printed.{Printed, Item, below, printed}
+use Rattle.wc_print.specs.Printable.{IsSpelled, Put}
+use Rattle.wc_print.specs.Lines.{offset_items}
+use Rattle.wc_print.proofs.Putting.{text}
+use Rattle.wc_print.proofs.Instructions.{offset-last}
+
+-- bytes that are written one behind another, from a place on
+sets-kept : (page vs : List ℕ) (at n : ℕ) → n ≡ at + length vs → n ≤ length page → take n (sets page at vs) ≡ take at page ++ vs
+sets-kept page vs at n is fits =
+    let within : at + length vs ≤ length page = omega (arith, fits, is) in
+    let front : length (take at page) ≡ at = length-take-le at page (omega (arith, within)) in
+    let all : length (take at page ++ vs) ≡ n = omega (arith, length-append (take at page) vs, front, is) in
+    ap (λ (x : List ℕ). take n x) (sets-eq vs page at within)
+    ∙ take_at (take at page ++ vs) (drop (at + length vs) page) n all
+
+one-written : (page : List ℕ) (at a : ℕ) → at + 1 ≤ length page → take (at + 1) (set page at a) ≡ take at page ++ a ∷ []
+one-written page at a fits = sets-kept page (a ∷ []) at (at + 1) (omega arith) fits
+
+two-written : (page : List ℕ) (at i a b : ℕ) → i ≡ suc at → at + 2 ≤ length page
+    → take (at + 2) (set (set page at a) i b) ≡ take at page ++ a ∷ b ∷ []
+two-written page at i a b is fits = rw is (sets-kept page (a ∷ b ∷ []) at (at + 2) (omega arith) fits)
+
+three-written : (page : List ℕ) (at i j a b c : ℕ) → i ≡ suc at → j ≡ suc (suc at) → at + 3 ≤ length page
+    → take (at + 3) (set (set (set page at a) i b) j c) ≡ take at page ++ a ∷ b ∷ c ∷ []
+three-written page at i j a b c is js fits = rw (is, js) (sets-kept page (a ∷ b ∷ c ∷ []) at (at + 3) (omega arith) fits)
+
+pub one-digit : (page : List ℕ) (at n : ℕ) → at + 1 ≤ length page → n < 10
+    → take (at + 1) (set page at (48 + n)) ≡ take at page ++ decimal n
+one-digit page at n fits lt =
+    one-written page at (48 + n) fits ∙ ap (λ (x : List ℕ). take at page ++ x) (sym (decimal_digit n lt))
+
+pub two-digits : (page : List ℕ) (at n : ℕ) → at + 2 ≤ length page → 10 ≤ n → n / 10 < 10 → n < 256
+    → take (at + 2) (set (set page at (48 + n / 10)) (at + 1) (48 + n % 10)) ≡ take at page ++ decimal n
+two-digits page at n fits ge lt low =
+    let is : decimal n ≡ (48 + n / 10) ∷ (48 + n % 10) ∷ [] =
+    decimal_step n ge (omega (arith, low)) ∙ ap (λ (x : List ℕ). x ++ (48 + n % 10) ∷ []) (decimal_digit (n / 10) lt) in
+    two-written page at (at + 1) _ _ (omega arith) fits ∙ ap (λ (x : List ℕ). take at page ++ x) (sym is)
+
+pub three-digits : (page : List ℕ) (at n : ℕ) → at + 3 ≤ length page → 10 ≤ n / 10 → n < 256
+    → take (at + 3) (set (set (set page at (48 + n / 10 / 10)) (at + 1) (48 + n / 10 % 10)) (at + 2) (48 + n % 10))
+    ≡ take at page ++ decimal n
+three-digits page at n fits ge low =
+    let first : decimal (n / 10) ≡ (48 + n / 10 / 10) ∷ (48 + n / 10 % 10) ∷ [] =
+    decimal_step (n / 10) ge (omega (arith, low))
+    ∙ ap (λ (x : List ℕ). x ++ (48 + n / 10 % 10) ∷ []) (decimal_digit (n / 10 / 10) (omega (arith, low))) in
+    let is : decimal n ≡ (48 + n / 10 / 10) ∷ (48 + n / 10 % 10) ∷ (48 + n % 10) ∷ [] =
+    decimal_step n (omega (arith, ge)) (omega (arith, low)) ∙ ap (λ (x : List ℕ). x ++ (48 + n % 10) ∷ []) first in
+    three-written page at (at + 1) (at + 2) _ _ _ (omega arith) (omega arith) fits
+    ∙ ap (λ (x : List ℕ). take at page ++ x) (sym is)
+
+-- what is behind a space
+pub behind-space : (page new ds : List ℕ) (at end : ℕ) → at + 1 ≤ length page
+    → take end new ≡ take (at + 1) (set page at 32) ++ ds → take end new ≡ take at page ++ (32 ∷ ds)
+behind-space page new ds at end fits e =
+    e ∙ ap (λ (x : List ℕ). x ++ ds) (one-written page at 32 fits) ∙ append_assoc (take at page) (32 ∷ []) ds
+
+pub behind-minus : (page new ds : List ℕ) (at end : ℕ) → at + 2 ≤ length page
+    → take end new ≡ take (at + 2) (set (set page at 32) (at + 1) 45) ++ ds → take end new ≡ take at page ++ (32 ∷ 45 ∷ ds)
+behind-minus page new ds at end fits e =
+    e ∙ ap (λ (x : List ℕ). x ++ ds) (two-written page at (at + 1) 32 45 (omega arith) fits)
+    ∙ append_assoc (take at page) (32 ∷ 45 ∷ []) ds
+
+-- a whole row is copied to a place, and so much of it is kept
+pub row-kept : (page row copied rest : List ℕ) (at n : ℕ) → at + 24 ≤ length page → length row ≡ 24 → n ≤ 23 → copied ≡ row
+    → take (at + n) (take at page ++ (copied ++ rest)) ≡ take at page ++ take n row
+row-kept page row copied rest at n fits long short same =
+    let front : length (take at page) ≡ at = length-take-le at page (omega (arith, fits)) in
+    let cut : take (at + n) (take at page ++ (row ++ rest)) ≡ take at page ++ take n (row ++ rest) =
+    rw front at (take-append-add (take at page) (row ++ rest) n) in
+    rw same cut ∙ ap (λ (x : List ℕ). take at page ++ x) (take-append-le n row rest (omega (arith, long, short)))
+
+-- a line that is written
+pub line-put : (p : Printed) {old new line : List ℕ} → IsSpelled p → line ≡ printed (below 4 p ∷ []) → new ≡ old ++ line
+    → Put (below 4 p ∷ []) old new
+line-put p h is e = text (below 4 p ∷ []) (h, tt) is e
+
+-- behind what was put before the page
+pub behind-out : {items : List Item} (out : List ℕ) {old new : List ℕ} → Put items old new → Put items (out ++ old) (out ++ new)
+behind-out {items = items} out {old = old} h = record {
+  spelled = h.spelled;
+  bytes = ap (λ (x : List ℕ). out ++ x) h.bytes ∙ sym (append_assoc out old (printed items));
+}
+
+-- an offset of zero isn't printed
+pub offset-none : (n : ℕ) (p : Printed) {old new : List ℕ} → n ≡ 0 → Put (below 4 p ∷ []) old new
+    → Put (below 4 p ∷ offset_items n) old new
+offset-none n p e h = rw e h
+
+pub offset-some : (n : ℕ) (old mid new : List ℕ) → n ≢ 0 → n < 2 ^ 32 → mid ≡ old ++ (32 ∷ codes "offset=")
+    → new ≡ mid ++ decimal n → Put (offset_items n) old new
+offset-some n old mid new h lt e f = offset-last {R = Unit {0}} {E = Unit {0}} n old mid new (Ok tt) h lt e f

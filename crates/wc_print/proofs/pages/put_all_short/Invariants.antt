@@ -1,0 +1,14 @@
+use Rattle.std.proofs.Common.{◌≡◌, ◌+◌, ◌≤◌, ◌++◌, length, take}
+use Rattle.wc_print.specs.Places.{LeavesLines}
+use Rattle.wc_print.proofs.pages.put_all_short.Given as goal
+
+abbrev pub invariant-loop-short : goal.invariant-loop-short
+invariant-loop-short l = record {
+  room : l.at + 48 ≤ 512;
+  page : length l.page ≡ 512;
+  puts : LeavesLines l.entries l.initial.entries (l.out.items ++ take l.at l.page) (l.initial.out.items ++ take l.from l.initial.page);
+  fewer : length l.entries ≤ length l.initial.entries;
+}
+
+abbrev pub decreases-loop-short : goal.decreases-loop-short
+decreases-loop-short l = length l.entries

@@ -1,0 +1,14 @@
+use Rattle.std.proofs.Common.{◌≡◌, ◌+◌, ◌≤◌, ◌++◌, length, take}
+use Rattle.wc_body.specs.Standard.Nested.{flatten}
+use Rattle.wc_print.specs.Places.{LeavesLines}
+use Rattle.wc_print.proofs.pages.put_lines.Given as goal
+
+abbrev pub invariant-loop-entry : goal.invariant-loop-entry
+invariant-loop-entry l = record {
+  room : l.at + 48 ≤ 512;
+  page : length l.page ≡ 512;
+  puts : LeavesLines l.entries (flatten l.body) (l.out.items ++ take l.at l.page) l.fn.out.items;
+}
+
+abbrev pub decreases-loop-entry : goal.decreases-loop-entry
+decreases-loop-entry l = length l.entries

@@ -1,0 +1,234 @@
+//! The lines of a function's instructions. They are put together on a page before they are put behind the others, since
+//! most are short.
+
+ghost use Rattle.std.specs.Prelude.{◌≡◌, ◌≤◌, ◌+◌, ◌∷◌, [], ◌++◌, IsTrue, IfOk, OnOk, length, take, slice_index};
+ghost use Rattle.std.specs.Fmt.{decimal};
+ghost use Rattle.std.specs.List.{flat_map};
+ghost use Rattle.wc_ops.specs.Standard.Opcodes.{memory};
+ghost use Rattle.wc_body.specs.declared.instr.BlockType.TheVariants.{Empty};
+ghost use Rattle.wc_body.specs.Standard.Entries.{mark};
+ghost use Rattle.wc_body.specs.Standard.Nested.{plain};
+ghost use Rattle.wc_body.specs.Standard.Short.{instruction};
+ghost use Rattle.wc_print.specs.Printed.{below, word, number, integer, after};
+ghost use Rattle.wc_print.specs.Printable.{Put};
+ghost use Rattle.wc_print.specs.Lines.{told, offset_items, body_items};
+ghost use Rattle.wc_print.specs.Places.{line_items, LeavesLines};
+
+use crate::bodies::{Place, put_entry};
+use crate::lines::{Row, head_line, index_line, memory_line, simple_line};
+use std::alloc::AllocError;
+use wc_ast::{BlockType, BodyRef, Entries, Entry, Instr, MemOp, Short};
+
+/// How many bytes a page has.
+pub const PAGE: usize = 512;
+
+/// The most bytes of a line that is written on a page, with what fills its rows.
+const LINE: usize = 48;
+
+/// Writes what a row tells, from a place on, and says where it ends. The whole row is written.
+#[inline(always)]
+fn write_row(page: &mut [u8; PAGE], at: usize, row: &'static Row) -> usize
+    requires room { at + 24 ≤ 512 }
+    requires short { slice_index row.now 23 ≤ 23 }
+    ensures end { result ≡ at + slice_index row.now 23 }
+    ensures bytes { take result page.new ≡ take at page.old ++ told row.now }
+{
+    page[at..at + 24].copy_from_slice(row);
+    at + row[23] as usize
+}
+
+/// Writes the digits of a number, from a place on, and says where they end.
+#[inline(always)]
+fn write_digits(page: &mut [u8; PAGE], at: usize, n: u8) -> usize
+    requires { at + 3 ≤ 512 }
+    ensures within { result ≤ at + 3 }
+    ensures bytes { take result page.new ≡ take at page.old ++ decimal n }
+{
+    if n < 10 {
+        page[at] = b'0' + n;
+        return at + 1;
+    }
+    let tens = n / 10;
+    if tens < 10 {
+        page[at] = b'0' + tens;
+        page[at + 1] = b'0' + n % 10;
+        return at + 2;
+    }
+    page[at] = b'0' + tens / 10;
+    page[at + 1] = b'0' + tens % 10;
+    page[at + 2] = b'0' + n % 10;
+    at + 3
+}
+
+/// Writes a natural number, behind a space.
+#[inline(always)]
+fn write_number(page: &mut [u8; PAGE], at: usize, n: u8) -> usize
+    requires { at + 4 ≤ 512 }
+    ensures within { result ≤ at + 4 }
+    ensures put { Put (after (number n) ∷ []) (take at page.old) (take result page.new) }
+{
+    page[at] = b' ';
+    write_digits(page, at + 1, n)
+}
+
+/// Writes a signed number, behind a space.
+#[inline(always)]
+fn write_integer(page: &mut [u8; PAGE], at: usize, n: i8) -> usize
+    requires { at + 5 ≤ 512 }
+    ensures within { result ≤ at + 5 }
+    ensures put { Put (after (integer n) ∷ []) (take at page.old) (take result page.new) }
+{
+    page[at] = b' ';
+    if n >= 0 {
+        return write_digits(page, at + 1, n as u8);
+    }
+    page[at + 1] = b'-';
+    write_digits(page, at + 2, n.unsigned_abs())
+}
+
+/// Writes the line of a short instruction.
+#[inline(always)]
+fn write_short(page: &mut [u8; PAGE], at: usize, short: Short) -> usize
+    requires { at + 48 ≤ 512 }
+    ensures within { result ≤ 512 }
+    ensures put { Put (line_items (plain (instruction short))) (take at page.old) (take result page.new) }
+{
+    match short {
+        Short::Simple(op) => write_row(page, at, simple_line(op)),
+        Short::Index(op, index) => {
+            let end = write_row(page, at, index_line(op));
+            write_number(page, end, index)
+        }
+        Short::I32Const(value) => {
+            let end = write_row(page, at, b"\n    i32.const         \x0e");
+            write_integer(page, end, value)
+        }
+        Short::I64Const(value) => {
+            let end = write_row(page, at, b"\n    i64.const         \x0e");
+            write_integer(page, end, value)
+        }
+    }
+}
+
+/// Writes the line of a load or a store of the natural alignment.
+#[inline(always)]
+fn write_memory(page: &mut [u8; PAGE], at: usize, op: MemOp, offset: u8) -> usize
+    requires { at + 48 ≤ 512 }
+    ensures within { result ≤ 512 }
+    ensures put { Put (below 4 (word (memory op).name) ∷ offset_items offset) (take at page.old) (take result page.new) }
+{
+    let end = write_row(page, at, memory_line(op));
+    if offset == 0 {
+        return end;
+    }
+    let behind = write_row(page, end, b" offset=               \x08");
+    write_digits(page, behind, offset)
+}
+
+/// Puts what is written on the page if there is no room for another line, and says where the next one begins.
+#[inline(always)]
+fn turn(out: &mut Vec<u8>, page: &[u8; PAGE], at: usize) -> Result<usize, AllocError>
+    requires { at ≤ 512 }
+    ensures room { IfOk result (λ next. next + 48 ≤ 512) }
+    ensures same { IfOk result (λ next. out.new.items ++ take next page.now ≡ out.old.items ++ take at page.now) }
+{
+    if at + LINE <= PAGE {
+        return Ok(at);
+    }
+    out.extend_from_slice(&page[..at])?;
+    Ok(0)
+}
+
+/// The lines of the short instructions up to the first entry that isn't one, and where the next line begins.
+#[inline(always)]
+fn put_all_short(
+    out: &mut Vec<u8>,
+    page: &mut [u8; PAGE],
+    from: usize,
+    entries: &mut Entries<'_>,
+) -> Result<usize, AllocError>
+    requires { from + 48 ≤ 512 }
+    ensures room { IfOk result (λ at. at + 48 ≤ 512) }
+    ensures puts { IfOk result (λ at. LeavesLines entries.new entries.old
+        (out.new.items ++ take at page.new) (out.old.items ++ take from page.old)) }
+    ensures fewer { length entries.new ≤ length entries.old }
+{
+    let mut at = from;
+    while let Some(short) = entries.next_short() {
+        let end = write_short(page, at, short);
+        at = turn(out, page, end)?;
+    }
+    Ok(at)
+}
+
+/// Puts what is written on the page, and the line of an entry behind it.
+// Such entries are few, so they stay out of the loop.
+#[inline(never)]
+fn put_behind(
+    out: &mut Vec<u8>,
+    page: &[u8; PAGE],
+    at: usize,
+    entry: Entry<'_>,
+) -> Result<(), AllocError>
+    requires { at ≤ 512 }
+    ensures { OnOk result (Put (line_items (mark entry.entry)) (out.old.items ++ take at page.now) out.new.items) }
+{
+    out.extend_from_slice(&page[..at])?;
+    put_entry(out, Place::Line, entry)
+}
+
+/// Whether a block has no type to put.
+#[inline(always)]
+fn is_empty(block_type: BlockType) -> bool
+    ensures { IsTrue result → block_type ≡ Empty }
+{
+    matches!(block_type, BlockType::Empty)
+}
+
+/// Puts the line of an entry, if it is short on the page, and says where the page's last line ends.
+#[inline(always)]
+fn put_line(
+    out: &mut Vec<u8>,
+    page: &mut [u8; PAGE],
+    at: usize,
+    entry: Entry<'_>,
+) -> Result<usize, AllocError>
+    requires { at + 48 ≤ 512 }
+    ensures within { IfOk result (λ end. end ≤ 512) }
+    ensures put { IfOk result (λ end. Put (line_items (mark entry.entry))
+        (out.old.items ++ take at page.old) (out.new.items ++ take end page.new)) }
+{
+    match entry {
+        Entry::Else => Ok(write_row(page, at, b"\n    else              \x09")),
+        Entry::End => Ok(write_row(page, at, b"\n    end               \x08")),
+        Entry::Begin(kind, block_type) if is_empty(block_type) => {
+            Ok(write_row(page, at, head_line(kind)))
+        }
+        Entry::Plain(Instr::Mem(op, arg))
+            if arg.align == op.natural_alignment() && arg.offset < 256 => {
+            Ok(write_memory(page, at, op, arg.offset as u8))
+        }
+        _ => {
+            put_behind(out, page, at, entry)?;
+            Ok(0)
+        }
+    }
+}
+
+/// The instructions of a function, each on a line. The page is for use meanwhile.
+pub fn put_lines(
+    out: &mut Vec<u8>,
+    page: &mut [u8; PAGE],
+    body: &BodyRef<'_>,
+) -> Result<(), AllocError>
+    ensures { OnOk result (Put (body_items body.now) out.old.items out.new.items) }
+{
+    let mut entries = body.entries();
+    let mut at = put_all_short(out, page, 0, &mut entries)?;
+    while let Some(entry) = entries.next() {
+        let end = put_line(out, page, at, entry)?;
+        let next = turn(out, page, end)?;
+        at = put_all_short(out, page, next, &mut entries)?;
+    }
+    out.extend_from_slice(&page[..at])
+}
