@@ -1,6 +1,6 @@
 //! Whole texts: of a fault of the characters and one of the grammar, that of the characters is told, wherever it stands.
 
-use super::asking::{Told, answer_to_bytes};
+use crate::text::asking::{Told, answer_to_bytes};
 use std::alloc::Global;
 use wc_syntax::SynWhy;
 use wc_tokens::LexWhy;
