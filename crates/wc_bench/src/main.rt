@@ -62,7 +62,7 @@ struct Made {
 }
 
 /// So many units, made since then.
-fn made(rt: &HostRuntime, start: Instant, amount: usize) -> Result<Made> {
+fn made_since(rt: &HostRuntime, start: Instant, amount: usize) -> Result<Made> {
     Ok(Made {
         amount,
         nanoseconds: start.elapsed(rt)?.as_nanos(),
@@ -73,7 +73,7 @@ fn made(rt: &HostRuntime, start: Instant, amount: usize) -> Result<Made> {
 fn make_tokens(rt: &HostRuntime, text: &[u8]) -> Result<Made> {
     let start = Instant::now(rt)?;
     match lex(rt.alloc(), text) {
-        Ok(tokens) => made(rt, start, tokens.as_slice().len()),
+        Ok(tokens) => made_since(rt, start, tokens.as_slice().len()),
         Err(_) => bail!("the text has a fault"),
     }
 }
@@ -90,7 +90,7 @@ fn decoded(alloc: Global, bytes: &[u8]) -> Result<Module> {
 fn make_module(rt: &HostRuntime, bytes: &[u8]) -> Result<Made> {
     let start = Instant::now(rt)?;
     let module = decoded(rt.alloc(), bytes)?;
-    made(rt, start, module.funcs.len())
+    made_since(rt, start, module.funcs.len())
 }
 
 /// Tells the functions of a module that breaks no rule.
@@ -98,7 +98,7 @@ fn judged(rt: &HostRuntime, start: Instant, module: &Module) -> Result<Made> {
     if check(rt.alloc(), module).is_err() {
         bail!("the module breaks a rule");
     }
-    made(rt, start, module.funcs.len())
+    made_since(rt, start, module.funcs.len())
 }
 
 /// Makes the module, which breaks no rule, and tells its functions.
@@ -111,7 +111,7 @@ fn make_checked(rt: &HostRuntime, bytes: &[u8]) -> Result<Made> {
 /// Tells the canonical bytes of a module.
 fn written(rt: &HostRuntime, start: Instant, module: &Module) -> Result<Made> {
     match encode(rt.alloc(), module) {
-        Ok(canonical) => made(rt, start, canonical.len()),
+        Ok(canonical) => made_since(rt, start, canonical.len()),
         Err(_) => bail!("the module has no bytes"),
     }
 }
