@@ -80,21 +80,10 @@ KNOWN = {
     "1,000,000 functions, and one parenthesis",
     "1,000,000 functions, and an unknown name",
     "700,000 types",
-    "400,000 imports",
-    "350,000 globals",
-    "350,000 exports",
-    "one export twice, at the end",
     "450,000 data segments",
     "450,000 element segments",
-    "an element segment of 4,000,000 functions",
     "one identifier twice, at the end",
-    "500,000 labels of one name, side by side",
-    "labels of one name, nested",
-    "nested 20,000 deep",
     "folded blocks 20,000 deep",
-    "2,000,000 folded instructions",
-    "opening parentheses",
-    "closing parentheses",
 }
 
 SHAPES = [
