@@ -30,6 +30,7 @@ KnownInstr types (instrs.CallIndirect n) = n < types
 KnownInstr types (instrs.I32Const z) = Unit {0}
 KnownInstr types (instrs.I64Const z) = Unit {0}
 
+-- the same of the type of a block
 abbrev pub KnownBlock : ℕ → BlockType → Type 0
 KnownBlock types block_types.Empty = Unit {0}
 KnownBlock types (block_types.Value t) = Unit {0}
@@ -39,12 +40,14 @@ KnownBlock types (block_types.Index n) = n < types
 abbrev pub KnownCode : ℕ → Code Instr BlockType → Type 0
 KnownCode types code = Throughout (KnownInstr types) (KnownBlock types) code × (length (code_signs code) < 2 ^ 32)
 
+-- an imported function has one of so many types; of other imports nothing is asked
 abbrev pub KnownDesc : ℕ → Desc → Type 0
 KnownDesc types (descs.Func n) = n < types
 KnownDesc types (descs.Table l) = Unit {0}
 KnownDesc types (descs.Memory l) = Unit {0}
 KnownDesc types (descs.Global g) = Unit {0}
 
+-- the same of an import with its names
 abbrev pub KnownImport : ℕ → Import → Type 0
 KnownImport types i = KnownDesc types i.desc
 
@@ -52,12 +55,15 @@ KnownImport types i = KnownDesc types i.desc
 abbrev pub KnownFunc : ℕ → Func → Type 0
 KnownFunc types f = (f.ty < types) × (length f.locals ≤ locals_limit) × KnownCode types f.body
 
+-- a global whose first value is such code
 abbrev pub KnownGlobal : ℕ → Global → Type 0
 KnownGlobal types g = KnownCode types g.init
 
+-- an element segment whose offset is
 abbrev pub KnownElem : ℕ → Elem → Type 0
 KnownElem types e = KnownCode types e.offset
 
+-- a data segment whose offset is
 abbrev pub KnownData : ℕ → Data → Type 0
 KnownData types d = KnownCode types d.offset
 

@@ -37,6 +37,7 @@ type_items t =
     ++ (values_items (codes "result") t.results
     ++ (next closing ∷ next closing ∷ [])))
 
+-- ` 2`, unless there is no greatest size (6.4.3)
 abbrev pub max_items : Option ℕ → List Item
 max_items None = []
 max_items (Some n) = after (number n) ∷ []

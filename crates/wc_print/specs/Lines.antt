@@ -73,6 +73,7 @@ instr_rest (instrs.CallIndirect n) = type_use_items n
 instr_rest (instrs.I32Const z) = after (integer z) ∷ []
 instr_rest (instrs.I64Const z) = after (integer z) ∷ []
 
+-- `block` or `loop` (6.5.2)
 abbrev pub region_word : Region → List ℕ
 region_word block = (row ops.Block).name
 region_word loop = (row ops.Loop).name

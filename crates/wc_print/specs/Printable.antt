@@ -7,6 +7,7 @@ use Rattle.wc_tokens.specs.Standard.Lexemes.{is_idchar}
 use Rattle.wc_print.specs.Printed.{Printed, opening, closing, word, number, integer, part, quoted, Item, next, after}
 use Rattle.wc_print.specs.Printed.{below, token_of, printed, escaped}
 
+-- the number is a byte
 abbrev pub IsByte : ℕ → Type 0
 IsByte b = b < 256
 
@@ -29,6 +30,7 @@ IsSpelled (integer z) = mag z < 2 ^ 63
 IsSpelled (part w n) = (is_word w ≡ true) × (n < 2 ^ 64)
 IsSpelled (quoted bytes) = AllByRecursion IsByte bytes
 
+-- the same of the token of each item
 abbrev pub AreSpelled : List Item → Type 0
 AreSpelled [] = Unit {0}
 AreSpelled (i ∷ is) = IsSpelled (token_of i) × AreSpelled is

@@ -56,6 +56,7 @@ pub data Item : Type 0 where
   after : Printed → Item
   below : ℕ → Printed → Item
 
+-- so many spaces
 abbrev pub spaces : ℕ → List ℕ
 spaces zero = []
 spaces (suc n) = 32 ∷ spaces n
@@ -66,6 +67,7 @@ gap_of (next p) = []
 gap_of (after p) = 32 ∷ []
 gap_of (below n p) = 10 ∷ spaces n
 
+-- the token of an item
 abbrev pub token_of : Item → Printed
 token_of (next p) = p
 token_of (after p) = p

@@ -45,15 +45,18 @@ use_by word at n = record {
   names = [];
 }
 
+-- the field of a type (6.6.2)
 abbrev pub type_field : ℕ → FuncType → Field
 type_field n t = field.FuncType (record { id = None; signature = func_type t.params t.results; names = [] })
 
+-- what an import brings: a function, whose type stands by its index, a table, a memory or a global (6.6.4)
 abbrev pub import_desc : ℕ → Desc → ImportDesc
 import_desc n (descs.Func i) = import.Func (use_by (suc n) (suc (suc (suc (suc (suc (suc (suc (suc n)))))))) i)
 import_desc n (descs.Table l) = import.Table l
 import_desc n (descs.Memory l) = import.Memory l
 import_desc n (descs.Global g) = import.Global g
 
+-- the field of an import (6.6.4)
 abbrev pub import_field : ℕ → Import → Field
 import_field n i = field.Import (record {
   names = record { token = suc n; «module» = i.«module»; item = i.name };
@@ -70,6 +73,7 @@ locals_along n (t ∷ ts) = local None t n ∷ locals_along (suc n) ts
 abbrev pub behind : List Sign → ℕ → ℕ
 behind ss n = length ss + n
 
+-- the field of a function (6.6.5)
 abbrev pub func_field : ℕ → Func → Field
 func_field n f =
     let after = suc (suc (suc (suc (suc (suc n))))) in
@@ -81,12 +85,15 @@ func_field n f =
           (text_body (behind (values_signs kind.LocalWord role.LocalType f.locals) after) f.body);
     })
 
+-- the field of a table (6.6.6)
 abbrev pub table_field : ℕ → Limits → Field
 table_field n l = field.Table (record { id = None; exports = []; desc = table.Limits l })
 
+-- the field of a memory (6.6.7)
 abbrev pub memory_field : ℕ → Limits → Field
 memory_field n l = field.Memory (record { id = None; exports = []; desc = memory.Limits l })
 
+-- the field of a global (6.6.8)
 abbrev pub global_field : ℕ → Global → Field
 global_field n g = field.Global (record {
   id = None;
@@ -95,10 +102,12 @@ global_field n g = field.Global (record {
   desc = global.Init (text_body (behind (globaltype_signs g.ty.mutable g.ty.ty) (suc (suc n))) g.init);
 })
 
+-- the field of an export (6.6.9)
 abbrev pub export_field : ℕ → Export → Field
 export_field n e =
     field.Export (record { name = e.name; kind = e.kind; index = index.Number (suc (suc (suc (suc (suc n))))) e.index })
 
+-- the field of the start function of this index (6.6.10)
 abbrev pub start_field : ℕ → ℕ → Field
 start_field n i = field.Start (record { token = suc n; index = index.Number (suc (suc n)) i })
 
@@ -107,6 +116,7 @@ abbrev pub indices_along : ℕ → List ℕ → List Index
 indices_along n [] = []
 indices_along n (i ∷ is) = index.Number n i ∷ indices_along (suc n) is
 
+-- the field of an element segment (6.6.11)
 abbrev pub elem_field : ℕ → Elem → Field
 elem_field n e =
     let code = suc (suc (suc (suc (suc n)))) in
@@ -116,6 +126,7 @@ elem_field n e =
       funcs = indices_along (suc (behind (code_signs e.offset) code)) e.funcs;
     })
 
+-- the field of a data segment (6.6.12)
 abbrev pub data_field : ℕ → Data → Field
 data_field n d = field.Data (record {
   memory = Some (index.Number (suc (suc n)) d.memory);
@@ -130,6 +141,7 @@ abbrev pub along : {A : Type 0} → (ℕ → A → Field) → (A → List Sign) 
 along f w n [] rest = rest n
 along f w n (x ∷ xs) rest = f n x ∷ along f w (behind (w x) n) xs rest
 
+-- the field of a start function, where there is one, and those of what follows
 abbrev pub start_along : ℕ → Option ℕ → (ℕ → List Field) → List Field
 start_along n None rest = rest n
 start_along n (Some i) rest = start_field n i ∷ rest (behind (start_signs (Some i)) n)

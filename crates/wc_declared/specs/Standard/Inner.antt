@@ -26,6 +26,7 @@ param_ids names = map (λ n. Some n.id) names
 abbrev pub local_ids : List Local → List (Option Identifier)
 local_ids ls = map (λ l. l.id) ls
 
+-- the parameters with identifiers of an import: none unless it is one of a function
 abbrev pub import_names : ImportDesc → List ParamName
 import_names (import.Func u) = u.names
 import_names _ = []
@@ -36,6 +37,7 @@ names_of (field.Import f) = import_names f.desc
 names_of (field.Func f) = f.ty.names
 names_of _ = []
 
+-- the locals that a function declares; an import of one declares none
 abbrev pub desc_locals : FuncDesc → List Local
 desc_locals (func.Import names) = []
 desc_locals (func.Code locals body) = locals
@@ -49,6 +51,7 @@ locals_of _ = []
 abbrev pub token_beyond : List Local → Option ℕ
 token_beyond ls = option_map (λ l. l.token) (slice_get ls locals_limit)
 
+-- the fault of a local at this token beyond the limit, where there is one
 abbrev pub too_many : Option ℕ → List (Fault NameWhy)
 too_many None = []
 too_many (Some token) = fault token TooManyLocals

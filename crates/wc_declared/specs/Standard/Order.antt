@@ -23,20 +23,24 @@ use Rattle.wc_declared.specs.Standard.Spaces.{declares}
 abbrev pub fault : ℕ → NameWhy → List (Fault NameWhy)
 fault token why = record { token = token; why = why } ∷ []
 
+-- a function field: an import, with the token of its word, or a definition
 abbrev pub func_sort : FuncDesc → Sort
 func_sort (func.Import names) = Import names.token
 func_sort (func.Code locals body) = Definition
 
+-- the same of a table
 abbrev pub table_sort : TableDesc → Sort
 table_sort (table.Import names limits) = Import names.token
 table_sort (table.Limits limits) = Definition
 table_sort (table.Elems funcs) = Definition
 
+-- the same of a memory
 abbrev pub memory_sort : MemoryDesc → Sort
 memory_sort (memory.Import names limits) = Import names.token
 memory_sort (memory.Limits limits) = Definition
 memory_sort (memory.Bytes bytes) = Definition
 
+-- the same of a global
 abbrev pub global_sort : GlobalDesc → Sort
 global_sort (global.Import names) = Import names.token
 global_sort (global.Init body) = Definition
@@ -60,6 +64,7 @@ abbrev pub late : Bool → Sort → List (Fault NameWhy)
 late true (Import token) = fault token LateImport
 late _ _ = []
 
+-- it is a definition of a function, a table, a memory or a global
 abbrev pub defines : Sort → Bool
 defines Definition = true
 defines _ = false
@@ -74,6 +79,7 @@ abbrev pub second : Bool → Sort → List (Fault NameWhy)
 second true (Start token) = fault token SecondStart
 second _ _ = []
 
+-- it is a start function
 abbrev pub starts : Sort → Bool
 starts (Start token) = true
 starts _ = false

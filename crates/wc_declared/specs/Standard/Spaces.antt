@@ -54,6 +54,7 @@ told_in (Some id) = Some (id.token, id.text)
 abbrev pub repeated_after : List (Option (List ℕ)) → List (Option Identifier) → List (Fault NameWhy)
 repeated_after before ds = duplicates_after DuplicateId before (map told_in ds)
 
+-- what has the identifier of one before it
 abbrev pub repeated : List (Option Identifier) → List (Fault NameWhy)
 repeated ds = repeated_after [] ds
 

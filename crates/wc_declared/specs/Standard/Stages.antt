@@ -22,6 +22,7 @@ declaration_faults fs = space_faults fs ++ (late_after false fs ++ (second_after
 abbrev pub all_use_faults : List Field → List (Fault NameWhy)
 all_use_faults fs = flat_map (use_faults (texts (space kind.Type fs)) (map key_of (types_of fs))) (all_uses fs)
 
+-- the fault of a stage, or where it has none that of a later one
 abbrev pub or_else : Option (Fault NameWhy) → Option (Fault NameWhy) → Option (Fault NameWhy)
 or_else None later = later
 or_else (Some f) later = Some f

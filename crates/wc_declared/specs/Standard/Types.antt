@@ -21,6 +21,7 @@ abbrev pub written_type : Field → List FuncType
 written_type (field.FuncType f) = f.signature ∷ []
 written_type _ = []
 
+-- the types that these fields define
 abbrev pub written_types : List Field → List FuncType
 written_types fs = flat_map written_type fs
 
@@ -74,6 +75,7 @@ abbrev pub with_use : List FuncType → Option Index → FuncType → List FuncT
 with_use ts None f = with_type ts f
 with_use ts (Some i) f = ts
 
+-- the list with the types of these uses, one after the other
 abbrev pub with_uses : List FuncType → List TypeUse → List FuncType
 with_uses ts [] = ts
 with_uses ts (u ∷ us) = with_uses (with_use ts u.index u.signature) us

@@ -51,6 +51,7 @@ param_fault user.Func token = []
 param_fault user.CallIndirect token = fault token NamedParam
 param_fault user.Block token = fault token BlockParam
 
+-- what is wrong with the identifiers of parameters of a use
 abbrev pub param_faults : User → List ParamName → List (Fault NameWhy)
 param_faults u names = flat_map (λ n. param_fault u n.id.token) names
 
@@ -63,9 +64,11 @@ abbrev pub named_index : List (Option (List ℕ)) → Index → ℕ
 named_index ids (index.Number token n) = n
 named_index ids (index.Named id) = unwrap_or (place_of id.text ids) 0
 
+-- the same where the index may be left out: then the smallest index of the type that is written
 abbrev pub index_in : List (Option (List ℕ)) → List (List ℕ) → Option Index → List ℕ → ℕ
 index_in ids ts None written = unwrap_or (index_of written ts) 0
 index_in ids ts (Some i) written = named_index ids i
 
+-- the index of the type that a use is of
 abbrev pub use_index : List (Option (List ℕ)) → List (List ℕ) → TypeUse → ℕ
 use_index ids ts u = index_in ids ts u.index (key_of u.signature)

@@ -26,6 +26,7 @@ pub record NoLists (lists : Lists) : Type 0 where
   pub elems : lists.elems ≡ []
   pub datas : lists.datas ≡ []
 
+-- no fault was noted
 pub record NoNotes (notes : Notes) : Type 0 where
   pub globals : notes.globals.first ≡ None
   pub exports : notes.exports.first ≡ None
@@ -44,6 +45,7 @@ pub record Grows (all : List Field) (counts : Counts) (f : Field) (old new : Lis
   pub elems : new.elems ≡ old.elems ++ field_elems all counts f
   pub datas : new.datas ≡ old.datas ++ field_datas all counts f
 
+-- what is wrong with the names of one more field was noted, of each list on its own
 pub record Tells (all : List Field) (f : Field) (old new : Notes) : Type 0 where
   pub globals : new.globals.first ≡ least_from old.globals.first (global_faults all f)
   pub exports : new.exports.first ≡ least_from old.exports.first (export_faults all f)
@@ -62,6 +64,7 @@ pub record AreLists (all : List Field) (lists : Lists) : Type 0 where
   pub elems : lists.elems ≡ elems_of all
   pub datas : lists.datas ≡ datas_of all
 
+-- what is wrong with the names of all fields was noted, of each list on its own
 pub record AreTold (all : List Field) (notes : Notes) : Type 0 where
   pub globals : notes.globals.first ≡ least (all_global_faults all)
   pub exports : notes.exports.first ≡ least (all_export_faults all)

@@ -13,6 +13,7 @@ use Rattle.wc_names.specs.declared.counts.Counts.{Counts}
 use Rattle.wc_names.specs.Standard.Counts.{no_counts, along}
 use Rattle.wc_names.specs.Standard.Indices.{declared_in, space_kind, unknown_index}
 
+-- the export under this name of what has this index in an index space
 abbrev pub export : ExportKind → ℕ → List ℕ → Export
 export kind index name = record { name = name; kind = kind; index = index }
 
@@ -29,6 +30,7 @@ field_exports all c (field.Global f) = exported_as exported.Global c.globals f.e
 field_exports all c (field.Export f) = export f.kind (named_index (declared_in (space_kind f.kind) all) f.index) f.name ∷ []
 field_exports all c _ = []
 
+-- the exports of a text
 abbrev pub exports_of : List Field → List Export
 exports_of all = along (field_exports all) no_counts all
 
@@ -37,5 +39,6 @@ abbrev pub export_faults : List Field → Field → List (Fault NameWhy)
 export_faults all (field.Export f) = unknown_index (declared_in (space_kind f.kind) all) f.index
 export_faults all _ = []
 
+-- the same of all fields
 abbrev pub all_export_faults : List Field → List (Fault NameWhy)
 all_export_faults all = flat_map (export_faults all) all

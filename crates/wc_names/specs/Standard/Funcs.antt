@@ -11,6 +11,7 @@ use Rattle.wc_surface.specs.declared.field.FuncDesc.TheVariants as func
 use Rattle.wc_targets.specs.declared.why.NameWhy.{NameWhy}
 use Rattle.wc_funcs.specs.Standard.Funcs.{func_of, func_faults}
 
+-- the function of a field with this type use, unless it is an import
 abbrev pub code_of : List Field → TypeUse → FuncDesc → List Func
 code_of all u (func.Import names) = []
 code_of all u (func.Code locals body) = func_of all u locals body ∷ []
@@ -25,12 +26,15 @@ abbrev pub field_funcs : List Field → Field → List Func
 field_funcs all (field.Func f) = code_of all f.ty f.desc
 field_funcs all _ = []
 
+-- the functions that the fields define
 abbrev pub funcs_of : List Field → List Func
 funcs_of all = flat_map (field_funcs all) all
 
+-- what is wrong with the names in the function of a field
 abbrev pub field_func_faults : List Field → Field → List (Fault NameWhy)
 field_func_faults all (field.Func f) = code_faults all f.ty f.desc
 field_func_faults all _ = []
 
+-- the same of all fields
 abbrev pub all_func_faults : List Field → List (Fault NameWhy)
 all_func_faults all = flat_map (field_func_faults all) all

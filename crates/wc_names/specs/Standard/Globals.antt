@@ -11,6 +11,7 @@ use Rattle.wc_surface.specs.declared.field.GlobalDesc.TheVariants as global
 use Rattle.wc_targets.specs.declared.why.NameWhy.{NameWhy}
 use Rattle.wc_funcs.specs.Standard.Constants.{constant_of, constant_faults}
 
+-- the global of a field with this type, unless it is an import
 abbrev pub global_of : List Field → GlobalType → GlobalDesc → List Global
 global_of all ty (global.Import names) = []
 global_of all ty (global.Init body) = record { ty = ty; init = constant_of all body } ∷ []
@@ -25,12 +26,15 @@ abbrev pub field_globals : List Field → Field → List Global
 field_globals all (field.Global f) = global_of all f.ty f.desc
 field_globals all _ = []
 
+-- the globals that the fields define
 abbrev pub globals_of : List Field → List Global
 globals_of all = flat_map (field_globals all) all
 
+-- what is wrong with the names in the global of a field
 abbrev pub global_faults : List Field → Field → List (Fault NameWhy)
 global_faults all (field.Global f) = init_faults all f.desc
 global_faults all _ = []
 
+-- the same of all fields
 abbrev pub all_global_faults : List Field → List (Fault NameWhy)
 all_global_faults all = flat_map (global_faults all) all

@@ -21,6 +21,7 @@ use Rattle.wc_surface.specs.declared.field.GlobalDesc.{GlobalDesc}
 use Rattle.wc_surface.specs.declared.field.GlobalDesc.TheVariants as global
 use Rattle.wc_funcs.specs.Standard.Locals.{type_index}
 
+-- the import of these two names and this description
 abbrev pub import : ImportNames → Desc → Import
 import names d = record { «module» = names.«module»; name = names.item; desc = d }
 
@@ -31,18 +32,22 @@ desc_of all (written.Table limits) = desc.Table limits
 desc_of all (written.Memory limits) = desc.Memory limits
 desc_of all (written.Global ty) = desc.Global ty
 
+-- the import of a function field, where one stands inside
 abbrev pub func_imports : List Field → TypeUse → FuncDesc → List Import
 func_imports all u (func.Import names) = import names (desc.Func (type_index all u)) ∷ []
 func_imports all u (func.Code locals body) = []
 
+-- the same of a table
 abbrev pub table_imports : TableDesc → List Import
 table_imports (table.Import names limits) = import names (desc.Table limits) ∷ []
 table_imports _ = []
 
+-- the same of a memory
 abbrev pub memory_imports : MemoryDesc → List Import
 memory_imports (memory.Import names limits) = import names (desc.Memory limits) ∷ []
 memory_imports _ = []
 
+-- the same of a global
 abbrev pub global_imports : GlobalType → GlobalDesc → List Import
 global_imports ty (global.Import names) = import names (desc.Global ty) ∷ []
 global_imports ty (global.Init body) = []
@@ -56,5 +61,6 @@ field_imports all (field.Memory f) = memory_imports f.desc
 field_imports all (field.Global f) = global_imports f.ty f.desc
 field_imports all _ = []
 
+-- the imports of a text
 abbrev pub imports_of : List Field → List Import
 imports_of all = flat_map (field_imports all) all

@@ -36,6 +36,7 @@ abbrev pub index_or_zero : Declared → Option Index → ℕ
 index_or_zero ds None = 0
 index_or_zero ds (Some i) = named_index ds i
 
+-- what is wrong with an index that may be left out
 abbrev pub unknown_in : Declared → Option Index → List (Fault NameWhy)
 unknown_in ds None = []
 unknown_in ds (Some i) = unknown_index ds i
@@ -44,5 +45,6 @@ unknown_in ds (Some i) = unknown_index ds i
 abbrev pub indices_of : Declared → List Index → List ℕ
 indices_of ds is = map (named_index ds) is
 
+-- what is wrong with a list of indices
 abbrev pub unknown_of : Declared → List Index → List (Fault NameWhy)
 unknown_of ds is = flat_map (unknown_index ds) is

@@ -17,11 +17,13 @@ exactly n = record { min = n; max = Some n }
 abbrev pub pages : ℕ → ℕ
 pages n = (n + 65535) / 65536
 
+-- the limits of a table that is no import
 abbrev pub table_limits : TableDesc → List Limits
 table_limits (table.Import names limits) = []
 table_limits (table.Limits limits) = limits ∷ []
 table_limits (table.Elems funcs) = exactly (length funcs) ∷ []
 
+-- the same of a memory
 abbrev pub memory_limits : MemoryDesc → List Limits
 memory_limits (memory.Import names limits) = []
 memory_limits (memory.Limits limits) = limits ∷ []
@@ -37,8 +39,10 @@ abbrev pub field_memories : Field → List Limits
 field_memories (field.Memory f) = memory_limits f.desc
 field_memories _ = []
 
+-- the tables that the fields define
 abbrev pub tables_of : List Field → List Limits
 tables_of all = flat_map field_tables all
 
+-- the memories that the fields define
 abbrev pub memories_of : List Field → List Limits
 memories_of all = flat_map field_memories all

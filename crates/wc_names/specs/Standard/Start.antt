@@ -19,6 +19,7 @@ abbrev pub start_from : List Field → Option ℕ → List Field → Option ℕ
 start_from all known [] = known
 start_from all known (f ∷ fs) = start_from all (start_after all known f) fs
 
+-- the start function of a text, where there is one
 abbrev pub start_of : List Field → Option ℕ
 start_of all = start_from all None all
 
@@ -27,5 +28,6 @@ abbrev pub start_faults : List Field → Field → List (Fault NameWhy)
 start_faults all (field.Start f) = unknown_index (declared_in kind.Func all) f.index
 start_faults all _ = []
 
+-- the same of all fields
 abbrev pub all_start_faults : List Field → List (Fault NameWhy)
 all_start_faults all = flat_map (start_faults all) all

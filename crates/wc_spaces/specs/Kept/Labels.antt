@@ -22,6 +22,7 @@ abbrev pub opened : List (Option (List ℕ)) → List (Option (List ℕ) × Opti
 opened [] = []
 opened (d ∷ ds) = opened ds ++ (d, hidden_by d ds) ∷ []
 
+-- the text of an open block's label, and the height of the one that the label hides
 abbrev pub kept_of : Open → Option (List ℕ) × Option ℕ
 kept_of o = (text_of o.label, o.hidden)
 

@@ -22,6 +22,7 @@ abbrev pub placed_in : List ℕ → Option Placed → Option ℕ → Option ℕ
 placed_in q None other = other
 placed_in q (Some first) other = if bytes_eq first.text.now q then Some first.place else other
 
+-- the place of a text, where it has one
 abbrev pub place_in : Places → List ℕ → Option ℕ
 place_in places q =
     placed_in q (get_by (nat_cmp (number_in q)) places.firsts) (get_by (λ k. slice_cmp nat_cmp q k.now) places.others)

@@ -12,5 +12,6 @@ abbrev pub least_from : {W : Type 0} → Option (Fault W) → List (Fault W) →
 least_from known [] = known
 least_from known (f ∷ fs) = least_from (earlier known f) fs
 
+-- the fault of the least token of these, where there is any
 abbrev pub least : {W : Type 0} → List (Fault W) → Option (Fault W)
 least fs = least_from None fs
