@@ -64,12 +64,6 @@ pub behind-space : (page new ds : List ℕ) (at end : ℕ) → at + 1 ≤ length
 behind-space page new ds at end fits e =
     e ∙ ap (λ (x : List ℕ). x ++ ds) (one-written page at 32 fits) ∙ append_assoc (take at page) (32 ∷ []) ds
 
-pub behind-minus : (page new ds : List ℕ) (at end : ℕ) → at + 2 ≤ length page
-    → take end new ≡ take (at + 2) (set (set page at 32) (at + 1) 45) ++ ds → take end new ≡ take at page ++ (32 ∷ 45 ∷ ds)
-behind-minus page new ds at end fits e =
-    e ∙ ap (λ (x : List ℕ). x ++ ds) (two-written page at (at + 1) 32 45 (omega arith) fits)
-    ∙ append_assoc (take at page) (32 ∷ 45 ∷ []) ds
-
 -- a whole row is copied to a place, and so much of it is kept
 pub row-kept : (page row copied rest : List ℕ) (at n : ℕ) → at + 24 ≤ length page → length row ≡ 24 → n ≤ 23 → copied ≡ row
     → take (at + n) (take at page ++ (copied ++ rest)) ≡ take at page ++ take n row

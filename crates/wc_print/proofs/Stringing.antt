@@ -47,9 +47,6 @@ stand-more bs at fits before here = (
   ],
 )
 
-pub leaves-all : (all old : List ℕ) → LeavesEscaped all all old old
-leaves-all all old = record { bytes = refl; fewer = omega arith }
-
 -- so many bytes at the front are put
 pub leaves-behind : (all old put out : List ℕ) (n : ℕ) → put ≡ flat_map escaped (take n all) → out ≡ old ++ put
     → LeavesEscaped (drop n all) all out old
@@ -60,11 +57,6 @@ leaves-behind all old put out n is e = record {
       (sym (flat_map-append escaped (take n all) (drop n all)) ∙ ap (λ (x : List ℕ). flat_map escaped x) (take-append-drop n all));
   fewer = omega (arith, length-drop n all);
 }
-
--- some of those that were left, and then others
-pub leaves-then : {less left all out mid old : List ℕ} → LeavesEscaped less left out mid → LeavesEscaped left all mid old
-    → LeavesEscaped less all out old
-leaves-then h k = record { bytes = h.bytes ∙ k.bytes; fewer = omega (arith, h.fewer, k.fewer) }
 
 -- a space and a quote, all bytes, and a quote
 pub string-put : (bs rest old mid out new : List ℕ) → ((k : ℕ) → Fits w8 (get_or bs k 0)) → length rest ≡ 0
