@@ -2,7 +2,7 @@
 use Rattle.std.proofs.Common.{◌≡◌, ◌⊎◌, inl, inr, ℕ, List, refl, sym, subst, arith, ◌∙◌}
 use Rattle.wc_ast.specs.declared.module.Module.{Module}
 use Rattle.wc_tokens.specs.declared.fault.LexWhy.{LexWhy}
-use Rattle.wc_tokens.specs.Standard.Lexemes.{Lexeme, Lexes, longest}
+use Rattle.wc_tokens.specs.Standard.Lexemes.{Lexeme, Lexes}
 use Rattle.wc_tokens.specs.Standard.Tokens.{InOrder}
 use Rattle.wc_tokens.specs.Standard.Faults.{FirstFault as FirstLexFault}
 use Rattle.wc_tokens.proofs.Lexing.LexLaws.{Lexes-same, FirstFault-same, Lexes-FirstFault, always-judged}

@@ -1,5 +1,5 @@
 -- Where the tokens of a text begin.
-use Rattle.std.proofs.Common.{◌≡◌, ℕ, zero, suc, ◌+◌, ◌≤◌, ◌<◌, List, [], ◌∷◌, length, drop, refl, sym, ap, subst, ◌∙◌, arith}
+use Rattle.std.proofs.Common.{◌≡◌, ℕ, zero, suc, ◌+◌, ◌≤◌, List, [], ◌∷◌, length, drop, refl, sym, ap, subst, ◌∙◌, arith}
 use Rattle.wc_tokens.specs.declared.fault.Stop.{Stop}
 use Rattle.wc_tokens.specs.Standard.Gaps.{Gaps}
 use Rattle.wc_tokens.specs.Standard.Lexemes.{Lexeme, Lexes}

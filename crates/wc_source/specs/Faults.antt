@@ -1,6 +1,5 @@
 -- The first fault of a text that denotes no module: of its characters, else of its grammar, else of its names.
 use Rattle.std.specs.Prelude.{◌≡◌, ◌⊎◌, ℕ, List, [], ◌∷◌, length, drop}
-use Rattle.wc_tokens.specs.declared.fault.LexWhy.{LexWhy}
 use Rattle.wc_tokens.specs.Standard.Lexemes.{Lexeme, Lexes}
 use Rattle.wc_tokens.specs.Standard.Faults.{FirstFault as FirstLexFault}
 use Rattle.wc_syntax.specs.declared.why.SynWhy.{SynWhy}
