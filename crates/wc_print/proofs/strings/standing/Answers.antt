@@ -4,4 +4,5 @@ use Rattle.wc_print.proofs.strings.standing.Goals as goal
 
 pub loop-at-preserved : goal.loop-at-preserved
 loop-at-preserved c =
-    stand-more c.args.bytes.now c.loop-at.at (omega (arith, c.loop-at.invariant.0)) c.loop-at.invariant.1 (c.all_stand.ensures c.if-all_stand.true)
+    stand-more c.args.bytes.now c.loop-at.at (omega (arith, c.loop-at.invariant.0)) c.loop-at.invariant.1
+    (c.all_stand.ensures c.if-all_stand.true)

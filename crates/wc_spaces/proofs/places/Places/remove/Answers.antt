@@ -9,7 +9,8 @@ use Rattle.wc_spaces.proofs.places.Places.remove.Goals as goal
 pub returns-in-None : goal.returns-in-None
 returns-in-None c = λ q.
     among (get nat_cmp c.args.self.now.firsts) c.args.text.now q _
-    (apart-none _ _ (ap (get nat_cmp c.args.self.now.firsts) (sym c.number_of-number.ensures) ∙ sym c.in-None.ensures.value))
+    (apart-none _ _
+    (ap (get nat_cmp c.args.self.now.firsts) (sym c.number_of-number.ensures) ∙ sym c.in-None.ensures.value))
     _ _ _ refl
     (btree_map_updates_str c.args.text.now c.args.self.now.others c.remove.new.self _ c.remove.ensures.updates q)
 
@@ -23,7 +24,8 @@ returns-then-eq c = λ q.
 pub returns-else-eq : goal.returns-else-eq
 returns-else-eq c = λ q.
     among (get nat_cmp c.args.self.now.firsts) c.args.text.now q _
-    (apart-some _ _ c.in-Some.first.now (ap (get nat_cmp c.args.self.now.firsts) (sym c.number_of-number.ensures) ∙ sym c.in-Some.ensures.value)
+    (apart-some _ _ c.in-Some.first.now
+    (ap (get nat_cmp c.args.self.now.firsts) (sym c.number_of-number.ensures) ∙ sym c.in-Some.ensures.value)
     (sym c.eq.ensures ∙ c.if-eq.false))
     _ _ _ refl
     (btree_map_updates_str c.args.text.now c.args.self.now.others c.remove.new.self _ c.remove.ensures.updates q)
