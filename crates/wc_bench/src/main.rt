@@ -1,9 +1,14 @@
 //! Times one layer on a file that is read whole first: `wc_bench LAYER FILE ROUNDS`. It tells on standard output what a
 //! round made, and on standard error the best and the median of the rounds: of making it, and of the whole round, which
-//! lets it go too and, where a module is printed, decodes it first. `wc_bench text FILE` writes the printed text of a
-//! module to standard output.
+//! lets it go too and makes what the layer starts from. `wc_bench text FILE` writes the printed text of a module to
+//! standard output.
 #![tactic(auto)]
 
+mod made;
+mod texts;
+
+use crate::made::{Made, made_since};
+use crate::texts::{make_names, make_surface, make_tokens};
 use anyhow::{Context, Result, bail};
 use std::alloc::Global;
 use std::time::Instant;
@@ -12,13 +17,16 @@ use wc_ast::Module;
 use wc_binary::{decode, encode};
 use wc_check::check;
 use wc_print::print;
-use wc_tokens::lex;
 
 /// What is timed.
 #[derive(Clone, Copy)]
 enum Layer {
     /// From a text to its tokens.
     Tokens,
+    /// From tokens to what they say.
+    Parse,
+    /// From what a text says to its module.
+    Resolve,
     /// From bytes to a module.
     Decode,
     /// From bytes to a module, and to whether it breaks a rule.
@@ -34,6 +42,8 @@ impl Layer {
     fn of_word(word: &str) -> Option<Layer> {
         match word {
             "tokens" => Some(Layer::Tokens),
+            "parse" => Some(Layer::Parse),
+            "resolve" => Some(Layer::Resolve),
             "decode" => Some(Layer::Decode),
             "check" => Some(Layer::Check),
             "encode" => Some(Layer::Encode),
@@ -45,36 +55,11 @@ impl Layer {
     /// What is counted.
     fn unit(self) -> &'static str {
         match self {
-            Layer::Tokens => "tokens",
+            Layer::Tokens | Layer::Parse => "tokens",
+            Layer::Resolve => "entries",
             Layer::Decode | Layer::Check => "functions",
             Layer::Encode | Layer::Print => "bytes",
         }
-    }
-}
-
-/// What a round made.
-#[derive(Clone, Copy)]
-struct Made {
-    /// How many of the layer's units.
-    amount: usize,
-    /// How long it took to make them, without letting them go, in nanoseconds.
-    nanoseconds: u128,
-}
-
-/// So many units, made since then.
-fn made_since(rt: &HostRuntime, start: Instant, amount: usize) -> Result<Made> {
-    Ok(Made {
-        amount,
-        nanoseconds: start.elapsed(rt)?.as_nanos(),
-    })
-}
-
-/// Makes the tokens of the text.
-fn make_tokens(rt: &HostRuntime, text: &[u8]) -> Result<Made> {
-    let start = Instant::now(rt)?;
-    match lex(rt.alloc(), text) {
-        Ok(tokens) => made_since(rt, start, tokens.as_slice().len()),
-        Err(_) => bail!("the text has a fault"),
     }
 }
 
@@ -149,6 +134,8 @@ fn make_text(rt: &HostRuntime, bytes: &[u8]) -> Result<Made> {
 fn make(rt: &HostRuntime, layer: Layer, input: &[u8]) -> Result<Made> {
     match layer {
         Layer::Tokens => make_tokens(rt, input),
+        Layer::Parse => make_surface(rt, input),
+        Layer::Resolve => make_names(rt, input),
         Layer::Decode => make_module(rt, input),
         Layer::Check => make_checked(rt, input),
         Layer::Encode => make_bytes(rt, input),
@@ -212,5 +199,7 @@ fn main(rt: HostRuntime) -> Result<()> {
             return write_text(&rt, path.as_str());
         }
     }
-    bail!("usage: wc_bench tokens|decode|check|encode|print FILE ROUNDS, or wc_bench text FILE")
+    bail!(
+        "usage: wc_bench tokens|parse|resolve|decode|check|encode|print FILE ROUNDS, or wc_bench text FILE"
+    )
 }
