@@ -1,6 +1,7 @@
 //! Bodies, their builder, their bytes and their copies.
 
 use std::alloc::Global;
+use std::process::Abort;
 use std::test::Fail;
 use wc_ast::{
     BlockType, Body, BodyBuilder, BuildFault, Entry, Instr, Kind, NESTING_LIMIT, SimpleOp,
@@ -88,7 +89,7 @@ fn pushed(builder: &mut BodyBuilder, letters: &[u8]) -> (usize, Option<BuildFaul
 }
 
 /// Pushes the entries of the letters; the last one is refused as told, and the body is what the others make.
-const BUILT: [(&[u8], Option<BuildFault>, &[u8]); 14] = [
+static BUILT: [(&[u8], Option<BuildFault>, &[u8]); 14] = [
     (b"", None, b""),
     (b"ppp", None, b"ppp"),
     (b"bpl.p.", None, b"bpl.p."),
@@ -105,15 +106,27 @@ const BUILT: [(&[u8], Option<BuildFault>, &[u8]); 14] = [
     (b"ipie.e.e", Some(BuildFault::Mark), b"ipi.."),
 ];
 
+/// The body has the entries of these letters.
+fn check_kept(rt: &(impl Abort + AllocGlobal), body: &Body, kept: &[u8]) -> Result<(), Fail> {
+    assert_eq!(rt; letters(rt.alloc(), body)?.as_slice(), kept);
+    assert_eq!(rt; body.bytes(), spelled(rt.alloc(), kept)?.as_slice());
+    Ok(())
+}
+
+/// Its copy has the entries of these letters.
+fn check_copy(rt: &(impl Abort + AllocGlobal), body: &Body, kept: &[u8]) -> Result<(), Fail> {
+    let copy = body.try_clone()?;
+    check_kept(rt, &copy, kept)
+}
+
 #[test]
 fn entries_are_kept_or_refused(rt: HostRuntime) -> Result<(), Fail> {
     for &(letters_pushed, refused, kept) in &BUILT {
         let mut builder = BodyBuilder::new(rt.alloc());
         let outcome = pushed(&mut builder, letters_pushed);
         assert_eq!(rt; outcome, (letters_pushed.len(), refused));
-        let copy = ended(builder)?.try_clone()?;
-        assert_eq!(rt; letters(rt.alloc(), &copy)?.as_slice(), kept);
-        assert_eq!(rt; copy.bytes(), spelled(rt.alloc(), kept)?.as_slice());
+        let body = ended(builder)?;
+        check_copy(&rt, &body, kept)?;
     }
     Ok(())
 }
@@ -121,14 +134,24 @@ fn entries_are_kept_or_refused(rt: HostRuntime) -> Result<(), Fail> {
 /// Room for nothing, for less than is put, for as much and for more.
 const ROOMS: [usize; 4] = [0, 3, 6, 65_536];
 
+/// Pushes an if of two parts into the new builder.
+fn push_if(rt: &impl Abort, builder: &mut BodyBuilder) {
+    assert_eq!(rt; builder.depth(), 0);
+    assert_eq!(rt; pushed(builder, b"ipep."), (5, None));
+}
+
+/// A body of an if of two parts.
+fn built_with_room(rt: &(impl Abort + AllocGlobal), room: usize) -> Result<Body, Fail> {
+    let mut builder = BodyBuilder::with_room(rt.alloc(), room)?;
+    push_if(rt, &mut builder);
+    Ok(builder.finish()?)
+}
+
 #[test]
 fn room_changes_no_entry(rt: HostRuntime) -> Result<(), Fail> {
     for &room in &ROOMS {
-        let mut builder = BodyBuilder::with_room(rt.alloc(), room)?;
-        assert_eq!(rt; builder.depth(), 0);
-        assert_eq!(rt; pushed(&mut builder, b"ipep."), (5, None));
-        let body = builder.finish()?;
-        assert_eq!(rt; body.bytes(), spelled(rt.alloc(), b"ipep.")?.as_slice());
+        let body = built_with_room(&rt, room)?;
+        check_kept(&rt, &body, b"ipep.")?;
     }
     Ok(())
 }
@@ -140,13 +163,23 @@ fn an_open_block_is_not_finished(rt: HostRuntime) -> Result<(), Fail> {
     Ok(())
 }
 
+/// Pushes a block more than may be open, and then what may stand there.
+fn push_at_the_limit(rt: &impl Abort, builder: &mut BodyBuilder) {
+    assert_eq!(rt; pushed(builder, b"i"), (1, Some(BuildFault::Depth)));
+    assert_eq!(rt; pushed(builder, b"p"), (1, None));
+}
+
+fn deepest(rt: &(impl Abort + AllocGlobal)) -> Result<Body, Fail> {
+    let mut builder = nested_blocks(rt.alloc(), NESTING_LIMIT)?;
+    push_at_the_limit(rt, &mut builder);
+    ended(builder)
+}
+
 #[test]
 fn the_deepest_body(rt: HostRuntime) -> Result<(), Fail> {
     assert_eq!(rt; NESTING_LIMIT, 20_000);
-    let mut builder = nested_blocks(rt.alloc(), 20_000)?;
-    assert_eq!(rt; pushed(&mut builder, b"i"), (1, Some(BuildFault::Depth)));
-    assert_eq!(rt; pushed(&mut builder, b"p"), (1, None));
-    let copy = ended(builder)?.try_clone()?;
+    let body = deepest(&rt)?;
+    let copy = body.try_clone()?;
     assert_eq!(rt; letters(rt.alloc(), &copy)?.len(), 40_001);
     assert_eq!(rt; copy.bytes().len(), 60_001);
     Ok(())

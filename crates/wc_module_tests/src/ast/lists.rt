@@ -19,29 +19,30 @@ fn locals(alloc: alloc::Global) -> Result<Locals, Fail> {
 
 #[test]
 fn locals_in_groups(rt: HostRuntime) -> Result<(), Fail> {
-    let copy = locals(rt.alloc())?.try_clone()?;
+    let locals = locals(rt.alloc())?;
+    let copy = locals.try_clone()?;
     assert_eq!(rt; copy.len(), 8);
     assert_eq!(rt; copy.groups().len(), 2);
     Ok(())
 }
 
+/// Groups that are pushed in turn, and why one is refused.
+static PUSHED: [(u32, ValType, Option<LocalsFault>); 4] = [
+    (49_999, ValType::I32, None),
+    (2, ValType::I32, Some(LocalsFault::TooMany)), // one more than the most
+    (u32::MAX, ValType::I64, Some(LocalsFault::TooMany)),
+    (1, ValType::I64, None), // the most
+];
+
 #[test]
-fn too_many_locals(rt: HostRuntime) -> Result<(), Fail> {
+fn too_many_locals(rt: HostRuntime) {
     assert_eq!(rt; LOCALS_LIMIT, 50_000);
     let mut locals = Locals::new(rt.alloc());
-    locals.push_group(49_999, ValType::I32)?;
-    assert_eq!(rt;
-        locals.push_group(2, ValType::I32),
-        Err(LocalsFault::TooMany)
-    );
-    assert_eq!(rt;
-        locals.push_group(u32::MAX, ValType::I64),
-        Err(LocalsFault::TooMany)
-    );
-    locals.push_group(1, ValType::I64)?;
+    for &(count, value_type, refused) in &PUSHED {
+        assert_eq!(rt; locals.push_group(count, value_type).err(), refused);
+    }
     assert_eq!(rt; locals.len(), 50_000);
     assert_eq!(rt; locals.groups().len(), 2);
-    Ok(())
 }
 
 #[test]

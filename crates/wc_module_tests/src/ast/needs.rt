@@ -3,6 +3,7 @@
 use super::bodies::ended;
 use super::spellings::{Step, entry_of};
 use std::alloc::Global;
+use std::process::Abort;
 use std::test::Fail;
 use wc_ast::{BlockType, Body, BodyBuilder, IndexOp, Kind, MemOp, Needs, SimpleOp, TryClone};
 
@@ -22,7 +23,7 @@ const NOTHING: Needs = Needs {
 const BLOCK: Step = Step::Begin(Kind::Block, BlockType::Empty);
 
 /// The first entries of a body, and what it needs.
-const NEEDED: [(&[Step], Needs); 23] = [
+static NEEDED: [(&[Step], Needs); 23] = [
     (&[], NOTHING),
     (
         &[
@@ -198,21 +199,32 @@ const NEEDED: [(&[Step], Needs); 23] = [
     ),
 ];
 
-fn body_of(alloc: Global, steps: &[Step]) -> Result<Body, Fail> {
-    let mut builder = BodyBuilder::new(alloc);
+fn push_steps(builder: &mut BodyBuilder, steps: &[Step]) -> Result<(), Fail> {
     for step in steps {
         builder.push(entry_of(*step)?)?;
     }
+    Ok(())
+}
+
+fn body_of(alloc: Global, steps: &[Step]) -> Result<Body, Fail> {
+    let mut builder = BodyBuilder::new(alloc);
+    push_steps(&mut builder, steps)?;
     ended(builder)
+}
+
+/// The body of this row needs this, and so does its copy.
+fn check_needs(rt: &impl Abort, body: &Body, needs: &Needs, row: usize) -> Result<(), Fail> {
+    assert_eq!(rt; body.needs(), *needs, "row {row}");
+    let copy = body.try_clone()?;
+    assert_eq!(rt; copy.needs(), *needs, "row {row}");
+    Ok(())
 }
 
 #[test]
 fn needs_are_counted(rt: HostRuntime) -> Result<(), Fail> {
-    for (steps, needs) in NEEDED {
-        let body = body_of(rt.alloc(), steps)?;
-        assert_eq!(rt; body.needs(), needs, "{steps:?}");
-        let copy = body.try_clone()?;
-        assert_eq!(rt; copy.needs(), needs, "{steps:?}");
+    for (row, (steps, needs)) in NEEDED.iter().enumerate() {
+        let body = body_of(rt.alloc(), *steps)?;
+        check_needs(&rt, &body, needs, row)?;
     }
     Ok(())
 }

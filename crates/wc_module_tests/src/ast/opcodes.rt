@@ -4,7 +4,7 @@ use wc_ast::{Op, OpByte, OpName};
 
 /// The instructions of the standard's tables (Core 1.0, 5.4 and 6.5; Core 2.0 for the last line): the names from an
 /// opcode on.
-const INSTRUCTIONS: [(u8, &str); 19] = [
+static INSTRUCTIONS: [(u8, &str); 19] = [
     (0x00, "unreachable nop block loop if"),
     (0x0c, "br br_if br_table return call call_indirect"),
     (0x1a, "drop select"),
@@ -54,7 +54,7 @@ const INSTRUCTIONS: [(u8, &str); 19] = [
 ];
 
 /// Loads and stores by the exponent of their natural alignment (Core 1.0, 6.5.5).
-const ALIGNMENTS: [(u32, &str); 4] = [
+static ALIGNMENTS: [(u32, &str); 4] = [
     (
         0,
         "i32.load8_s i32.load8_u i64.load8_s i64.load8_u i32.store8 i64.store8",
@@ -71,7 +71,7 @@ const ALIGNMENTS: [(u32, &str); 4] = [
 ];
 
 /// The opcodes of float instructions (Core 1.0, 5.4.4 and 5.4.5), by their first and last.
-const FLOAT_OPCODES: [(u8, u8); 7] = [
+static FLOAT_OPCODES: [(u8, u8); 7] = [
     (0x2a, 0x2b),
     (0x38, 0x39),
     (0x43, 0x44),
@@ -117,9 +117,8 @@ fn opcode_found(by_byte: OpByte, by_name: OpName, name: &str) -> Option<u8> {
     }
 }
 
-/// How many bytes are opcodes of instructions, and how many of floats: the others are neither.
-#[test]
-fn every_byte_has_its_meaning(rt: HostRuntime) {
+/// How many bytes are opcodes of instructions, and how many of floats.
+fn meanings() -> (u32, u32) {
     let mut known = 0u32;
     let mut float = 0u32;
     for byte in 0..=255u8 {
@@ -129,7 +128,13 @@ fn every_byte_has_its_meaning(rt: HostRuntime) {
             OpByte::Unknown => {}
         }
     }
-    assert_eq!(rt; (known, float), (107, 68));
+    (known, float)
+}
+
+/// The other bytes are neither.
+#[test]
+fn every_byte_has_its_meaning(rt: HostRuntime) {
+    assert_eq!(rt; meanings(), (107, 68));
     for &(first, last) in &FLOAT_OPCODES {
         for byte in first..=last {
             assert_eq!(rt; Op::of_byte(byte), OpByte::Float, "{byte}");
@@ -139,15 +144,20 @@ fn every_byte_has_its_meaning(rt: HostRuntime) {
     assert_eq!(rt; Op::of_byte(0x0b), OpByte::Unknown);
 }
 
+/// Names, and what each of them is.
+static OTHERS: [(&str, OpName); 3] = [
+    (FLOAT_NAMES, OpName::Float),
+    (OTHER_NAMES, OpName::Unknown),
+    ("", OpName::Unknown),
+];
+
 #[test]
 fn names_of_floats_and_others(rt: HostRuntime) {
-    for name in FLOAT_NAMES.split(' ') {
-        assert_eq!(rt; Op::of_name(name), OpName::Float);
+    for &(names, meaning) in &OTHERS {
+        for name in names.split(' ') {
+            assert_eq!(rt; Op::of_name(name), meaning, "{name}");
+        }
     }
-    for name in OTHER_NAMES.split(' ') {
-        assert_eq!(rt; Op::of_name(name), OpName::Unknown);
-    }
-    assert_eq!(rt; Op::of_name(""), OpName::Unknown);
 }
 
 #[test]

@@ -1,6 +1,7 @@
 //! Functions in one row, and their copies.
 
 use std::alloc::Global;
+use std::process::Abort;
 use std::test::Fail;
 use wc_ast::{
     Body, BodyBuilder, Entry, Func, FuncRef, Funcs, Group, Instr, Locals, SimpleOp, TryClone,
@@ -25,8 +26,10 @@ const MOST: &[Group] = &[Group {
     value_type: ValType::I64,
 }];
 
-/// Of each function, the index of its type, the groups of its locals, and its bytes, each a `nop`.
-const ADDED: [(u32, &[Group], &[u8]); 5] = [
+/// Of a function, the index of its type, the groups of its locals, and its bytes, each a `nop`.
+type Added = (u32, &'static [Group], &'static [u8]);
+
+static ADDED: [Added; 5] = [
     (7, NONE, &[]), // neither locals nor instructions
     (0, SOME, &[0x01, 0x01]),
     (u32::MAX, MOST, &[]),
@@ -41,20 +44,40 @@ fn nops(mut builder: BodyBuilder, count: usize) -> Result<Body, Fail> {
     Ok(builder.finish_with_room()?)
 }
 
-fn func(alloc: Global, ty: u32, groups: &[Group], count: usize) -> Result<Func, Fail> {
-    let mut locals = Locals::new(alloc);
+fn push_groups(locals: &mut Locals, groups: &[Group]) -> Result<(), Fail> {
     for group in groups {
         locals.push_group(group.count, group.value_type)?;
     }
+    Ok(())
+}
+
+fn func(alloc: Global, ty: u32, groups: &[Group], count: usize) -> Result<Func, Fail> {
+    let mut locals = Locals::new(alloc);
+    push_groups(&mut locals, groups)?;
     let body = nops(BodyBuilder::new(alloc), count)?;
     Ok(Func { ty, locals, body })
 }
 
+fn push(funcs: &mut Funcs, func: &Func) -> Result<(), Fail> {
+    Ok(funcs.push(func)?)
+}
+
+fn add(alloc: Global, funcs: &mut Funcs, row: &Added) -> Result<(), Fail> {
+    let (ty, groups, bytes) = *row;
+    let func = func(alloc, ty, groups, bytes.len())?;
+    push(funcs, &func)
+}
+
+fn add_all(alloc: Global, funcs: &mut Funcs) -> Result<(), Fail> {
+    for row in &ADDED {
+        add(alloc, funcs, row)?;
+    }
+    Ok(())
+}
+
 fn made(alloc: Global) -> Result<Funcs, Fail> {
     let mut funcs = Funcs::new(alloc);
-    for &(ty, groups, bytes) in &ADDED {
-        funcs.push(&func(alloc, ty, groups, bytes.len())?)?;
-    }
+    add_all(alloc, &mut funcs)?;
     Ok(funcs)
 }
 
@@ -68,16 +91,22 @@ fn is_added(place: usize, func: &FuncRef<'_>) -> bool {
     }
 }
 
+/// The functions are those added, in their order.
+fn check_added(rt: &impl Abort, funcs: &Funcs) {
+    assert_eq!(rt; funcs.len(), 5);
+    assert_eq!(rt; funcs.types(), [7, 0, u32::MAX, 7, 1].as_slice());
+    assert_eq!(rt; funcs.codes().len(), 5);
+    for (place, func) in funcs.iter().enumerate() {
+        assert!(rt; is_added(place, &func), "function {place}");
+    }
+    assert_eq!(rt; funcs.iter().count(), 5);
+}
+
 #[test]
 fn functions_stand_in_their_order(rt: HostRuntime) -> Result<(), Fail> {
-    let copy = made(rt.alloc())?.try_clone()?;
-    assert_eq!(rt; copy.len(), 5);
-    assert_eq!(rt; copy.types(), [7, 0, u32::MAX, 7, 1].as_slice());
-    assert_eq!(rt; copy.codes().len(), 5);
-    for (place, func) in copy.iter().enumerate() {
-        assert!(rt; is_added(place, &func));
-    }
-    assert_eq!(rt; copy.iter().count(), 5);
+    let funcs = made(rt.alloc())?;
+    let copy = funcs.try_clone()?;
+    check_added(&rt, &copy);
     Ok(())
 }
 

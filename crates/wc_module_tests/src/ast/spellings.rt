@@ -10,7 +10,7 @@ use wc_ast::{
 };
 
 /// An entry that a table tells.
-#[derive(Clone, Copy, Debug)]
+#[derive(Clone, Copy)]
 pub(super) enum Step {
     Simple(SimpleOp),
     Index(IndexOp, u32),
@@ -90,23 +90,42 @@ fn is_told(alloc: Global, entry: Entry, step: Step) -> Result<bool, Fail> {
     Ok(is_same)
 }
 
-/// A body of these entries, and their bytes.
-fn body_of(alloc: Global, rows: &[Row]) -> Result<(Body, Vec<u8>), Fail> {
-    let mut builder = BodyBuilder::new(alloc);
-    let mut bytes = Vec::new(alloc);
-    for (step, spelling) in rows {
+/// Pushes these entries.
+fn push_rows(builder: &mut BodyBuilder, rows: &[Row]) -> Result<(), Fail> {
+    for (step, _) in rows {
         builder.push(entry_of(*step)?)?;
+    }
+    Ok(())
+}
+
+/// A body of these entries.
+fn body_of(alloc: Global, rows: &[Row]) -> Result<Body, Fail> {
+    let mut builder = BodyBuilder::new(alloc);
+    push_rows(&mut builder, rows)?;
+    Ok(builder.finish()?)
+}
+
+/// The bytes of these entries.
+fn bytes_of(alloc: Global, rows: &[Row]) -> Result<Vec<u8>, Fail> {
+    let mut bytes = Vec::new(alloc);
+    for (_, spelling) in rows {
         bytes.extend_from_slice(*spelling)?;
     }
-    Ok((builder.finish()?, bytes))
+    Ok(bytes)
+}
+
+/// Pushes the entries of this body.
+fn push_entries(builder: &mut BodyBuilder, body: &Body) -> Result<(), Fail> {
+    for entry in body.entries() {
+        builder.push(entry)?;
+    }
+    Ok(())
 }
 
 /// A body of the entries of this one.
 fn pushed_again(alloc: Global, body: &Body) -> Result<Body, Fail> {
     let mut builder = BodyBuilder::new(alloc);
-    for entry in body.entries() {
-        builder.push(entry)?;
-    }
+    push_entries(&mut builder, body)?;
     Ok(builder.finish()?)
 }
 
@@ -120,21 +139,27 @@ fn check_bytes(rt: &(impl Abort + AllocGlobal), body: &Body, bytes: &[u8]) -> Re
     Ok(())
 }
 
-/// A body of these entries has their bytes, and gives them back.
-fn check_rows(rt: &(impl Abort + AllocGlobal), rows: &[Row]) -> Result<(), Fail> {
-    let (body, bytes) = body_of(rt.alloc(), rows)?;
-    check_bytes(rt, &body, &bytes)?;
+/// The body gives these entries back.
+fn check_entries(rt: &(impl Abort + AllocGlobal), body: &Body, rows: &[Row]) -> Result<(), Fail> {
     let mut entries = body.entries();
-    for (step, _) in rows {
-        let entry = entries.next().ok_or("too few entries")?;
-        assert!(rt; is_told(rt.alloc(), entry, *step)?, "{step:?}");
+    for (step, spelling) in rows {
+        let entry = entries.next().expect(rt, "too few entries");
+        assert!(rt; is_told(rt.alloc(), entry, *step)?, "{spelling:?}");
     }
     assert!(rt; entries.next().is_none());
     Ok(())
 }
 
+/// A body of these entries has their bytes, and gives them back.
+fn check_rows(rt: &(impl Abort + AllocGlobal), rows: &[Row]) -> Result<(), Fail> {
+    let body = body_of(rt.alloc(), rows)?;
+    let bytes = bytes_of(rt.alloc(), rows)?;
+    check_bytes(rt, &body, &bytes)?;
+    check_entries(rt, &body, rows)
+}
+
 /// Instructions with immediates of each length, of any sign, and of the bytes of marks.
-const INSTRUCTIONS: [Row; 63] = [
+static INSTRUCTIONS: [Row; 63] = [
     (Step::Simple(SimpleOp::Unreachable), &[0x00]),
     (Step::Simple(SimpleOp::Nop), &[0x01]),
     (Step::Simple(SimpleOp::Return), &[0x0f]),
@@ -276,7 +301,7 @@ fn instructions_have_their_bytes(rt: HostRuntime) -> Result<(), Fail> {
 }
 
 /// What begins, with its type, and their bytes (Core 1.0, 5.4.1; Core 2.0, 5.4.1, for an index).
-const BLOCKS: [(Kind, BlockType, &[u8]); 13] = [
+static BLOCKS: [(Kind, BlockType, &[u8]); 13] = [
     (Kind::Block, BlockType::Empty, &[0x02, 0x40]),
     (Kind::Loop, BlockType::Value(ValType::I32), &[0x03, 0x7f]),
     (Kind::If, BlockType::Value(ValType::I64), &[0x04, 0x7e]),
@@ -325,28 +350,28 @@ fn table(alloc: Global, labels: Labels) -> Result<Body, Fail> {
 }
 
 /// The labels of the body's first entry.
-fn table_labels(body: &Body) -> Result<Labels<'_>, Fail> {
+fn table_labels(body: &Body) -> Option<Labels<'_>> {
     match body.entries().next() {
-        Some(Entry::Plain(Instr::BrTable(_, labels))) => Ok(labels),
-        _ => Err(Fail::from("no labels")),
+        Some(Entry::Plain(Instr::BrTable(_, labels))) => Some(labels),
+        _ => None,
     }
 }
 
 /// The labels of a `br_table`.
-const LABELS: [&[u32]; 4] = [&[], &[9], &[1, 2, 3], &[0, 127, 128, 0xffff_ffff]];
+static LABELS: [&[u32]; 4] = [&[], &[9], &[1, 2, 3], &[0, 127, 128, 0xffff_ffff]];
 
 #[test]
 fn labels_are_told(rt: HostRuntime) -> Result<(), Fail> {
-    for items in LABELS {
-        check_labels(&rt, labels(items)?, items)?;
-        let body = table(rt.alloc(), labels(items)?)?;
-        check_labels(&rt, table_labels(&body)?, items)?;
+    for items in &LABELS {
+        check_labels(&rt, labels(*items)?, *items)?;
+        let body = table(rt.alloc(), labels(*items)?)?;
+        check_labels(&rt, table_labels(&body).expect(&rt, "no labels"), *items)?;
     }
     Ok(())
 }
 
 /// Labels, a number of enclosing blocks, and whether one of the labels is above it.
-const ABOVE: [(&[u32], usize, bool); 5] = [
+static ABOVE: [(&[u32], usize, bool); 5] = [
     (&[], 0, false),
     (&[0], 0, false),
     (&[0, 3, 1], 2, true),
@@ -359,20 +384,29 @@ fn labels_above(rt: HostRuntime) -> Result<(), Fail> {
     for &(items, enclosing, is_above) in &ABOVE {
         assert_eq!(rt; labels(items)?.any_above(enclosing), is_above);
         let body = table(rt.alloc(), labels(items)?)?;
-        assert_eq!(rt; table_labels(&body)?.any_above(enclosing), is_above);
+        assert_eq!(rt;
+            table_labels(&body)
+                .expect(&rt, "no labels")
+                .any_above(enclosing),
+            is_above
+        );
     }
     Ok(())
 }
 
+/// A `br_table` of these labels has these bytes, and gives the labels back.
+fn check_table(rt: &(impl Abort + AllocGlobal), items: &[u32], bytes: &[u8]) -> Result<(), Fail> {
+    let body = table(rt.alloc(), labels(items)?)?;
+    check_bytes(rt, &body, bytes)?;
+    check_labels(rt, table_labels(&body).expect(rt, "no labels"), items)
+}
+
 #[test]
 fn many_labels(rt: HostRuntime) -> Result<(), Fail> {
-    let items = vec![in rt.alloc(); 5u32; 128]?;
-    let body = table(rt.alloc(), labels(&items)?)?;
-    let mut bytes = vec![in rt.alloc(); 0x0e, 0x80, 0x01]?;
-    bytes.extend_from_slice(&[0x05; 128])?;
-    bytes.push(0x07)?;
-    check_bytes(&rt, &body, &bytes)?;
-    check_labels(&rt, table_labels(&body)?, &items)
+    let mut bytes = [0x05; 132];
+    bytes[..3].copy_from_slice(&[0x0e, 0x80, 0x01]);
+    bytes[131] = 0x07;
+    check_table(&rt, &[5; 128], &bytes)
 }
 
 /// Takes the first of three labels. A `br_table` of those left has two.
@@ -388,5 +422,5 @@ fn labels_that_are_left(rt: HostRuntime) -> Result<(), Fail> {
     let items = [1, 2, 3];
     check_left(&rt, labels(&items)?)?;
     let body = table(rt.alloc(), labels(&items)?)?;
-    check_left(&rt, table_labels(&body)?)
+    check_left(&rt, table_labels(&body).expect(&rt, "no labels"))
 }

@@ -1,7 +1,7 @@
 //! Inputs that spell a module, and the canonical bytes of it.
 
 /// What stands behind the preamble, and behind the preamble of the canonical bytes.
-pub const MODULES: [(&[u8], &[u8]); 16] = [
+pub static MODULES: [(&[u8], &[u8]); 16] = [
     (&[], &[]), // no section
     (&[0x01, 0x01, 0x00, 0x00, 0x02, 0x01, 0x61], &[]), // an empty section and a custom one
     // padded integers
@@ -159,7 +159,7 @@ pub const MODULES: [(&[u8], &[u8]); 16] = [
 pub const FUNCTION: &[u8] = &[0x01, 0x04, 0x01, 0x60, 0x00, 0x00, 0x03, 0x02, 0x01, 0x00];
 
 /// What stands behind the preamble and one function, and in the canonical bytes.
-pub const BODIES: [(&[u8], &[u8]); 16] = [
+pub static BODIES: [(&[u8], &[u8]); 16] = [
     // groups of locals merged
     (
         &[

@@ -36,7 +36,8 @@ pub fn is_bad(fault: Option<BinFault>, at: u64, why: BinWhy) -> bool {
     matches!(fault, Some(BinFault::Bad { at: a, why: w }) if a == at && w == why)
 }
 
-fn bytes_of(alloc: Global, module: &Module) -> Result<Vec<u8>, Fail> {
+/// The canonical bytes of a module.
+pub fn bytes_of(alloc: Global, module: &Module) -> Result<Vec<u8>, Fail> {
     Ok(encode(alloc, module)?)
 }
 
@@ -53,18 +54,35 @@ fn canonical_in_pieces(alloc: Global, input: &[u8], piece: usize) -> Result<(Vec
     Ok((bytes, device.count()))
 }
 
+/// The input spells a module of these canonical bytes.
+fn check_whole(rt: &(impl Abort + AllocGlobal), input: &[u8], want: &[u8]) -> Result<(), Fail> {
+    let out = encoded(rt.alloc(), decode(rt.alloc(), input))?;
+    assert_eq!(rt; out.as_slice(), want);
+    Ok(())
+}
+
+/// The same by a reader of such pieces, which is read to its end.
+fn check_in_pieces(
+    rt: &(impl Abort + AllocGlobal),
+    input: &[u8],
+    want: &[u8],
+    piece: usize,
+) -> Result<(), Fail> {
+    let (out, count) = canonical_in_pieces(rt.alloc(), input, piece)?;
+    assert_eq!(rt; out.as_slice(), want);
+    assert_eq!(rt; count, input.len() as u64);
+    Ok(())
+}
+
 /// The input spells a module of these canonical bytes, by a slice and by readers.
 pub fn check_accepted(
     rt: &(impl Abort + AllocGlobal),
     input: &[u8],
     want: &[u8],
 ) -> Result<(), Fail> {
-    let out = encoded(rt.alloc(), decode(rt.alloc(), input))?;
-    assert_eq!(rt; out.as_slice(), want);
+    check_whole(rt, input, want)?;
     for piece in &PIECES {
-        let (out, count) = canonical_in_pieces(rt.alloc(), input, *piece)?;
-        assert_eq!(rt; out.as_slice(), want);
-        assert_eq!(rt; count, input.len() as u64);
+        check_in_pieces(rt, input, want, *piece)?;
     }
     Ok(())
 }

@@ -15,7 +15,7 @@ fn nested(alloc: Global, sizes: &[u8], blocks: u32) -> Result<Vec<u8>, AllocErro
 }
 
 /// Sizes of functions, and how many blocks are nested in them.
-const NESTED: [(&[u8], u32); 3] = [
+static NESTED: [(&[u8], u32); 3] = [
     (&[0x0a, 0xbd, 0x17, 0x01, 0xba, 0x17, 0x00], 1000), // a thousand
     (&[0x0a, 0xc0, 0x17, 0x01, 0xbd, 0x17, 0x00], 1001), // one more
     // the most

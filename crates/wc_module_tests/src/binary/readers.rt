@@ -37,9 +37,14 @@ fn a_read_fails(rt: HostRuntime) -> Result<(), Fail> {
     Ok(())
 }
 
-fn type_count(decoded: Result<Module, BinFault>) -> Result<usize, BinFault> {
+fn type_count(module: &Module) -> usize {
+    module.types.len()
+}
+
+/// The same of what was decoded.
+fn type_count_in(decoded: Result<Module, BinFault>) -> Result<usize, BinFault> {
     let module = decoded?;
-    Ok(module.types.len())
+    Ok(type_count(&module))
 }
 
 #[test]
@@ -49,7 +54,7 @@ fn the_front_comes_first(rt: HostRuntime) -> Result<(), Fail> {
     let mut front = [0u8; 16];
     let got = device.read(&mut front)?;
     assert_eq!(rt; got, 5);
-    let found = type_count(decode_from(rt.alloc(), &front[..5], &mut device))?;
+    let found = type_count_in(decode_from(rt.alloc(), &front[..5], &mut device))?;
     assert_eq!(rt; found, 1);
     Ok(())
 }

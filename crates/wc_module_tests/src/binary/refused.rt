@@ -3,7 +3,7 @@
 use wc_binary::BinWhy;
 
 /// What stands behind the preamble, the place of the fault, and its reason.
-pub const MODULES: [(&[u8], u64, BinWhy); 34] = [
+pub static MODULES: [(&[u8], u64, BinWhy); 34] = [
     (&[0x02, 0x04, 0x01, 0x00, 0x00, 0x04], 13, BinWhy::Tag), // an import of no kind
     (&[0x05, 0x03, 0x01, 0x02, 0x00], 11, BinWhy::Tag), // limits of no kind
     (&[0x07, 0x04, 0x01, 0x00, 0x05, 0x00], 12, BinWhy::Tag), // an export of no kind
@@ -140,7 +140,7 @@ pub const MODULES: [(&[u8], u64, BinWhy); 34] = [
 ];
 
 /// The same behind the preamble and one function without its code.
-pub const BODIES: [(&[u8], u64, BinWhy); 28] = [
+pub static BODIES: [(&[u8], u64, BinWhy); 28] = [
     (&[], 18, BinWhy::Counts), // no code section
     // a code too many
     (
@@ -304,7 +304,7 @@ pub const BODIES: [(&[u8], u64, BinWhy); 28] = [
 ];
 
 /// Whole inputs that have no good preamble.
-pub const PREAMBLES: [(&[u8], u64, BinWhy); 7] = [
+pub static PREAMBLES: [(&[u8], u64, BinWhy); 7] = [
     (&[], 0, BinWhy::End), // no byte
     (&[0x00], 1, BinWhy::End), // one byte
     (&[0x00, 0x61, 0x73, 0x6d, 0x01, 0x00, 0x00], 7, BinWhy::End), // one byte short

@@ -1,8 +1,9 @@
 //! Modules from bytes, by slices and by readers, and their canonical bytes.
 
-use crate::binary::checks::{check_accepted, check_refused, encoded, fault_of};
+use crate::binary::checks::{bytes_of, check_accepted, check_refused, fault_of};
 use crate::binary::inputs::{function, module};
 use crate::binary::{accepted, refused};
+use std::alloc::{AllocError, Global};
 use std::process::Abort;
 use std::test::Fail;
 use wc_ast::Module;
@@ -49,14 +50,16 @@ fn bodies_are_refused(rt: HostRuntime) -> Result<(), Fail> {
     Ok(())
 }
 
-fn copy(module: &Module) -> Result<Module, BinFault> {
-    Ok(module.try_clone()?)
+/// The canonical bytes of a copy.
+fn copied(alloc: Global, copy: Result<Module, AllocError>) -> Result<Vec<u8>, Fail> {
+    let module = copy?;
+    bytes_of(alloc, &module)
 }
 
-/// A copy of what was decoded.
-fn copy_of(decoded: Result<Module, BinFault>) -> Result<Module, BinFault> {
+/// The canonical bytes of a copy of what was decoded.
+fn copied_of(alloc: Global, decoded: Result<Module, BinFault>) -> Result<Vec<u8>, Fail> {
     let module = decoded?;
-    copy(&module)
+    copied(alloc, module.try_clone())
 }
 
 #[test]
@@ -64,8 +67,8 @@ fn copies_are_the_same(rt: HostRuntime) -> Result<(), Fail> {
     for &(rest, canonical) in &accepted::MODULES {
         let input = module(rt.alloc(), rest)?;
         let want = module(rt.alloc(), canonical)?;
-        let copy = encoded(rt.alloc(), copy_of(decode(rt.alloc(), &input)))?;
-        assert_eq!(rt; copy, want);
+        let bytes = copied_of(rt.alloc(), decode(rt.alloc(), &input))?;
+        assert_eq!(rt; bytes, want);
     }
     Ok(())
 }

@@ -4,7 +4,7 @@ use crate::check::building::{Part, build};
 use std::alloc::Global;
 use std::process::Abort;
 use std::test::Fail;
-use wc_ast::{BlockType, ExportKind, IndexOp, Kind, SimpleOp, ValType};
+use wc_ast::{BlockType, ExportKind, IndexOp, Kind, Module, SimpleOp, ValType};
 use wc_check::{CheckFault, CheckWhy, Item, check};
 
 /// What a module breaks first.
@@ -62,6 +62,15 @@ pub(crate) const BRANCH_ABOVE: Part = Part::Index(IndexOp::Br, 2);
 
 pub(crate) const EXPORT: Part = Part::Export('a', ExportKind::Func, 0);
 
+/// Asserts that the module breaks this first.
+fn check_found(rt: &impl Abort, alloc: Global, module: &Module, found: Found) {
+    let answer = match found {
+        None => Ok(()),
+        Some((item, why)) => Err(CheckFault::Broken { item, why }),
+    };
+    assert_eq!(rt; check(alloc, module), answer);
+}
+
 /// Asserts that the module of these steps breaks this first.
 pub(crate) fn expect(
     rt: &impl Abort,
@@ -70,10 +79,6 @@ pub(crate) fn expect(
     found: Found,
 ) -> Result<(), Fail> {
     let module = build(alloc, parts)?;
-    let answer = match found {
-        None => Ok(()),
-        Some((item, why)) => Err(CheckFault::Broken { item, why }),
-    };
-    assert_eq!(rt; check(alloc, &module), answer);
+    check_found(rt, alloc, &module, found);
     Ok(())
 }

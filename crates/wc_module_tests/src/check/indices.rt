@@ -9,7 +9,7 @@ use std::test::Fail;
 use wc_ast::{BlockType, ExportKind, IndexOp, Kind, MemOp, SimpleOp};
 use wc_check::{CheckWhy, Item};
 
-const TYPE_INDICES: [(&[Part], Found); 16] = [
+static TYPE_INDICES: [(&[Part], Found); 16] = [
     (&[], None), // an empty module
     (&[Part::Type(0, 2)], None), // two results
     (&[IMPORT], Some((Item::Import(0), CheckWhy::TypeIndex))), // an import of no type
@@ -108,7 +108,7 @@ fn type_indices(rt: HostRuntime) -> Result<(), Fail> {
     Ok(())
 }
 
-const INDICES: [(&[Part], Found); 31] = [
+static INDICES: [(&[Part], Found); 31] = [
     // no function to export
     (
         &[Part::Export('a', ExportKind::Func, 0)],

@@ -10,7 +10,7 @@ use std::test::Fail;
 use wc_ast::{ExportKind, MemOp, ValType};
 use wc_check::{CheckWhy, Item};
 
-const SIZES: [(&[Part], Found); 11] = [
+static SIZES: [(&[Part], Found); 11] = [
     // least above greatest
     (
         &[Part::Memory(2, Some(1))],
@@ -60,7 +60,7 @@ fn sizes(rt: HostRuntime) -> Result<(), Fail> {
     Ok(())
 }
 
-const ONE_TABLE_AND_ONE_MEMORY: [(&[Part], Found); 8] = [
+static ONE_TABLE_AND_ONE_MEMORY: [(&[Part], Found); 8] = [
     (&[TABLE, MEMORY], None), // one of each
     // two memories
     (
@@ -99,7 +99,7 @@ fn one_table_and_one_memory(rt: HostRuntime) -> Result<(), Fail> {
     Ok(())
 }
 
-const CONSTANTS: [(&[Part], Found); 15] = [
+static CONSTANTS: [(&[Part], Found); 15] = [
     (&[I32, CONSTANT], None), // of its type
     // of another type
     (
@@ -169,7 +169,7 @@ fn constants(rt: HostRuntime) -> Result<(), Fail> {
     Ok(())
 }
 
-const GLOBALS_NAMES_AND_START: [(&[Part], Found); 15] = [
+static GLOBALS_NAMES_AND_START: [(&[Part], Found); 15] = [
     // the first is a variable
     (
         &[TYPE, IMPORT_VARIABLE, IMPORT_CONSTANT, I32, WRITE, FUNC],
@@ -279,7 +279,7 @@ fn globals_names_and_start(rt: HostRuntime) -> Result<(), Fail> {
     Ok(())
 }
 
-const THE_FIRST_ITEM: [(&[Part], Found); 14] = [
+static THE_FIRST_ITEM: [(&[Part], Found); 14] = [
     // functions before memories
     (
         &[LIMITS, TYPE, Part::Func(1, 0)],

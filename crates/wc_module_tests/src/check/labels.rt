@@ -9,7 +9,7 @@ use std::test::Fail;
 use wc_ast::{IndexOp, MemOp};
 use wc_check::{CheckWhy, Item};
 
-const LABELS: [(&[Part], Found); 12] = [
+static LABELS: [(&[Part], Found); 12] = [
     // the body, in a block and behind it
     (
         &[TYPE, BLOCK, BRANCH, END, Part::Index(IndexOp::Br, 0), FUNC],
@@ -47,15 +47,15 @@ const LABELS: [(&[Part], Found); 12] = [
         &[TYPE, Part::Index(IndexOp::BrIf, 1), FUNC],
         Some((Item::Instr { func: 0, number: 0 }, CheckWhy::Label)),
     ),
-    (&[TYPE, Part::BrTable(0, 0), FUNC], None), // the body by br_table
+    (&[TYPE, Part::BrTable(0, &[0]), FUNC], None), // the body by br_table
     // default above the body
     (
-        &[TYPE, Part::BrTable(1, 0), FUNC],
+        &[TYPE, Part::BrTable(1, &[0]), FUNC],
         Some((Item::Instr { func: 0, number: 0 }, CheckWhy::Label)),
     ),
     // other label above the body
     (
-        &[TYPE, Part::BrTable(0, 1), FUNC],
+        &[TYPE, Part::BrTable(0, &[1]), FUNC],
         Some((Item::Instr { func: 0, number: 0 }, CheckWhy::Label)),
     ),
 ];
@@ -68,7 +68,7 @@ fn labels(rt: HostRuntime) -> Result<(), Fail> {
     Ok(())
 }
 
-const ALIGNMENTS: [(&[Part], Found); 12] = [
+static ALIGNMENTS: [(&[Part], Found); 12] = [
     // one byte
     (
         &[TYPE, MEMORY, Part::Access(MemOp::I32Load8S, 0), FUNC],

@@ -1,8 +1,9 @@
 //! Modules of a million members, which only a check in time proportional to them ends within a test's time.
 
-use crate::check::building::{Part, add, build};
+use crate::check::building::{add_func, build};
 use crate::check::expected::{FUNC, TYPE};
 use std::alloc::Global;
+use std::process::Abort;
 use std::test::Fail;
 use wc_ast::{BodyBuilder, Export, ExportKind, Module, Name};
 use wc_check::{CheckFault, CheckWhy, Item, check};
@@ -20,40 +21,60 @@ fn export(alloc: Global, module: &mut Module, number: usize) -> Result<(), Fail>
     Ok(())
 }
 
-#[test]
-fn many_exports(rt: HostRuntime) -> Result<(), Fail> {
-    let mut module = build(rt.alloc(), &[TYPE, FUNC])?;
+fn export_many(alloc: Global, module: &mut Module) -> Result<(), Fail> {
     for number in 0..MANY {
-        export(rt.alloc(), &mut module, number)?;
+        export(alloc, module, number)?;
     }
-    assert_eq!(rt; check(rt.alloc(), &module), Ok(()));
-    export(rt.alloc(), &mut module, MANY / 2)?;
+    Ok(())
+}
+
+/// Of a module of one function.
+fn check_exports(rt: &(impl Abort + AllocGlobal), module: &mut Module) -> Result<(), Fail> {
+    export_many(rt.alloc(), module)?;
+    assert_eq!(rt; check(rt.alloc(), module), Ok(()));
+    export(rt.alloc(), module, MANY / 2)?;
     let twice = CheckFault::Broken {
         item: Item::Export(MANY),
         why: CheckWhy::ExportName,
     };
-    assert_eq!(rt; check(rt.alloc(), &module), Err(twice));
+    assert_eq!(rt; check(rt.alloc(), module), Err(twice));
     Ok(())
+}
+
+#[test]
+fn many_exports(rt: HostRuntime) -> Result<(), Fail> {
+    let mut module = build(rt.alloc(), &[TYPE, FUNC])?;
+    check_exports(&rt, &mut module)
 }
 
 /// Adds a function of the type of this index.
 fn define(alloc: Global, module: &mut Module, type_index: u32) -> Result<(), Fail> {
     let body = BodyBuilder::new(alloc).finish()?;
-    add(alloc, module, body, Part::Func(type_index, 0))
+    add_func(alloc, module, body, type_index, 0)
+}
+
+fn define_many(alloc: Global, module: &mut Module) -> Result<(), Fail> {
+    for _ in 0..MANY {
+        define(alloc, module, 0)?;
+    }
+    Ok(())
+}
+
+/// Of a module of one type.
+fn check_functions(rt: &(impl Abort + AllocGlobal), module: &mut Module) -> Result<(), Fail> {
+    define_many(rt.alloc(), module)?;
+    assert_eq!(rt; check(rt.alloc(), module), Ok(()));
+    define(rt.alloc(), module, 1)?;
+    let unknown = CheckFault::Broken {
+        item: Item::Func(MANY),
+        why: CheckWhy::TypeIndex,
+    };
+    assert_eq!(rt; check(rt.alloc(), module), Err(unknown));
+    Ok(())
 }
 
 #[test]
 fn many_functions(rt: HostRuntime) -> Result<(), Fail> {
     let mut module = build(rt.alloc(), &[TYPE])?;
-    for _ in 0..MANY {
-        define(rt.alloc(), &mut module, 0)?;
-    }
-    assert_eq!(rt; check(rt.alloc(), &module), Ok(()));
-    define(rt.alloc(), &mut module, 1)?;
-    let unknown = CheckFault::Broken {
-        item: Item::Func(MANY),
-        why: CheckWhy::TypeIndex,
-    };
-    assert_eq!(rt; check(rt.alloc(), &module), Err(unknown));
-    Ok(())
+    check_functions(&rt, &mut module)
 }
