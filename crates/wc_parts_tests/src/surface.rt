@@ -51,23 +51,32 @@ fn letter_of(entry: &TextEntry) -> u8 {
     }
 }
 
+fn put_all(builder: &mut CodeBuilder, letters: &[u8]) -> Result<(), BuildFault> {
+    for letter in letters {
+        put(builder, *letter)?;
+    }
+    Ok(())
+}
+
 /// The instructions of these letters.
 fn code(alloc: Global, letters: &[u8]) -> Result<TextCode, BuildFault> {
     let mut builder = CodeBuilder::new(alloc);
-    for letter in letters {
-        put(&mut builder, *letter)?;
-    }
+    put_all(&mut builder, letters)?;
     builder.finish()
+}
+
+fn letters_of(alloc: Global, entries: &[TextEntry]) -> Result<Vec<u8>, AllocError> {
+    let mut letters = Vec::new(alloc);
+    for entry in entries {
+        letters.push(letter_of(entry))?;
+    }
+    Ok(letters)
 }
 
 /// The letters of the instructions of these letters.
 fn letters(alloc: Global, of: &[u8]) -> Result<Vec<u8>, BuildFault> {
     let code = code(alloc, of)?;
-    let mut letters = Vec::new(alloc);
-    for entry in code.entries() {
-        letters.push(letter_of(entry))?;
-    }
-    Ok(letters)
+    Ok(letters_of(alloc, code.entries())?)
 }
 
 #[test]
@@ -104,21 +113,30 @@ fn as_many_as_the_limit(rt: HostRuntime) -> Result<(), Fail> {
     Ok(())
 }
 
+/// A local of four, by its token.
+fn local(token: u32) -> Local<'static> {
+    let id = match token {
+        12 => Some(Id::new(11, "$x")),
+        _ => None,
+    };
+    Local {
+        id,
+        ty: ValType::I32,
+        token,
+    }
+}
+
+fn push_locals(locals: &mut TextLocals<'static>) -> Result<(), AllocError> {
+    for token in &[4, 5, 8, 12] {
+        locals.push(local(*token))?;
+    }
+    Ok(())
+}
+
 /// How many groups four locals make: two types one behind the other, one in another group, and one with an identifier.
 fn groups(alloc: Global) -> Result<usize, AllocError> {
     let mut locals = TextLocals::new(alloc);
-    for token in [4, 5, 8] {
-        locals.push(Local {
-            id: None,
-            ty: ValType::I32,
-            token,
-        })?;
-    }
-    locals.push(Local {
-        id: Some(Id::new(11, "$x")),
-        ty: ValType::I32,
-        token: 12,
-    })?;
+    push_locals(&mut locals)?;
     Ok(locals.groups().len())
 }
 

@@ -1,13 +1,14 @@
 //! Rows worked out by hand.
 
-use std::alloc::Global;
+use std::alloc::{AllocError, Global};
 use std::mem::size_of;
+use std::process::Abort;
 use std::test::Fail;
 use wc_tokens::{
-    LexFault, Lexer, Num, Stop, Token, TokenKind, integer, lex, string_bytes, unsigned,
+    LexFault, LexWhy, Lexer, Num, Stop, Token, TokenKind, integer, lex, string_bytes, unsigned,
 };
 
-const TOKENS: [(&str, &str); 23] = [
+static TOKENS: [(&str, &str); 23] = [
     ("", ""), // no text
     ("a\"b\"c", "Word 0 1,Str 1 4,Word 4 5,"), // no blanks beside a string
     ("(;x;)a;;b", "Word 5 6,"), // comments beside a word
@@ -33,7 +34,7 @@ const TOKENS: [(&str, &str); 23] = [
     ("offset=4\"\"x", "Word 0 8,Str 8 10,Word 10 11,"), // words beside a string
 ];
 
-const FAULTS: [(&[u8], &str); 40] = [
+static FAULTS: [(&[u8], &str); 40] = [
     (b"\"\xff", "NotUtf8 at 1"), // encoding before an open string
     (b"\"a\" \xc3", "NotUtf8 at 4"), // a character cut short
     (b"a ; \xed\xa0\x80", "NotUtf8 at 4"), // a surrogate, before a lone semicolon
@@ -76,7 +77,7 @@ const FAULTS: [(&[u8], &str); 40] = [
     (b"\"\xc3\xa9\x7f\"", "Escape at 3"), // a delete inside
 ];
 
-const STRINGS: [(&str, &[u8]); 6] = [
+static STRINGS: [(&str, &[u8]); 6] = [
     ("\"\"", b""), // empty
     ("\"aZ~ \"", b"aZ~ "), // plain characters
     ("\"\\t\\n\\r\\\"\\'\\\\\"", b"\t\n\r\"'\\"), // letter escapes
@@ -89,7 +90,7 @@ const STRINGS: [(&str, &[u8]); 6] = [
     ("\"\u{e9}\u{1f600}\"", b"\xc3\xa9\xf0\x9f\x98\x80"), // characters beyond ASCII
 ];
 
-const NATURALS_32: [(&str, Num); 15] = [
+static NATURALS_32: [(&str, Num); 15] = [
     ("0x1_0", Num::Value(16)), // hexadecimal
     ("1__0", Num::NotANumber), // two underscores
     ("+1", Num::NotANumber), // a sign
@@ -107,7 +108,7 @@ const NATURALS_32: [(&str, Num); 15] = [
     ("4294967296", Num::Range), // one more
 ];
 
-const NATURALS_64: [(&str, Num); 5] = [
+static NATURALS_64: [(&str, Num); 5] = [
     ("-1", Num::NotANumber), // a sign
     ("1_2_3", Num::Value(123)), // underscores apart
     ("0xFfG", Num::NotANumber), // no hexadecimal digit
@@ -115,7 +116,7 @@ const NATURALS_64: [(&str, Num); 5] = [
     ("18446744073709551616", Num::Range), // one more
 ];
 
-const INTEGERS_32: [(&str, Num); 17] = [
+static INTEGERS_32: [(&str, Num); 17] = [
     ("-1", Num::Value(4_294_967_295)), // two's complement
     ("-2147483649", Num::Range), // below the least
     ("+4294967295", Num::Range), // far too great with a sign
@@ -135,7 +136,7 @@ const INTEGERS_32: [(&str, Num); 17] = [
     ("0x-1", Num::NotANumber), // a sign behind 0x
 ];
 
-const INTEGERS_64: [(&str, Num); 9] = [
+static INTEGERS_64: [(&str, Num); 9] = [
     ("-1", Num::Value(u64::MAX)), // two's complement
     ("18446744073709551615", Num::Value(u64::MAX)), // the greatest without a sign
     ("18446744073709551616", Num::Range), // one more
@@ -155,25 +156,35 @@ const INTEGERS_64: [(&str, Num); 9] = [
     ("-0", Num::Value(0)), // zero
 ];
 
-/// The tokens of a text by their kinds and spans, or its fault.
-fn shown(alloc: Global, text: &[u8]) -> Result<String, Fail> {
-    let mut all = String::new(alloc);
-    match lex(alloc, text) {
-        Ok(tokens) => {
-            for token in tokens.as_slice() {
-                let kind = token.kind;
-                let start = token.start;
-                let stop = token.stop;
-                let one = format!(in alloc; "{kind:?} {start} {stop},")?;
-                all.push_str(one.as_str())?;
-            }
-        }
-        Err(LexFault::Bad { at, why }) => all.push_str(format!(in alloc;
-            "{why:?} at {at}"
-        )?.as_str())?,
-        Err(LexFault::Memory) => all.push_str("memory")?,
+/// Adds the kinds and spans of the tokens.
+fn put_tokens(all: &mut String, alloc: Global, tokens: &[Token<'_>]) -> Result<(), AllocError> {
+    for token in tokens {
+        let kind = token.kind;
+        let start = token.start;
+        let stop = token.stop;
+        let one = format!(in alloc; "{kind:?} {start} {stop},")?;
+        all.push_str(one.as_str())?;
     }
+    Ok(())
+}
+
+fn shown_tokens(alloc: Global, tokens: &[Token<'_>]) -> Result<String, AllocError> {
+    let mut all = String::new(alloc);
+    put_tokens(&mut all, alloc, tokens)?;
     Ok(all)
+}
+
+fn shown_fault(alloc: Global, at: u64, why: LexWhy) -> Result<String, AllocError> {
+    format!(in alloc; "{why:?} at {at}")
+}
+
+/// The tokens of a text by their kinds and spans, or its fault.
+fn shown(alloc: Global, text: &[u8]) -> Result<String, AllocError> {
+    match lex(alloc, text) {
+        Ok(tokens) => shown_tokens(alloc, tokens.as_slice()),
+        Err(LexFault::Bad { at, why }) => shown_fault(alloc, at, why),
+        Err(LexFault::Memory) => "memory".to_string(alloc),
+    }
 }
 
 #[test]
@@ -204,46 +215,71 @@ fn count(lexer: &mut Lexer<'_>) -> Result<usize, Stop> {
     Ok(100)
 }
 
+/// How many tokens a text has.
+fn token_count(alloc: Global, text: &str) -> Option<usize> {
+    match lex(alloc, text.as_bytes()) {
+        Ok(tokens) => Some(tokens.as_slice().len()),
+        Err(_) => None,
+    }
+}
+
+/// Takes as many tokens, and then none.
+fn check_count(rt: &impl Abort, text: &str, wanted: usize) -> Result<(), Fail> {
+    let mut lexer = Lexer::new(text.as_bytes()).ok().ok_or("no text")?;
+    assert!(rt; lexer.check_rest().is_ok());
+    assert_eq!(rt; count(&mut lexer), Ok(wanted), "{text}");
+    assert_eq!(rt; count(&mut lexer), Ok(0), "behind the end of {text}");
+    Ok(())
+}
+
 #[test]
 fn one_by_one(rt: HostRuntime) -> Result<(), Fail> {
     for &(text, _) in &TOKENS {
-        let tokens = lex(rt.alloc(), text.as_bytes()).ok().ok_or("no tokens")?;
-        let mut lexer = Lexer::new(text.as_bytes()).ok().ok_or("no text")?;
-        assert!(rt; lexer.check_rest().is_ok());
-        assert_eq!(rt; count(&mut lexer), Ok(tokens.as_slice().len()), "{text}");
-        assert_eq!(rt; count(&mut lexer), Ok(0), "behind the end of {text}");
+        let wanted = token_count(rt.alloc(), text).ok_or("no tokens")?;
+        check_count(&rt, text, wanted)?;
     }
     Ok(())
+}
+
+/// The fault of what is left. It is told at each token behind it.
+fn stop_of_rest(rt: &impl Abort, lexer: &mut Lexer<'_>) -> Result<Stop, Fail> {
+    let stop = lexer.check_rest().err().ok_or("no fault")?;
+    assert_eq!(rt; count(lexer), Err(stop));
+    assert_eq!(rt; count(lexer), Err(stop), "again");
+    Ok(stop)
+}
+
+fn stop_of(rt: &impl Abort, text: &[u8]) -> Result<Stop, Fail> {
+    match Lexer::new(text) {
+        Ok(mut lexer) => stop_of_rest(rt, &mut lexer),
+        Err(stop) => Ok(stop),
+    }
 }
 
 #[test]
 fn stopped(rt: HostRuntime) -> Result<(), Fail> {
     for &(text, want) in &FAULTS {
-        let stop = match Lexer::new(text) {
-            Ok(mut lexer) => {
-                let stop = lexer.check_rest().err().ok_or("no fault")?;
-                assert_eq!(rt; count(&mut lexer), Err(stop));
-                assert_eq!(rt; count(&mut lexer), Err(stop), "again");
-                stop
-            }
-            Err(stop) => stop,
-        };
-        let why = stop.why;
-        let at = stop.at;
-        assert_eq!(rt; format!(in rt.alloc(); "{why:?} at {at}")?.as_str(), want);
+        let stop = stop_of(&rt, text)?;
+        let shown = shown_fault(rt.alloc(), stop.at, stop.why)?;
+        assert_eq!(rt; shown.as_str(), want);
     }
     Ok(())
+}
+
+/// The bytes of a text that is one string.
+fn only_string(rt: &(impl Abort + AllocGlobal), text: &str) -> Result<Vec<u8>, Fail> {
+    let tokens = lex(rt.alloc(), text.as_bytes()).ok().ok_or("no tokens")?;
+    assert_eq!(rt; tokens.as_slice().len(), 1);
+    let token: &Token = &tokens.as_slice()[0];
+    assert_eq!(rt; token.kind, TokenKind::Str);
+    assert_eq!(rt; token.text, text);
+    Ok(string_bytes(rt.alloc(), token)?)
 }
 
 #[test]
 fn strings(rt: HostRuntime) -> Result<(), Fail> {
     for &(text, want) in &STRINGS {
-        let tokens = lex(rt.alloc(), text.as_bytes()).ok().ok_or("no tokens")?;
-        assert_eq!(rt; tokens.as_slice().len(), 1);
-        let token: &Token = &tokens.as_slice()[0];
-        assert_eq!(rt; token.kind, TokenKind::Str);
-        assert_eq!(rt; token.text, text);
-        let bytes = string_bytes(rt.alloc(), token)?;
+        let bytes = only_string(&rt, text)?;
         assert_eq!(rt; bytes.as_slice(), want);
     }
     Ok(())
@@ -251,20 +287,20 @@ fn strings(rt: HostRuntime) -> Result<(), Fail> {
 
 #[test]
 fn naturals(rt: HostRuntime) {
-    for (text, want) in NATURALS_32 {
+    for &(text, want) in &NATURALS_32 {
         assert_eq!(rt; unsigned(text, 32), want, "{text}");
     }
-    for (text, want) in NATURALS_64 {
+    for &(text, want) in &NATURALS_64 {
         assert_eq!(rt; unsigned(text, 64), want, "{text}");
     }
 }
 
 #[test]
 fn integers(rt: HostRuntime) {
-    for (text, want) in INTEGERS_32 {
+    for &(text, want) in &INTEGERS_32 {
         assert_eq!(rt; integer(text, 32), want, "{text}");
     }
-    for (text, want) in INTEGERS_64 {
+    for &(text, want) in &INTEGERS_64 {
         assert_eq!(rt; integer(text, 64), want, "{text}");
     }
 }

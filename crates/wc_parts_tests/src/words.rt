@@ -6,7 +6,7 @@ use std::test::Fail;
 use wc_tokens::lex;
 use wc_words::{Symbol, symbol_of};
 
-const NUMBERS: [(&str, &str); 46] = [
+static NUMBERS: [(&str, &str); 46] = [
     ("0", "Natural32 Number(0)"),
     ("7", "Natural32 Number(7)"),
     ("00_0", "Natural32 Number(0)"),
@@ -67,7 +67,7 @@ const NUMBERS: [(&str, &str); 46] = [
     ("+_1", "OtherWord Nothing"),
 ];
 
-const ACCESSES: [(&str, &str); 32] = [
+static ACCESSES: [(&str, &str); 32] = [
     ("offset=0", "MemOffset Offset(0)"),
     ("offset=0x1_0", "MemOffset Offset(16)"),
     ("offset=4294967295", "MemOffset Offset(4294967295)"),
@@ -102,7 +102,7 @@ const ACCESSES: [(&str, &str); 32] = [
     ("a", "OtherWord Nothing"),
 ];
 
-const NAMES: [(&str, &str); 96] = [
+static NAMES: [(&str, &str); 96] = [
     ("then", "ThenWord Nothing"),
     ("else", "ElseWord Nothing"),
     ("end", "EndWord Nothing"),
@@ -204,7 +204,7 @@ const NAMES: [(&str, &str); 96] = [
     ("$offset=1", "Id Nothing"),
 ];
 
-const STRINGS: [(&str, &str); 42] = [
+static STRINGS: [(&str, &str); 42] = [
     ("\"\"", "Name Nothing"),
     ("\"abc\"", "Name Nothing"),
     ("\"\u{e9}\u{20ac}\u{1f600}\"", "Name Nothing"),

@@ -2,20 +2,20 @@
 
 ghost use Rattle.wc_tokens.specs.Standard.Tokens.{InOrder, lexemes_of};
 
+use crate::tests::inputs::module;
 use std::alloc::{AllocError, Global};
 use std::test::Fail;
-use wc_binary::decode;
+use wc_ast::Module;
+use wc_binary::{BinFault, decode};
 use wc_body::NESTING_LIMIT;
 use wc_print::print;
 use wc_printed::module_fits;
-use wc_syntax::{Kind, kept_tokens};
+use wc_syntax::{Kept, Kind, kept_tokens};
 use wc_tokens::{Token, lex};
 use wc_words::symbol_of;
 
-const PREAMBLE: [u8; 8] = [0x00, 0x61, 0x73, 0x6d, 0x01, 0x00, 0x00, 0x00];
-
 /// What stands behind the preamble, and the kept tokens of the printed text, each with its role.
-const ROWS: [(&[u8], &str); 5] = [
+static ROWS: [(&[u8], &str); 5] = [
     // no section
     (&[], ""),
     // a type of one parameter and one result
@@ -72,35 +72,63 @@ fn kinds_of(alloc: Global, tokens: &[Token<'_>]) -> Result<Vec<Kind>, AllocError
     Ok(kinds)
 }
 
-/// The kept tokens of a text, each with its role; nothing of what is no text.
-fn kept_of(alloc: Global, text: &str) -> Result<String, Fail> {
-    let mut found = String::new(alloc);
-    let Ok(tokens) = lex(alloc, text.as_bytes()) else {
-        return Ok(found);
-    };
-    let kinds = kinds_of(alloc, tokens.as_slice())?;
-    let Ok(kept) = kept_tokens(alloc, NESTING_LIMIT, &kinds) else {
-        return Ok(found);
-    };
-    for one in &kept {
-        if let Some(token) = tokens.as_slice().get(one.at) {
+/// Adds the kept ones of the tokens, each with its role.
+fn put_kept(
+    found: &mut String,
+    alloc: Global,
+    tokens: &[Token<'_>],
+    kept: &[Kept],
+) -> Result<(), AllocError> {
+    for one in kept {
+        if let Some(token) = tokens.get(one.at) {
             let role = one.role;
             let part = format!(in alloc; "{role:?} {}, ", token.text)?;
             found.push_str(part.as_str())?;
         }
     }
+    Ok(())
+}
+
+fn shown(alloc: Global, tokens: &[Token<'_>], kept: &[Kept]) -> Result<String, AllocError> {
+    let mut found = String::new(alloc);
+    put_kept(&mut found, alloc, tokens, kept)?;
     Ok(found)
+}
+
+/// The kept tokens of a text, each with its role; nothing of what is no text.
+fn kept_of(alloc: Global, text: &str) -> Result<String, AllocError> {
+    let Ok(tokens) = lex(alloc, text.as_bytes()) else {
+        return Ok(String::new(alloc));
+    };
+    let kinds = kinds_of(alloc, tokens.as_slice())?;
+    let Ok(kept) = kept_tokens(alloc, NESTING_LIMIT, &kinds) else {
+        return Ok(String::new(alloc));
+    };
+    shown(alloc, tokens.as_slice(), &kept)
+}
+
+/// The text of a module, which fits what a text has room for.
+fn printed(alloc: Global, module: &Module) -> Result<String, Fail> {
+    module_fits(module);
+    Ok(print(alloc, module)?)
+}
+
+/// The same of what was decoded.
+fn printed_of(alloc: Global, decoded: Result<Module, BinFault>) -> Result<String, Fail> {
+    let module = decoded?;
+    printed(alloc, &module)
+}
+
+/// The text of the module that the bytes behind a preamble spell.
+fn text_of(alloc: Global, rest: &[u8]) -> Result<String, Fail> {
+    let input = module(alloc, rest)?;
+    printed_of(alloc, decode(alloc, &input))
 }
 
 #[test]
 fn printed_texts_are_read(rt: HostRuntime) -> Result<(), Fail> {
     for (rest, wanted) in &ROWS {
-        let mut input = Vec::new(rt.alloc());
-        input.extend_from_slice(&PREAMBLE)?;
-        input.extend_from_slice(rest)?;
-        let module = decode(rt.alloc(), &input)?;
-        module_fits(&module);
-        let text = print(rt.alloc(), &module)?;
+        let text = text_of(rt.alloc(), rest)?;
         let found = kept_of(rt.alloc(), text.as_str())?;
         assert!(rt; found.as_str() == *wanted, "{text}: {found}");
     }

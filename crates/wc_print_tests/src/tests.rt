@@ -1,6 +1,6 @@
 mod bodies;
 mod checks;
-mod inputs;
+pub mod inputs;
 mod modules;
 mod nesting;
 mod printing;

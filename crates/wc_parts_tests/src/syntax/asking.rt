@@ -60,21 +60,41 @@ fn last_token(rt: &HostRuntime, limit: usize, kinds: &[Kind]) -> Result<&'static
     }
 }
 
+/// Adds to the row what the word is behind the kinds, which stay the same.
+fn add_word(
+    rt: &HostRuntime,
+    row: &mut String,
+    kinds: &mut Vec<Kind>,
+    word: &str,
+) -> Result<(), AllocError> {
+    kinds.push(kind_of(word))?;
+    row.push_str(last_token(rt, 2, kinds)?)?;
+    kinds.pop();
+    Ok(())
+}
+
+fn add_words(
+    rt: &HostRuntime,
+    row: &mut String,
+    kinds: &mut Vec<Kind>,
+    words: &str,
+) -> Result<(), AllocError> {
+    for word in words.split(' ') {
+        add_word(rt, row, kinds, word)?;
+    }
+    Ok(())
+}
+
 /// What each of the words is behind the front, where two instructions may be nested.
 pub fn row_of(rt: &HostRuntime, front: &str, words: &str) -> Result<String, AllocError> {
     let mut kinds = kinds_of(rt, front)?;
     let mut row = String::new(rt.alloc());
-    for word in words.split(' ') {
-        kinds.push(kind_of(word))?;
-        row.push_str(last_token(rt, 2, &kinds)?)?;
-        kinds.pop();
-    }
+    add_words(rt, &mut row, &mut kinds, words)?;
     Ok(row)
 }
 
-/// How many fronts of the text begin no text, where two instructions may be nested.
-pub fn refused_fronts(rt: &HostRuntime, text: &str) -> Result<usize, AllocError> {
-    let kinds = kinds_of(rt, text)?;
+/// How many fronts of a text begin no text, where two instructions may be nested.
+pub fn refused_fronts(rt: &HostRuntime, kinds: &[Kind]) -> Result<usize, AllocError> {
     let mut refused: usize = 0;
     for count in 1..kinds.len() {
         if last_token(rt, 2, &kinds[..count])? != "." {

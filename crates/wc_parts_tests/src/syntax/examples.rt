@@ -115,7 +115,7 @@ const ORDER: &str = r#"
 "#;
 
 /// All of these.
-const EXAMPLES: [&str; 5] = [
+static EXAMPLES: [&str; 5] = [
     WHERE_AN_INSTRUCTION_MAY_STAND,
     WHERE_NONE_MAY,
     NUMBERS,

@@ -1,12 +1,20 @@
 //! The deepest text that is read, and one more.
 
-use crate::syntax::asking::{fault, kinds_of};
+use crate::syntax::asking::{add_kinds, fault, kinds_of};
 use std::alloc::AllocError;
 use std::test::Fail;
 use wc_syntax::Kind;
 
 /// How many instructions may be nested here.
 const LIMIT: usize = 20_000;
+
+/// Adds the kinds so many times.
+fn repeat(kinds: &mut Vec<Kind>, opening: &[Kind], times: usize) -> Result<(), AllocError> {
+    for _ in 0..times {
+        kinds.extend_from_slice(opening)?;
+    }
+    Ok(())
+}
 
 /// A function in which the words of `openings` stand so many times, and then those of `inside`.
 fn nested(
@@ -17,21 +25,15 @@ fn nested(
 ) -> Result<Vec<Kind>, AllocError> {
     let mut kinds = kinds_of(rt, "( func")?;
     let opening = kinds_of(rt, openings)?;
-    for _ in 0..times {
-        for kind in &opening {
-            kinds.push(*kind)?;
-        }
-    }
-    for kind in &kinds_of(rt, inside)? {
-        kinds.push(*kind)?;
-    }
+    repeat(&mut kinds, &opening, times)?;
+    add_kinds(&mut kinds, inside)?;
     Ok(kinds)
 }
 
 /// Openings and how often they stand, the words inside, and the number of the fault and its reason.
 type Row = (&'static str, usize, &'static str, usize, &'static str);
 
-const ROWS: [Row; 15] = [
+static ROWS: [Row; 15] = [
     // Plain blocks.
     ("block", LIMIT, "nop end", 2 + LIMIT + 2, "2"),
     ("block", LIMIT, "block", 2 + LIMIT, "7"),
@@ -88,7 +90,7 @@ fn is_right(rt: &HostRuntime, row: &Row) -> Result<bool, AllocError> {
 #[test]
 fn one_more_than_the_deepest(rt: HostRuntime) -> Result<(), Fail> {
     for row in &ROWS {
-        assert!(rt; is_right(&rt, row)?);
+        assert!(rt; is_right(&rt, row)?, "{} {}", row.0, row.2);
     }
     Ok(())
 }

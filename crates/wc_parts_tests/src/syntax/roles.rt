@@ -4,24 +4,27 @@ use crate::syntax::asking::kinds_of;
 use std::alloc::AllocError;
 use std::test::Fail;
 use wc_syntax::Role::*;
-use wc_syntax::{Refusal, Role, kept_tokens};
+use wc_syntax::{Kept, Refusal, Role, kept_tokens};
+
+fn roles_of_kept(rt: &HostRuntime, kept: &[Kept]) -> Result<Vec<(usize, Role)>, AllocError> {
+    let mut roles = Vec::new(rt.alloc());
+    for token in kept {
+        roles.push((token.at, token.role))?;
+    }
+    Ok(roles)
+}
 
 /// The roles of the tokens that are kept of a text, with their numbers; none of what is no text.
 fn roles_of(rt: &HostRuntime, text: &str) -> Result<Vec<(usize, Role)>, AllocError> {
-    let mut roles = Vec::new(rt.alloc());
-    match kept_tokens(rt.alloc(), 2, &kinds_of(rt, text)?) {
-        Ok(kept) => {
-            for token in &kept {
-                roles.push((token.at, token.role))?;
-            }
-            Ok(roles)
-        }
-        Err(Refusal::Bad { .. }) => Ok(roles),
+    let kinds = kinds_of(rt, text)?;
+    match kept_tokens(rt.alloc(), 2, &kinds) {
+        Ok(kept) => roles_of_kept(rt, &kept),
+        Err(Refusal::Bad { .. }) => Ok(Vec::new(rt.alloc())),
         Err(Refusal::Memory) => Err(AllocError),
     }
 }
 
-const FOLDED_IF: [(usize, Role); 12] = [
+static FOLDED_IF: [(usize, Role); 12] = [
     (1, Field),
     (3, HeldBegin),
     (4, Label),
@@ -43,7 +46,7 @@ fn folded_if(rt: HostRuntime) -> Result<(), Fail> {
     Ok(())
 }
 
-const SEGMENTS: [(usize, Role); 12] = [
+static SEGMENTS: [(usize, Role); 12] = [
     (1, Field),
     (2, FieldId),
     (5, Segment),

@@ -4,10 +4,16 @@ use crate::syntax::asking::{fault, kinds_of, refused_fronts};
 use std::alloc::AllocError;
 use std::test::Fail;
 
-/// The first line that is no text, or of which a front begins none, where two instructions may be nested.
+/// Whether the line is a text, and each of its fronts begins one, where two instructions may be nested.
+fn is_text(rt: &HostRuntime, line: &str) -> Result<bool, AllocError> {
+    let kinds = kinds_of(rt, line)?;
+    Ok(fault(rt, 2, &kinds)?.1 == "." && refused_fronts(rt, &kinds)? == 0)
+}
+
+/// The first line that is no such text.
 fn first_wrong(rt: &HostRuntime, lines: &'static str) -> Result<Option<&'static str>, AllocError> {
     for line in lines.split('\n') {
-        if fault(rt, 2, &kinds_of(rt, line)?)?.1 != "." || refused_fronts(rt, line)? > 0 {
+        if !is_text(rt, line)? {
             return Ok(Some(line));
         }
     }

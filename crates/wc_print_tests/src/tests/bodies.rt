@@ -1,7 +1,7 @@
 //! Functions, and their texts.
 
 /// The code section of a function of an empty type, and what is printed behind `(func (type 0)`.
-pub const BODIES: [(&[u8], &str); 21] = [
+pub static BODIES: [(&[u8], &str); 21] = [
     // no instruction
     (&[0x0a, 0x04, 0x01, 0x02, 0x00, 0x0b], ""),
     // locals of groups that could be one

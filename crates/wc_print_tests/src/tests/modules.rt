@@ -1,7 +1,7 @@
 //! Modules, and their texts.
 
 /// What stands behind the preamble, and the lines between the first and the last.
-pub const MODULES: [(&[u8], &str); 24] = [
+pub static MODULES: [(&[u8], &str); 24] = [
     // no section
     (&[], ""),
     // an empty section and a custom one

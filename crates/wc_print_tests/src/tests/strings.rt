@@ -6,7 +6,7 @@ use std::process::Abort;
 use std::test::Fail;
 
 /// Sixteen bytes a row from 0 on, and what stands for them in a string.
-const BYTES: [&str; 16] = [
+static BYTES: [&str; 16] = [
     "\\00\\01\\02\\03\\04\\05\\06\\07\\08\\09\\0a\\0b\\0c\\0d\\0e\\0f",
     "\\10\\11\\12\\13\\14\\15\\16\\17\\18\\19\\1a\\1b\\1c\\1d\\1e\\1f",
     " !\\22#$%&'()*+,-./",
@@ -26,7 +26,7 @@ const BYTES: [&str; 16] = [
 ];
 
 /// Names, in which every byte stands that may stand in one, and what stands for them in a string.
-const NAMES: [(&[u8], &str); 25] = [
+static NAMES: [(&[u8], &str); 25] = [
     // the bytes 00 to 0f
     (
         &[
