@@ -14,7 +14,8 @@ use Rattle.wc_syntax.specs.declared.place.Move.TheVariants.{On, Past, Into, Out}
 use Rattle.wc_syntax.specs.declared.place.Action.{Action}
 use Rattle.wc_syntax.specs.Deriving.{Event}
 use Rattle.wc_syntax.specs.Table.{step, takes_instrs, takes_folded}
-use Rattle.wc_syntax.specs.Usual.{is_free, takes_open, behind_name, is_opened, is_held, is_index, is_literal, is_offset}
+use Rattle.wc_syntax.specs.Usual.{is_free, takes_name, takes_open, behind_name, begun_frame, ends_by_word, is_opened, is_held}
+use Rattle.wc_syntax.specs.Usual.{is_index, is_literal, is_offset, is_align}
 use Rattle.wc_syntax.specs.Reading.{Standing, IsRead, one_read, is_deep, moved, action_at, kept_as}
 
 abbrev pub keeping : Role → Move → Option Action
@@ -39,16 +40,36 @@ at-name P kind.Const32 p e h = let f : place.Literal32 ≡ p = cc in subst (λ (
 at-name P kind.Const64 p e h = let f : place.Literal64 ≡ p = cc in subst (λ (q : Place). P kind.Const64 q) f h.6
 at-name P _ p e h = absurd cc
 
--- at a free place as at none
-free-name : (q : Place) (f : Frame) (deep : Bool) → is_free q ≡ true
+-- where a name may come as where no part is left
+free-name : (q : Place) (f : Frame) (deep : Bool) → takes_name q ≡ true
     → AtNames (λ k p. step q f deep k ≡ step place.Done f deep k)
 free-name place.Done f deep e = (refl, refl, refl, refl, refl, refl, refl)
+free-name place.Uses f deep e = (refl, refl, refl, refl, refl, refl, refl)
+free-name place.Params f deep e = (refl, refl, refl, refl, refl, refl, refl)
+free-name place.Results f deep e = (refl, refl, refl, refl, refl, refl, refl)
+free-name place.Label f deep e = (refl, refl, refl, refl, refl, refl, refl)
 free-name place.EndLabel f deep e = (refl, refl, refl, refl, refl, refl, refl)
 free-name place.Indices f deep e = (refl, refl, refl, refl, refl, refl, refl)
 free-name place.MemOffset f deep e = (refl, refl, refl, refl, refl, refl, refl)
 free-name place.MemAlign f deep e = (refl, refl, refl, refl, refl, refl, refl)
 free-name _ f deep e = absurd cc
 
+free-block : (q : Place) (f : Frame) (deep : Bool) → takes_name q ≡ true
+    → (step q f deep kind.Region ≡ step place.Done f deep kind.Region)
+    × (step q f deep kind.If ≡ step place.Done f deep kind.If)
+    × (step q f deep kind.EndWord ≡ step place.Done f deep kind.EndWord)
+free-block place.Done f deep e = (refl, refl, refl)
+free-block place.Uses f deep e = (refl, refl, refl)
+free-block place.Params f deep e = (refl, refl, refl)
+free-block place.Results f deep e = (refl, refl, refl)
+free-block place.Label f deep e = (refl, refl, refl)
+free-block place.EndLabel f deep e = (refl, refl, refl)
+free-block place.Indices f deep e = (refl, refl, refl)
+free-block place.MemOffset f deep e = (refl, refl, refl)
+free-block place.MemAlign f deep e = (refl, refl, refl)
+free-block _ f deep e = absurd cc
+
+-- at a free place as at none
 free-open : (q : Place) (f : Frame) (deep : Bool) → is_free q ≡ true
     → (step q f deep kind.Open ≡ step place.Done f deep kind.Open)
     × (step q f deep kind.Close ≡ step place.Done f deep kind.Close)
@@ -105,6 +126,37 @@ held-names frame.Then e = (refl, refl, refl, refl, refl, refl, refl)
 held-names frame.Else e = (refl, refl, refl, refl, refl, refl, refl)
 held-names _ e = absurd cc
 
+-- the names of blocks
+abbrev pub AtBlocks : (Kind → Frame → Type 0) → Type 0
+AtBlocks P = P kind.Region frame.Region × P kind.If frame.First
+
+at-block : (P : Kind → Frame → Type 0) (k : Kind) (g : Frame) → begun_frame k ≡ Some g → AtBlocks P → P k g
+at-block P kind.Region g e h = let f : frame.Region ≡ g = cc in subst (λ (x : Frame). P kind.Region x) f h.0
+at-block P kind.If g e h = let f : frame.First ≡ g = cc in subst (λ (x : Frame). P kind.If x) f h.1
+at-block P _ g e h = absurd cc
+
+abbrev Begins : Frame → Type 0
+Begins f = AtBlocks (λ k g. step place.Done f false k ≡ keeping role.Begin (Into place.Label g))
+
+begins : (f : Frame) → takes_instrs f ≡ true → Begins f
+begins frame.FuncStart e = (refl, refl)
+begins frame.FuncHead e = (refl, refl)
+begins frame.Func e = (refl, refl)
+begins frame.ElemOffset e = (refl, refl)
+begins frame.DataOffset e = (refl, refl)
+begins frame.Region e = (refl, refl)
+begins frame.First e = (refl, refl)
+begins frame.FoldedRegion e = (refl, refl)
+begins frame.Then e = (refl, refl)
+begins frame.Else e = (refl, refl)
+begins _ e = absurd cc
+
+ends : (f : Frame) (deep : Bool) → ends_by_word f ≡ true
+    → step place.Done f deep kind.EndWord ≡ keeping role.End (Out place.EndLabel)
+ends frame.Region deep e = refl
+ends frame.First deep e = refl
+ends _ deep e = absurd cc
+
 opens : (f : Frame) (deep : Bool) → takes_open f ≡ true → step place.Done f deep kind.Open ≡ dropping (On place.OpenDone)
 opens frame.FuncStart true e = refl
 opens frame.FuncStart false e = refl
@@ -151,6 +203,14 @@ offset-leads place.MemOffset f deep kind.MemOffset e = refl
 offset-leads place.MemOffset f deep _ e = absurd cc
 offset-leads _ f deep k e = absurd cc
 
+align-leads : (q : Place) (f : Frame) (deep : Bool) (k : Kind) → is_align q k ≡ true
+    → step q f deep k ≡ keeping role.MemAlign (On place.Done)
+align-leads place.MemOffset f deep kind.MemAlign e = refl
+align-leads place.MemOffset f deep _ e = absurd cc
+align-leads place.MemAlign f deep kind.MemAlign e = refl
+align-leads place.MemAlign f deep _ e = absurd cc
+align-leads _ f deep k e = absurd cc
+
 opened-is : (q : Place) → is_opened q ≡ true → q ≡ place.OpenDone
 opened-is place.OpenDone e = refl
 opened-is _ e = absurd cc
@@ -168,7 +228,7 @@ pub usual-by : (n q : ℕ) (ks : List Kind) (es : List Event) (s t u : Standing)
 usual-by n q ks es s t u k o g e h i r j =
     rw (j, i) (one_read k (record { keep = o; go = g }) (subst (λ (x : Standing). IsRead n ks es x) (sym e) r) h)
 
-pub plain-at : (s : Standing) (k : Kind) (p : Place) → behind_name k ≡ Some p → is_free s.place ≡ true
+pub plain-at : (s : Standing) (k : Kind) (p : Place) → behind_name k ≡ Some p → takes_name s.place ≡ true
     → takes_instrs s.frame ≡ true → action_at s k ≡ keeping role.Plain (Past p)
 plain-at s k p e f t =
     at-name (λ k p. step s.place s.frame (is_deep s) k ≡ step place.Done s.frame (is_deep s) k) k p e (free-name s.place s.frame (is_deep s) f)
@@ -179,6 +239,18 @@ pub held-at : (s : Standing) (k : Kind) (p : Place) → behind_name k ≡ Some p
 held-at s k p e f t d =
     ap (λ (q : Place). step q s.frame (is_deep s) k) (opened-is s.place f) ∙ ap (λ (b : Bool). step place.OpenDone s.frame b k) d
     ∙ at-name (λ k p. step place.OpenDone s.frame false k ≡ keeping role.HeldPlain (Into p frame.Held)) k p e (held-names s.frame t)
+
+pub begin-at : (s : Standing) (k : Kind) (g : Frame) → begun_frame k ≡ Some g → takes_name s.place ≡ true
+    → takes_instrs s.frame ≡ true → is_deep s ≡ false → action_at s k ≡ keeping role.Begin (Into place.Label g)
+begin-at s k g e f t d =
+    let h = free-block s.place s.frame (is_deep s) f in
+    at-block (λ k g. step s.place s.frame (is_deep s) k ≡ step place.Done s.frame (is_deep s) k) k g e (h.0, h.1)
+    ∙ ap (λ (b : Bool). step place.Done s.frame b k) d
+    ∙ at-block (λ k g. step place.Done s.frame false k ≡ keeping role.Begin (Into place.Label g)) k g e (begins s.frame t)
+
+pub end-at : (s : Standing) → takes_name s.place ≡ true → ends_by_word s.frame ≡ true
+    → action_at s kind.EndWord ≡ keeping role.End (Out place.EndLabel)
+end-at s f t = (free-block s.place s.frame (is_deep s) f).2 ∙ ends s.frame (is_deep s) t
 
 pub open-at : (s : Standing) → is_free s.place ≡ true → takes_open s.frame ≡ true
     → action_at s kind.Open ≡ dropping (On place.OpenDone)
@@ -199,3 +271,6 @@ literal-at s k e = literal-leads s.place s.frame (is_deep s) k e
 pub offset-at : (s : Standing) (k : Kind) → is_offset s.place k ≡ true
     → action_at s k ≡ keeping role.MemOffset (On place.MemAlign)
 offset-at s k e = offset-leads s.place s.frame (is_deep s) k e
+
+pub align-at : (s : Standing) (k : Kind) → is_align s.place k ≡ true → action_at s k ≡ keeping role.MemAlign (On place.Done)
+align-at s k e = align-leads s.place s.frame (is_deep s) k e

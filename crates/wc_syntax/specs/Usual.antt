@@ -17,6 +17,19 @@ is_free place.MemOffset = true
 is_free place.MemAlign = true
 is_free _ = false
 
+-- nothing has to follow in front of the frame's rest, and no name may
+abbrev pub takes_name : Place → Bool
+takes_name place.Done = true
+takes_name place.Uses = true
+takes_name place.Params = true
+takes_name place.Results = true
+takes_name place.Label = true
+takes_name place.EndLabel = true
+takes_name place.Indices = true
+takes_name place.MemOffset = true
+takes_name place.MemAlign = true
+takes_name _ = false
+
 -- a parenthesis may open an instruction in the frame
 abbrev pub takes_open : Frame → Bool
 takes_open frame.Held = true
@@ -32,6 +45,18 @@ behind_name kind.Access = Some place.MemOffset
 behind_name kind.Const32 = Some place.Literal32
 behind_name kind.Const64 = Some place.Literal64
 behind_name _ = None
+
+-- the frame of a block in a list of instructions, by its name
+abbrev pub begun_frame : Kind → Option Frame
+begun_frame kind.Region = Some frame.Region
+begun_frame kind.If = Some frame.First
+begun_frame _ = None
+
+-- a block that `end` ends
+abbrev pub ends_by_word : Frame → Bool
+ends_by_word frame.Region = true
+ends_by_word frame.First = true
+ends_by_word _ = false
 
 -- the place behind the parenthesis of an instruction, where no part is left
 abbrev pub is_opened : Place → Bool
@@ -60,3 +85,9 @@ is_literal _ _ = false
 abbrev pub is_offset : Place → Kind → Bool
 is_offset place.MemOffset kind.MemOffset = true
 is_offset _ _ = false
+
+-- the alignment of a load or a store
+abbrev pub is_align : Place → Kind → Bool
+is_align place.MemOffset kind.MemAlign = true
+is_align place.MemAlign kind.MemAlign = true
+is_align _ _ = false

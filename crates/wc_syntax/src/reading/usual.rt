@@ -5,7 +5,8 @@ ghost use Rattle.std.specs.Prelude.{OnErr, IfOk};
 ghost use Rattle.wc_syntax.specs.Deriving.{Event};
 ghost use Rattle.wc_syntax.specs.Reading.{IsRead, is_deep, kept_as};
 ghost use Rattle.wc_syntax.specs.Table.{takes_instrs, takes_folded};
-ghost use Rattle.wc_syntax.specs.Usual.{is_free, takes_open, behind_name, is_opened, is_held, is_index, is_literal, is_offset};
+ghost use Rattle.wc_syntax.specs.Usual.{is_free, takes_name, takes_open, behind_name, begun_frame, ends_by_word, is_opened};
+ghost use Rattle.wc_syntax.specs.Usual.{is_held, is_index, is_literal, is_offset, is_align};
 ghost use Rattle.wc_syntax.specs.declared.kind.Kind.{Kind as TokenKind};
 ghost use Rattle.wc_syntax.specs.declared.kind.Kind.TheVariants as kinds;
 ghost use Rattle.wc_syntax.specs.declared.role.Role.TheVariants as roles;
@@ -24,6 +25,25 @@ fn is_free(place: Place) -> bool
     matches!(
         place,
         Place::Done | Place::EndLabel | Place::Indices | Place::MemOffset | Place::MemAlign
+    )
+}
+
+/// Nothing has to follow in front of the frame's rest, and no name may.
+#[inline(always)]
+fn takes_name(place: Place) -> bool
+    ensures { result ≡ takes_name place }
+{
+    matches!(
+        place,
+        Place::Done
+            | Place::Uses
+            | Place::Params
+            | Place::Results
+            | Place::Label
+            | Place::EndLabel
+            | Place::Indices
+            | Place::MemOffset
+            | Place::MemAlign
     )
 }
 
@@ -50,6 +70,26 @@ fn behind_name(kind: Kind) -> Option<Place>
         Kind::Const64 => Some(Place::Literal64),
         _ => None,
     }
+}
+
+/// The frame of a block in a list of instructions, by its name.
+#[inline(always)]
+fn begun_frame(kind: Kind) -> Option<Frame>
+    ensures { result ≡ begun_frame kind }
+{
+    match kind {
+        Kind::Region => Some(Frame::Region),
+        Kind::If => Some(Frame::First),
+        _ => None,
+    }
+}
+
+/// A block that `end` ends.
+#[inline(always)]
+fn ends_by_word(frame: Frame) -> bool
+    ensures { result ≡ ends_by_word frame }
+{
+    matches!(frame, Frame::Region | Frame::First)
 }
 
 /// The place behind the parenthesis of an instruction, where no part is left.
@@ -98,6 +138,17 @@ fn is_offset(place: Place, kind: Kind) -> bool
     matches!((place, kind), (Place::MemOffset, Kind::MemOffset))
 }
 
+/// The alignment of a load or a store.
+#[inline(always)]
+fn is_align(place: Place, kind: Kind) -> bool
+    ensures { result ≡ is_align place kind }
+{
+    matches!(
+        (place, kind),
+        (Place::MemOffset | Place::MemAlign, Kind::MemAlign)
+    )
+}
+
 /// Each of these reads one more token where it has its most usual place, and tells whether it does. Else the reader
 /// stands where it stood, and `take` is for the token.
 impl Reading {
@@ -112,7 +163,7 @@ impl Reading {
         let Some(place) = behind_name(kind) else {
             return false;
         };
-        if is_free(self.place) && takes_instrs(self.frame) {
+        if takes_name(self.place) && takes_instrs(self.frame) {
             self.place = place;
             self.frame = resume(self.frame);
             return true;
@@ -137,6 +188,41 @@ impl Reading {
             return Ok(true);
         }
         Ok(false)
+    }
+
+    /// The name of a block, a loop or an if, in a list of instructions. The error is want of memory, and then the
+    /// reader stands where it stood.
+    #[inline(always)]
+    pub fn take_begin(&mut self, kind: Kind) -> Result<bool, AllocError>
+        ensures read { IfOk result (λ found. found ≡ true → (limit at : ℕ) (ks : List TokenKind) (es : List Event)
+            → IsRead limit ks es self.old → at ≡ length ks
+            → IsRead limit (ks ++ kind ∷ []) (es ++ kept_as (Some roles.Begin) at kind) self.new) }
+        ensures stays { IfOk result (λ found. found ≡ false → self.new ≡ self.old) }
+        ensures err { OnErr result (self.new ≡ self.old) }
+    {
+        let Some(frame) = begun_frame(kind) else {
+            return Ok(false);
+        };
+        if takes_name(self.place) && takes_instrs(self.frame) && !self.is_deep() {
+            self.go(Move::Into(Place::Label, frame))?;
+            return Ok(true);
+        }
+        Ok(false)
+    }
+
+    /// The `end` of one of these.
+    #[inline(always)]
+    pub fn take_end(&mut self) -> bool
+        ensures read { result ≡ true → (limit at : ℕ) (ks : List TokenKind) (es : List Event)
+            → IsRead limit ks es self.old → at ≡ length ks
+            → IsRead limit (ks ++ kinds.EndWord ∷ []) (es ++ kept_as (Some roles.End) at kinds.EndWord) self.new }
+        ensures stays { result ≡ false → self.new ≡ self.old }
+    {
+        if takes_name(self.place) && ends_by_word(self.frame) {
+            self.leave(Place::EndLabel);
+            return true;
+        }
+        false
     }
 
     /// The parenthesis that opens an instruction.
@@ -209,6 +295,21 @@ impl Reading {
     {
         if is_offset(self.place, kind) {
             self.place = Place::MemAlign;
+            return true;
+        }
+        false
+    }
+
+    /// The alignment of a load or a store.
+    #[inline(always)]
+    pub fn take_align(&mut self, kind: Kind) -> bool
+        ensures read { result ≡ true → (limit at : ℕ) (ks : List TokenKind) (es : List Event)
+            → IsRead limit ks es self.old → at ≡ length ks
+            → IsRead limit (ks ++ kind ∷ []) (es ++ kept_as (Some roles.MemAlign) at kind) self.new }
+        ensures stays { result ≡ false → self.new ≡ self.old }
+    {
+        if is_align(self.place, kind) {
+            self.place = Place::Done;
             return true;
         }
         false

@@ -8,5 +8,5 @@ pub returns-then-takes_instrs-clause-read : goal.returns-then-takes_instrs-claus
 returns-then-takes_instrs-clause-read c h limit at ks es r e =
     usual-by limit at ks es _ _ _ c.args.kind (Some role.Plain) (Past c.in-Some.place) c.self.view_is
     (plain-at _ c.args.kind c.in-Some.place (sym c.behind_name.ensures ∙ c.in-Some.is)
-    (sym c.is_free.ensures ∙ c.if-is_free.true) (sym c.takes_instrs.ensures ∙ c.if-takes_instrs.true))
+    (sym c.takes_name.ensures ∙ c.if-takes_name.true) (sym c.takes_instrs.ensures ∙ c.if-takes_instrs.true))
     (rw c.resume-self-inside.ensures refl) r e
