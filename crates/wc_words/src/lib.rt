@@ -10,9 +10,11 @@ mod shape;
 mod string;
 mod symbol;
 mod token;
+mod usual;
 mod utf8;
 mod word;
 
 pub use law::{literals_have_bits, one_symbol, some_symbol};
 pub use symbol::{Symbol, Value};
 pub use token::symbol_of;
+pub use usual::{symbol_of_name, symbol_of_number, usual_name, usual_number};

@@ -11,7 +11,7 @@ use wc_syntax::Kind;
 
 /// The kind of an instruction's name.
 #[inline(always)]
-fn op_kind(op: Op) -> Kind
+pub fn op_kind(op: Op) -> Kind
     ensures { result ≡ op_kind op }
 {
     match op {
