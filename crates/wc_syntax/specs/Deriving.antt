@@ -9,6 +9,7 @@ use Rattle.wc_syntax.specs.Grammar.{body}
 pub data Item : Type 0 where
   at : ℕ → Terminal → Item
 
+-- the kind of the token that stands there, or the mark
 abbrev pub terminal_of : Item → Terminal
 terminal_of (at n t) = t
 

@@ -5,6 +5,7 @@ use Rattle.wc_syntax.specs.Types.{param_body, result_body, local_body, typeuse_b
 use Rattle.wc_syntax.specs.Instructions.{instr_body, foldedinstr_body}
 use Rattle.wc_syntax.specs.Fields.{export_body, offset_body, modulefield_body, text_body}
 
+-- the right-hand side of each production (Core 1.0, 6.4 to 6.6)
 abbrev pub body : Nonterminal → Phrase
 body (text d) = text_body d
 body (modulefield d) = modulefield_body d

@@ -9,10 +9,11 @@ use Rattle.wc_syntax.specs.declared.role.Role.TheVariants as role
 use Rattle.wc_syntax.specs.Phrases.{mark, Phrase, Token, Keep, ◌·◌, ◌∣◌, Many, The, Maybe, instr, foldedinstr, typeuse}
 use Rattle.wc_syntax.specs.Types.{lp, rp, index}
 
--- a literal of 32 bits, and one of 64 bits  (6.3.1, iN)
+-- a literal of 32 bits: i32 = u32 | s32  (6.3.1)
 abbrev pub literal32 : Phrase
 literal32 = Keep role.Literal Natural32 ∣ Keep role.Literal Signed32
 
+-- a literal of 64 bits: i64 = u64 | s64; numbers that 32 bits hold have kinds of their own  (6.3.1)
 abbrev pub literal64 : Phrase
 literal64 = Keep role.Literal Natural32 ∣ Keep role.Literal Natural64
     ∣ Keep role.Literal Signed32 ∣ Keep role.Literal Signed64
@@ -39,6 +40,7 @@ head = Maybe (Keep role.Label Id) · The typeuse
 abbrev pub end_id : Phrase
 end_id = Maybe (Keep role.EndLabel Id)
 
+-- instr*, in which at most d blocks and folded instructions are nested in one another
 abbrev pub instrs : ℕ → Phrase
 instrs d = Many (The (instr d))
 

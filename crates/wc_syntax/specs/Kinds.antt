@@ -4,6 +4,7 @@ use Rattle.wc_syntax.specs.declared.kind.Kind.{Kind}
 use Rattle.wc_syntax.specs.declared.kind.Kind.TheVariants as kind
 use Rattle.wc_syntax.specs.Phrases.{Terminal, word, mark}
 
+-- a number for each kind, no two alike: its place in `all_terminals`
 abbrev pub code : Kind → ℕ
 code kind.Open = 0
 code kind.Close = 1
@@ -57,10 +58,12 @@ code kind.FloatType = 48
 code kind.FloatName = 49
 code kind.OtherWord = 50
 
+-- the same of each terminal: the mark comes behind all kinds
 abbrev pub code_of : Terminal → ℕ
 code_of (word k) = code k
 code_of mark = 51
 
+-- two terminals are the same: they have one number
 abbrev pub same : Terminal → Terminal → Bool
 same t u = nat_eq (code_of t) (code_of u)
 

@@ -8,9 +8,11 @@ use Rattle.wc_syntax.specs.Phrases.{word, The, text}
 use Rattle.wc_syntax.specs.Deriving.{at, Event, kept, numbered, Derives}
 use Rattle.wc_syntax.specs.Reasons.{FirstFault}
 
+-- a kept token as an event: its role, its number and its kind
 abbrev pub event : Kept → Event
 event k = kept k.role (at k.at (word k.kind))
 
+-- the same of each kept token, in order
 abbrev pub events : List Kept → List Event
 events ks = map event ks
 

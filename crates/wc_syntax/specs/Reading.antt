@@ -21,6 +21,7 @@ pub record Standing : Type 0 where
   pub frame : Frame
   pub around : List Frame
 
+-- the standing with this limit, at this place of this frame, which these enclose, innermost first
 abbrev pub standing : ℕ → Place → Frame → List Frame → Standing
 standing d p f fs = record { limit = d; place = p; frame = f; around = fs }
 

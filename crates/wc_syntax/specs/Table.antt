@@ -23,9 +23,11 @@ use Rattle.wc_syntax.specs.Reasons.{wrong}
 pub data Row : Type 0 where
   row : Kind → Action → Row
 
+-- a token of the kind leads there, and isn't kept
 abbrev pub drops : Kind → Move → Row
 drops k m = row k (record { keep = None; go = m })
 
+-- a token of the kind leads there, and is kept in this role
 abbrev pub keeps : Kind → Role → Move → Row
 keeps k r m = row k (record { keep = Some r; go = m })
 
@@ -230,6 +232,7 @@ plain_rows =
     keeps kind.Access role.Plain (Past place.MemOffset) ∷ keeps kind.Const32 role.Plain (Past place.Literal32) ∷
     keeps kind.Const64 role.Plain (Past place.Literal64) ∷ drops kind.Open (On place.OpenDone) ∷ []
 
+-- the same, and where more may be nested `block`, `loop` and `if` too (Core 1.0, 6.5.2)
 abbrev pub instr_rows : Bool → List Row
 instr_rows true = plain_rows
 instr_rows false =
@@ -296,18 +299,22 @@ takes_folded frame.Held = true
 takes_folded frame.Asked = true
 takes_folded f = takes_instrs f
 
+-- what the first row of the kind does, where there is one
 abbrev pub find : List Row → Kind → Option Action
 find [] k = None
 find (row c a ∷ rows) k = cond (same (word c) (word k)) (Some a) (find rows k)
 
+-- one action, or where there is none a later one
 abbrev pub or_else : Option Action → Option Action → Option Action
 or_else (Some a) b = Some a
 or_else None b = b
 
+-- what the rows of an instruction do with the kind; nothing where none may stand in the frame
 abbrev pub if_takes : Bool → List Row → Kind → Option Action
 if_takes true rows k = find rows k
 if_takes false rows k = None
 
+-- where the rest leads: nowhere; by the rows of the frame and of an instruction; or by those behind a parenthesis
 abbrev pub step_rest : Rest → Frame → Bool → Kind → Option Action
 step_rest rest.Nothing f deep k = None
 step_rest rest.InFrame f deep k = or_else (find (frame_rows f) k) (if_takes (takes_instrs f) (instr_rows deep) k)
@@ -323,6 +330,7 @@ names_rest rest.Nothing f = false
 names_rest rest.InFrame f = takes_instrs f
 names_rest rest.Opened f = takes_folded f
 
+-- the same of a place: where it holds, the mark may stand
 abbrev pub names_instr : Place → Frame → Bool
 names_instr p f = names_rest (rest_of p) f
 
@@ -336,6 +344,7 @@ abbrev pub leads_to : Place → Frame → Bool → Terminal → Option Action
 leads_to p f deep (word k) = step p f deep k
 leads_to p f deep mark = mark_step (names_instr p f)
 
+-- a reason whose terminal leads on from there, so may stand; else the later one
 abbrev pub where_stands : Option Action → SynWhy → SynWhy → SynWhy
 where_stands (Some a) r q = r
 where_stands None r q = q
@@ -349,6 +358,7 @@ first_reason p f deep (x ∷ xs) = where_stands (leads_to p f deep x.1) x.0 (fir
 abbrev pub reason_of : Place → Frame → Bool → Kind → SynWhy
 reason_of p f deep k = first_reason p f deep (wrong k)
 
+-- the frame's rest may come now, and not behind one more parenthesis
 abbrev pub is_in_frame : Rest → Bool
 is_in_frame rest.InFrame = true
 is_in_frame _ = false

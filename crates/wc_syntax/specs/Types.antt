@@ -5,10 +5,11 @@ use Rattle.wc_syntax.specs.declared.role.Role.{Role}
 use Rattle.wc_syntax.specs.declared.role.Role.TheVariants as role
 use Rattle.wc_syntax.specs.Phrases.{Phrase, Keep, ◌·◌, ◌∣◌, Many, The, token, Maybe, param, result}
 
--- "(" and ")"
+-- "("
 abbrev pub lp : Phrase
 lp = token Open
 
+-- ")"
 abbrev pub rp : Phrase
 rp = token Close
 

@@ -4,6 +4,7 @@ use Rattle.simdutf8.specs.Steps.{Steps, least_after, most_after}
 use Rattle.simdutf8.specs.Tracks.{last_three}
 use Rattle.wc_words.specs.declared.utf8.Tail.{Tail}
 
+-- a byte behind the first one of a character in UTF-8 (Core 1.0, 5.2.4)
 abbrev pub is_continuation : ℕ → Bool
 is_continuation b = nat_le 0x80 b && nat_lt b 0xc0
 

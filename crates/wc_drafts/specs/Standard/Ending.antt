@@ -41,5 +41,6 @@ body_of d = record {
   labels = d.labels;
 }
 
+-- the same at the end of the body, where nothing can follow the last name any more
 abbrev pub ended : BodyDraft → TextBody
 ended d = body_of (settled d)

@@ -29,6 +29,7 @@ abbrev pub say_by : Bool → BodyDraft → TextInstr → BodyDraft
 say_by true d i = record d { held = held.Plain i ∷ d.held }
 say_by false d i = record d { code = step d.code (plain i) }
 
+-- the same, where the last name says whether it waits
 abbrev pub say : BodyDraft → TextInstr → BodyDraft
 say d i = say_by d.waits d i
 
@@ -36,6 +37,7 @@ say d i = say_by d.waits d i
 abbrev pub begun_in : Draft TextInstr ℕ → Kind → ℕ → Draft TextInstr ℕ
 begun_in code k h = if nat_lt (length code.around) nesting_limit then step code (begin_of k h) else code
 
+-- the same in a body, which keeps the place of its head until it ends
 abbrev pub begin_block : BodyDraft → Kind → ℕ → BodyDraft
 begin_block d k h = record d { code = begun_in d.code k h; blocks = h ∷ d.blocks }
 
@@ -45,6 +47,7 @@ release_by [] d = d
 release_by (held.Plain i ∷ hs) d = record d { held = hs; code = step d.code (plain i) }
 release_by (held.If h ∷ hs) d = begin_block (record d { held = hs }) kind.If h
 
+-- the same in the body, where the operands or the condition of that instruction end (6.5.7)
 abbrev pub release : BodyDraft → BodyDraft
 release d = release_by d.held d
 
@@ -62,6 +65,7 @@ head_by None label d = with_use (record d {
   heads = d.heads ++ head_of d.written.token label (Use (place_behind d.uses)) ∷ [];
 })
 
+-- the same; what is written behind the name tells which
 abbrev pub with_head : Option Identifier → BodyDraft → BodyDraft
 with_head label d = head_by (short_type d.written) label d
 
@@ -78,5 +82,6 @@ settle_by awaiting.Use d = say (with_use d) (instr.CallIndirect (place_behind d.
 settle_by (awaiting.Head label) d = with_head label d
 settle_by _ d = d
 
+-- the same of what the last name awaits, and nothing more may follow it
 abbrev pub settled : BodyDraft → BodyDraft
 settled d = complete (settle_by d.awaiting d)

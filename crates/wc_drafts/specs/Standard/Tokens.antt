@@ -8,5 +8,6 @@ pub record KeptToken : Type 0 where
   pub symbol : Symbol
   pub text : List ℕ
 
+-- the kept token of this number, this kind and value, and these bytes
 abbrev pub kept_token : ℕ → Symbol → List ℕ → KeptToken
 kept_token token symbol text = record { token = token; symbol = symbol; text = text }

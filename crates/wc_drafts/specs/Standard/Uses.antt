@@ -71,5 +71,6 @@ short_by None [] [] = Some None
 short_by None [] (t ∷ []) = Some (Some t)
 short_by _ _ _ = None
 
+-- the same of what is written; none where it has to be a type use
 abbrev pub short_type : UseDraft → Option (Option ValueType)
 short_type u = short_by u.index u.params u.results

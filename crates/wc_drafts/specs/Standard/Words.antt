@@ -27,20 +27,24 @@ abbrev pub index_by : Option ℕ → Word → Index
 index_by (Some n) w = index.Number w.token n
 index_by None w = index.Named (identifier_of w)
 
+-- the token as an index (6.6.1)
 abbrev pub index_of : Word → Index
 index_of w = index_by (number_in w.symbol.value) w
 
--- an index as an operand, behind these identifiers; and the identifiers with its own
+-- an index as an operand: a number, or the place that its identifier gets behind these
 abbrev pub operand_by : Option ℕ → List Identifier → Operand
 operand_by (Some n) ids = operand.Number n
 operand_by None ids = operand.Named (place_behind ids)
 
+-- the token as such an operand
 abbrev pub operand_of : Word → List Identifier → Operand
 operand_of w ids = operand_by (number_in w.symbol.value) ids
 
+-- these identifiers, and behind them that of an index which is no number
 abbrev pub ids_by : Option ℕ → Word → List Identifier → List Identifier
 ids_by (Some n) w ids = ids
 ids_by None w ids = ids ++ identifier_of w ∷ []
 
+-- the same of the token of an index
 abbrev pub ids_with : Word → List Identifier → List Identifier
 ids_with w ids = ids_by (number_in w.symbol.value) w ids

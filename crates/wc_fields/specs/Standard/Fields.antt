@@ -47,10 +47,11 @@ no_contents = record { inside = false; target = None; elements = []; bytes = [] 
 abbrev pub no_code : CodeDraft
 no_code = record { begun = false; body = nothing_said }
 
--- the limits and the type of a global of which nothing is said
+-- limits of which nothing is said: from 0 on, without a greatest size
 abbrev pub first_limits : Limits
 first_limits = record { min = 0; max = None }
 
+-- the type of a global of which nothing is said: i32, and immutable
 abbrev pub first_global : GlobalType
 first_global = record { ty = I32; mutable = false }
 
@@ -109,11 +110,12 @@ abbrev pub with_value_type : Value → GlobalType → GlobalType
 with_value_type (ValType t) g = record g { ty = t }
 with_value_type _ g = g
 
--- the least and the greatest size (6.4.4)
+-- the least size, in elements of a table or pages of a memory (6.4.4)
 abbrev pub with_min : Option ℕ → Limits → Limits
 with_min (Some n) l = record l { min = n }
 with_min None l = l
 
+-- the greatest size, in the same unit (6.4.4)
 abbrev pub with_max : Option ℕ → Limits → Limits
 with_max (Some n) l = record l { max = Some n }
 with_max None l = l

@@ -67,20 +67,22 @@ abbrev pub func_by : Option ImportNames → LocalsDraft → CodeDraft → FuncDe
 func_by (Some names) l c = func.Import names
 func_by None l c = func.Code l.locals (ended c.body)
 
--- how a table is given (6.6.6)
+-- how a table is given that is no import: by its elements, or by its limits (6.6.6)
 abbrev pub table_inside : Bool → Limits → Contents → TableDesc
 table_inside true l c = table.Elems c.elements
 table_inside false l c = table.Limits l
 
+-- how a table is given: as an import where one is asked for, else so (6.6.6)
 abbrev pub table_by : Option ImportNames → Limits → Contents → TableDesc
 table_by (Some names) l c = table.Import names l
 table_by None l c = table_inside c.inside l c
 
--- how a memory is given (6.6.7)
+-- how a memory is given that is no import: by its bytes, or by its limits (6.6.7)
 abbrev pub memory_inside : Bool → Limits → Contents → MemoryDesc
 memory_inside true l c = memory.Bytes c.bytes
 memory_inside false l c = memory.Limits l
 
+-- how a memory is given: as an import where one is asked for, else so (6.6.7)
 abbrev pub memory_by : Option ImportNames → Limits → Contents → MemoryDesc
 memory_by (Some names) l c = memory.Import names l
 memory_by None l c = memory_inside c.inside l c
@@ -165,5 +167,6 @@ finished_by kind.ElemWord d = field.Elem (elem_field d)
 finished_by kind.DataWord d = field.Data (data_field d)
 finished_by _ d = field.Start (start_field d)
 
+-- the field that was said, by the word that it began with
 abbrev pub finished : FieldDraft → Field
 finished d = finished_by d.kind d

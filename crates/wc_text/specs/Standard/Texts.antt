@@ -41,6 +41,7 @@ take_by r w bytes d = with_word r w d
 abbrev pub take_item : TextDraft → Item → TextDraft
 take_item d i = take_by i.role i.word i.bytes d
 
+-- kept tokens, one after the other
 abbrev pub take_items : TextDraft → List Item → TextDraft
 take_items d [] = d
 take_items d (i ∷ is) = take_items (take_item d i) is
