@@ -4,7 +4,7 @@
 It goes over all sentences at once and knows nothing of the parser: a state is the set of all stacks of phrases that may
 still follow. `.` says that some text goes on so; a digit is the reason of the fault at the word:
 1 unexpected, 3 range, 4 alignment, 5 float, 6 no instruction, 7 depth, 8 name.
-Here at most two instructions are nested. The rows stand in `crates/wc_parts_tests/src/syntax/words.rt`; this script made them.
+Here at most two instructions are nested. The rows stand in `crates/wc_rows/data/words.rows`; this script made them.
 """
 
 import re
@@ -484,7 +484,7 @@ def main():
             states = advance(states, token)
             assert states, front
         row = "".join("." if advance(states, w) else str(reason(states, w)) for w in WORDS)
-        print(f"{front} : {row}")
+        print(f"{front} => words {row}")
 
 
 if __name__ == "__main__":

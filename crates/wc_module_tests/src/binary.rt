@@ -1,8 +1,0 @@
-mod accepted;
-mod checks;
-mod expressions;
-mod inputs;
-mod limits;
-mod readers;
-mod refused;
-mod rows;

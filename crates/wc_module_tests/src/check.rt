@@ -1,6 +1,0 @@
-mod building;
-mod expected;
-mod indices;
-mod items;
-mod labels;
-mod many;

@@ -1,5 +1,0 @@
-//! Rows of kept tokens, and the bodies and type uses that they say.
-
-mod rows;
-mod said;
-mod shown;

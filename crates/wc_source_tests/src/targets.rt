@@ -1,4 +1,0 @@
-//! Bodies with names, and what becomes of them.
-
-mod given;
-mod tests;

@@ -1,9 +1,0 @@
-//! Texts, and where they are refused.
-
-mod asking;
-mod fronts;
-mod nesting;
-mod refused;
-mod rows;
-mod texts;
-mod wholes;

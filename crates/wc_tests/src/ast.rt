@@ -1,0 +1,5 @@
+//! Bodies, lists and functions, and their copies.
+
+mod bodies;
+mod lists;
+mod rows;

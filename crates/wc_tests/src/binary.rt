@@ -1,0 +1,4 @@
+//! Readers of binaries.
+
+mod inputs;
+mod readers;

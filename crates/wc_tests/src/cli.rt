@@ -1,0 +1,7 @@
+//! Command lines, how they are carried out, and what is told.
+
+mod acting;
+mod lines;
+mod rows;
+mod samples;
+mod turns;
