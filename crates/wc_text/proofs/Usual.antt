@@ -11,8 +11,8 @@ use Rattle.wc_syntax.specs.declared.role.Role.TheVariants as role
 use Rattle.wc_syntax.specs.Reading.{Standing, IsRead, kept_as}
 use Rattle.wc_words.specs.declared.symbol.Symbol.{Symbol}
 use Rattle.wc_words.specs.Symbols.{bare}
-use Rattle.wc_words.specs.declared.symbol.Value.TheVariants.{Nothing}
-use Rattle.wc_words.specs.Tokens.{TokenIs, name, no_name}
+use Rattle.wc_words.specs.Tokens.{TokenIs}
+use Rattle.wc_words.specs.Words.{WordIs}
 use Rattle.wc_drafts.specs.Standard.Tokens.{kept_token}
 use Rattle.wc_text.specs.declared.text_draft.TextDraft.{TextDraft}
 use Rattle.wc_text.specs.Standard.Texts.{take_by}
@@ -32,15 +32,8 @@ close-token k text o e h = subst (λ (x : TokenKind). TokenIs x text o) (sym e) 
 pub id-token : (k : TokenKind) (text : List ℕ) (o : Symbol) → k ≡ token.Id → o ≡ bare kind.Id → TokenIs k text o
 id-token k text o e h = subst (λ (x : TokenKind). TokenIs x text o) (sym e) h
 
--- words alone have values
-pub valued-word : (k : TokenKind) (text : List ℕ) (o : Symbol) → TokenIs k text o → (o.value ≡ Nothing → ⊥)
-    → k ≡ token.Word
-valued-word token.Open text o h some = absurd (some (ap (λ (s : Symbol). s.value) h))
-valued-word token.Close text o h some = absurd (some (ap (λ (s : Symbol). s.value) h))
-valued-word token.Id text o h some = absurd (some (ap (λ (s : Symbol). s.value) h))
-valued-word token.Str text o (name p q) some = absurd (some refl)
-valued-word token.Str text o (no_name p q) some = absurd (some refl)
-valued-word token.Word text o h some = refl
+pub word-token : (k : TokenKind) (text : List ℕ) (o p : Symbol) → k ≡ token.Word → o ≡ p → WordIs text p → TokenIs k text o
+word-token k text o p e f h = subst (λ (x : TokenKind). TokenIs x text o) (sym e) (subst (λ (x : Symbol). WordIs text x) (sym f) h)
 
 -- ---- one more token
 

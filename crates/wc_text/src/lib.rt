@@ -10,6 +10,7 @@ mod stream;
 mod string;
 mod taking;
 mod text_draft;
+mod words;
 
 pub use fault::SynFault;
 pub use fields::parse;

@@ -17,6 +17,7 @@ ghost use Rattle.wc_text.specs.Kept.SaidSoFar.{SaysMore, Refuses};
 use crate::fault::SynFault;
 use crate::string::bytes_of;
 use crate::text_draft::TextDraft;
+use crate::words::take_word;
 use std::alloc::{AllocError, Global};
 use wc_drafts::Word;
 use wc_syntax::{Kind, Reading, Role};
@@ -66,7 +67,7 @@ fn take_by_table<'a>(
 /// Any token.
 // The token is copied for the call alone, so that it needs no place in memory where it is read without the table.
 #[inline(always)]
-fn take_any<'a>(
+pub(crate) fn take_any<'a>(
     alloc: Global,
     reading: &mut Reading,
     draft: &mut TextDraft<'a>,
@@ -85,7 +86,7 @@ fn take_any<'a>(
 
 /// Keeps a token of an instruction. The error is want of memory.
 #[inline(always)]
-fn keep<'a>(
+pub(crate) fn keep<'a>(
     draft: &mut TextDraft<'a>,
     role: Role,
     at: usize,
@@ -148,109 +149,6 @@ fn take_close<'a>(
     take_any(alloc, reading, draft, at, token, symbol)
 }
 
-/// The name of an instruction.
-#[inline(always)]
-fn take_name<'a>(
-    alloc: Global,
-    reading: &mut Reading,
-    draft: &mut TextDraft<'a>,
-    at: usize,
-    token: &Token<'a>,
-    symbol: Symbol,
-) -> Result<(), SynFault>
-    requires few { at < 2 ^ 32 }
-    requires form { HasForm token.now.kind token.now.text.now }
-    requires kind { token.now.kind ≡ tokens.Word }
-    requires symbol { TokenIs token.now.kind token.now.text.now symbol }
-    ensures said { OnOk result (SaysMore (lexeme_of token.now) at reading.old draft.old reading.new draft.new) }
-    ensures fault { IfErr result (Refuses (lexeme_of token.now) at reading.old draft.old) }
-{
-    if reading.take_plain(symbol.kind) {
-        keep(draft, Role::Plain, at, symbol, token.text)?;
-        return Ok(());
-    }
-    if reading.take_held(symbol.kind)? {
-        keep(draft, Role::HeldPlain, at, symbol, token.text)?;
-        return Ok(());
-    }
-    take_any(alloc, reading, draft, at, token, symbol)
-}
-
-/// A number.
-#[inline(always)]
-fn take_number<'a>(
-    alloc: Global,
-    reading: &mut Reading,
-    draft: &mut TextDraft<'a>,
-    at: usize,
-    token: &Token<'a>,
-    symbol: Symbol,
-) -> Result<(), SynFault>
-    requires few { at < 2 ^ 32 }
-    requires form { HasForm token.now.kind token.now.text.now }
-    requires kind { token.now.kind ≡ tokens.Word }
-    requires symbol { TokenIs token.now.kind token.now.text.now symbol }
-    ensures said { OnOk result (SaysMore (lexeme_of token.now) at reading.old draft.old reading.new draft.new) }
-    ensures fault { IfErr result (Refuses (lexeme_of token.now) at reading.old draft.old) }
-{
-    if reading.take_index(symbol.kind) {
-        keep(draft, Role::Index, at, symbol, token.text)?;
-        return Ok(());
-    }
-    if reading.take_literal(symbol.kind) {
-        keep(draft, Role::Literal, at, symbol, token.text)?;
-        return Ok(());
-    }
-    take_any(alloc, reading, draft, at, token, symbol)
-}
-
-/// The offset of a load or a store.
-#[inline(always)]
-fn take_offset<'a>(
-    alloc: Global,
-    reading: &mut Reading,
-    draft: &mut TextDraft<'a>,
-    at: usize,
-    token: &Token<'a>,
-    symbol: Symbol,
-) -> Result<(), SynFault>
-    requires few { at < 2 ^ 32 }
-    requires form { HasForm token.now.kind token.now.text.now }
-    requires kind { token.now.kind ≡ tokens.Word }
-    requires symbol { TokenIs token.now.kind token.now.text.now symbol }
-    ensures said { OnOk result (SaysMore (lexeme_of token.now) at reading.old draft.old reading.new draft.new) }
-    ensures fault { IfErr result (Refuses (lexeme_of token.now) at reading.old draft.old) }
-{
-    if reading.take_offset(symbol.kind) {
-        keep(draft, Role::MemOffset, at, symbol, token.text)?;
-        return Ok(());
-    }
-    take_any(alloc, reading, draft, at, token, symbol)
-}
-
-/// A word or a string: what it is has to be looked up.
-#[inline(always)]
-fn take_valued<'a>(
-    alloc: Global,
-    reading: &mut Reading,
-    draft: &mut TextDraft<'a>,
-    at: usize,
-    token: &Token<'a>,
-) -> Result<(), SynFault>
-    requires few { at < 2 ^ 32 }
-    requires form { HasForm token.now.kind token.now.text.now }
-    ensures said { OnOk result (SaysMore (lexeme_of token.now) at reading.old draft.old reading.new draft.new) }
-    ensures fault { IfErr result (Refuses (lexeme_of token.now) at reading.old draft.old) }
-{
-    let symbol = symbol_of(token);
-    match symbol.value {
-        Value::Instruction(_) => take_name(alloc, reading, draft, at, token, symbol),
-        Value::Number(_) => take_number(alloc, reading, draft, at, token, symbol),
-        Value::Offset(_) => take_offset(alloc, reading, draft, at, token, symbol),
-        _ => take_any(alloc, reading, draft, at, token, symbol),
-    }
-}
-
 /// A token.
 #[inline(always)]
 pub(crate) fn take_token<'a>(
@@ -269,6 +167,7 @@ pub(crate) fn take_token<'a>(
         TokenKind::Open => take_open(alloc, reading, draft, at, token),
         TokenKind::Close => take_close(alloc, reading, draft, at, token),
         TokenKind::Id => take_any(alloc, reading, draft, at, token, bare(Kind::Id)),
-        TokenKind::Word | TokenKind::Str => take_valued(alloc, reading, draft, at, token),
+        TokenKind::Word => take_word(alloc, reading, draft, at, token),
+        TokenKind::Str => take_any(alloc, reading, draft, at, token, symbol_of(token)),
     }
 }

@@ -6,7 +6,7 @@ use Rattle.wc_syntax.specs.declared.role.Role.TheVariants as role
 use Rattle.wc_text.specs.Kept.SaidSoFar.{SaysMore}
 use Rattle.wc_text.proofs.Said.{said-count}
 use Rattle.wc_text.proofs.Usual.{said-word}
-use Rattle.wc_text.proofs.taking.take_name.Goals as goal
+use Rattle.wc_text.proofs.words.take_name.Goals as goal
 
 pub returns-then-take_plain-clause-said : goal.returns-then-take_plain-clause-said
 returns-then-take_plain-clause-said c = λ ts rest w e.
@@ -25,6 +25,6 @@ returns-then-branch-clause-said c = λ ts rest w e.
 pub returns-clause-said : goal.returns-clause-said
 returns-clause-said c =
     subst
-    (λ (s : Standing). OnOk c.take_any.result
-    (SaysMore (lexeme_of c.args.token.now) c.args.at s c.args.draft.now c.take_any.new.reading c.take_any.new.draft))
-    (c.in_ok-take_held.ensures.stays c.if-branch.false ∙ c.take_plain.ensures.stays c.if-take_plain.false) c.take_any.ensures.said
+    (λ (s : Standing). OnOk c.take_begin.result
+    (SaysMore (lexeme_of c.args.token.now) c.args.at s c.args.draft.now c.take_begin.new.reading c.take_begin.new.draft))
+    (c.in_ok-take_held.ensures.stays c.if-branch.false ∙ c.take_plain.ensures.stays c.if-take_plain.false) c.take_begin.ensures.said

@@ -6,7 +6,7 @@ use Rattle.wc_syntax.specs.declared.role.Role.TheVariants as role
 use Rattle.wc_text.specs.Kept.SaidSoFar.{SaysMore}
 use Rattle.wc_text.proofs.Said.{said-count}
 use Rattle.wc_text.proofs.Usual.{said-word}
-use Rattle.wc_text.proofs.taking.take_number.Goals as goal
+use Rattle.wc_text.proofs.words.take_number.Goals as goal
 
 pub returns-then-take_index-clause-said : goal.returns-then-take_index-clause-said
 returns-then-take_index-clause-said c = λ ts rest w e.

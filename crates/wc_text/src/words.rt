@@ -1,0 +1,248 @@
+//! Words of a text, token by token.
+//!
+//! Each function takes one more word, the token of this number. The error is the first fault, or want of memory. Names of
+//! instructions and numbers, of which there are most, are told from each other first.
+
+ghost use Rattle.std.specs.Prelude.{◌≡◌, ◌<◌, ◌^◌, IfErr, OnOk};
+ghost use Rattle.wc_tokens.specs.Standard.Lexemes.{HasForm};
+ghost use Rattle.wc_tokens.specs.Standard.Tokens.{lexeme_of};
+ghost use Rattle.wc_tokens.specs.declared.token.TokenKind.TheVariants as tokens;
+ghost use Rattle.wc_syntax.specs.declared.kind.Kind.TheVariants as kinds;
+ghost use Rattle.wc_words.specs.Tokens.{TokenIs};
+ghost use Rattle.wc_text.specs.Kept.SaidSoFar.{SaysMore, Refuses};
+
+use crate::fault::SynFault;
+use crate::taking::{keep, take_any};
+use crate::text_draft::TextDraft;
+use std::alloc::Global;
+use wc_syntax::{Kind, Reading, Role};
+use wc_tokens::Token;
+use wc_words::{
+    Symbol, Value, symbol_of, symbol_of_name, symbol_of_number, usual_name, usual_number,
+};
+
+/// The name of a block, a loop or an if.
+#[inline(always)]
+fn take_begin<'a>(
+    alloc: Global,
+    reading: &mut Reading,
+    draft: &mut TextDraft<'a>,
+    at: usize,
+    token: &Token<'a>,
+    symbol: Symbol,
+) -> Result<(), SynFault>
+    requires few { at < 2 ^ 32 }
+    requires form { HasForm token.now.kind token.now.text.now }
+    requires kind { token.now.kind ≡ tokens.Word }
+    requires symbol { TokenIs token.now.kind token.now.text.now symbol }
+    ensures said { OnOk result (SaysMore (lexeme_of token.now) at reading.old draft.old reading.new draft.new) }
+    ensures fault { IfErr result (Refuses (lexeme_of token.now) at reading.old draft.old) }
+{
+    if reading.take_begin(symbol.kind)? {
+        keep(draft, Role::Begin, at, symbol, token.text)?;
+        return Ok(());
+    }
+    take_any(alloc, reading, draft, at, token, symbol)
+}
+
+/// The name of an instruction.
+#[inline(always)]
+fn take_name<'a>(
+    alloc: Global,
+    reading: &mut Reading,
+    draft: &mut TextDraft<'a>,
+    at: usize,
+    token: &Token<'a>,
+    symbol: Symbol,
+) -> Result<(), SynFault>
+    requires few { at < 2 ^ 32 }
+    requires form { HasForm token.now.kind token.now.text.now }
+    requires kind { token.now.kind ≡ tokens.Word }
+    requires symbol { TokenIs token.now.kind token.now.text.now symbol }
+    ensures said { OnOk result (SaysMore (lexeme_of token.now) at reading.old draft.old reading.new draft.new) }
+    ensures fault { IfErr result (Refuses (lexeme_of token.now) at reading.old draft.old) }
+{
+    if reading.take_plain(symbol.kind) {
+        keep(draft, Role::Plain, at, symbol, token.text)?;
+        return Ok(());
+    }
+    if reading.take_held(symbol.kind)? {
+        keep(draft, Role::HeldPlain, at, symbol, token.text)?;
+        return Ok(());
+    }
+    take_begin(alloc, reading, draft, at, token, symbol)
+}
+
+/// A number.
+#[inline(always)]
+fn take_number<'a>(
+    alloc: Global,
+    reading: &mut Reading,
+    draft: &mut TextDraft<'a>,
+    at: usize,
+    token: &Token<'a>,
+    symbol: Symbol,
+) -> Result<(), SynFault>
+    requires few { at < 2 ^ 32 }
+    requires form { HasForm token.now.kind token.now.text.now }
+    requires kind { token.now.kind ≡ tokens.Word }
+    requires symbol { TokenIs token.now.kind token.now.text.now symbol }
+    ensures said { OnOk result (SaysMore (lexeme_of token.now) at reading.old draft.old reading.new draft.new) }
+    ensures fault { IfErr result (Refuses (lexeme_of token.now) at reading.old draft.old) }
+{
+    if reading.take_index(symbol.kind) {
+        keep(draft, Role::Index, at, symbol, token.text)?;
+        return Ok(());
+    }
+    if reading.take_literal(symbol.kind) {
+        keep(draft, Role::Literal, at, symbol, token.text)?;
+        return Ok(());
+    }
+    take_any(alloc, reading, draft, at, token, symbol)
+}
+
+/// The offset of a load or a store.
+#[inline(always)]
+fn take_offset<'a>(
+    alloc: Global,
+    reading: &mut Reading,
+    draft: &mut TextDraft<'a>,
+    at: usize,
+    token: &Token<'a>,
+    symbol: Symbol,
+) -> Result<(), SynFault>
+    requires few { at < 2 ^ 32 }
+    requires form { HasForm token.now.kind token.now.text.now }
+    requires kind { token.now.kind ≡ tokens.Word }
+    requires symbol { TokenIs token.now.kind token.now.text.now symbol }
+    ensures said { OnOk result (SaysMore (lexeme_of token.now) at reading.old draft.old reading.new draft.new) }
+    ensures fault { IfErr result (Refuses (lexeme_of token.now) at reading.old draft.old) }
+{
+    if reading.take_offset(symbol.kind) {
+        keep(draft, Role::MemOffset, at, symbol, token.text)?;
+        return Ok(());
+    }
+    take_any(alloc, reading, draft, at, token, symbol)
+}
+
+/// The alignment of a load or a store.
+#[inline(always)]
+fn take_align<'a>(
+    alloc: Global,
+    reading: &mut Reading,
+    draft: &mut TextDraft<'a>,
+    at: usize,
+    token: &Token<'a>,
+    symbol: Symbol,
+) -> Result<(), SynFault>
+    requires few { at < 2 ^ 32 }
+    requires form { HasForm token.now.kind token.now.text.now }
+    requires kind { token.now.kind ≡ tokens.Word }
+    requires symbol { TokenIs token.now.kind token.now.text.now symbol }
+    ensures said { OnOk result (SaysMore (lexeme_of token.now) at reading.old draft.old reading.new draft.new) }
+    ensures fault { IfErr result (Refuses (lexeme_of token.now) at reading.old draft.old) }
+{
+    if reading.take_align(symbol.kind) {
+        keep(draft, Role::MemAlign, at, symbol, token.text)?;
+        return Ok(());
+    }
+    take_any(alloc, reading, draft, at, token, symbol)
+}
+
+/// The word `end`.
+#[inline(always)]
+fn take_end<'a>(
+    alloc: Global,
+    reading: &mut Reading,
+    draft: &mut TextDraft<'a>,
+    at: usize,
+    token: &Token<'a>,
+    symbol: Symbol,
+) -> Result<(), SynFault>
+    requires few { at < 2 ^ 32 }
+    requires form { HasForm token.now.kind token.now.text.now }
+    requires kind { token.now.kind ≡ tokens.Word }
+    requires symbol { TokenIs token.now.kind token.now.text.now symbol }
+    requires end { symbol.kind ≡ kinds.EndWord }
+    ensures said { OnOk result (SaysMore (lexeme_of token.now) at reading.old draft.old reading.new draft.new) }
+    ensures fault { IfErr result (Refuses (lexeme_of token.now) at reading.old draft.old) }
+{
+    if reading.take_end() {
+        keep(draft, Role::End, at, symbol, token.text)?;
+        return Ok(());
+    }
+    take_any(alloc, reading, draft, at, token, symbol)
+}
+
+/// A word with no value.
+#[inline(always)]
+fn take_bare<'a>(
+    alloc: Global,
+    reading: &mut Reading,
+    draft: &mut TextDraft<'a>,
+    at: usize,
+    token: &Token<'a>,
+    symbol: Symbol,
+) -> Result<(), SynFault>
+    requires few { at < 2 ^ 32 }
+    requires form { HasForm token.now.kind token.now.text.now }
+    requires kind { token.now.kind ≡ tokens.Word }
+    requires symbol { TokenIs token.now.kind token.now.text.now symbol }
+    ensures said { OnOk result (SaysMore (lexeme_of token.now) at reading.old draft.old reading.new draft.new) }
+    ensures fault { IfErr result (Refuses (lexeme_of token.now) at reading.old draft.old) }
+{
+    match symbol.kind {
+        Kind::EndWord => take_end(alloc, reading, draft, at, token, symbol),
+        _ => take_any(alloc, reading, draft, at, token, symbol),
+    }
+}
+
+/// A word that has to be looked up.
+#[inline(always)]
+fn take_valued<'a>(
+    alloc: Global,
+    reading: &mut Reading,
+    draft: &mut TextDraft<'a>,
+    at: usize,
+    token: &Token<'a>,
+) -> Result<(), SynFault>
+    requires few { at < 2 ^ 32 }
+    requires form { HasForm token.now.kind token.now.text.now }
+    requires kind { token.now.kind ≡ tokens.Word }
+    ensures said { OnOk result (SaysMore (lexeme_of token.now) at reading.old draft.old reading.new draft.new) }
+    ensures fault { IfErr result (Refuses (lexeme_of token.now) at reading.old draft.old) }
+{
+    let symbol = symbol_of(token);
+    match symbol.value {
+        Value::Number(_) => take_number(alloc, reading, draft, at, token, symbol),
+        Value::Offset(_) => take_offset(alloc, reading, draft, at, token, symbol),
+        Value::Exponent(_) => take_align(alloc, reading, draft, at, token, symbol),
+        _ => take_bare(alloc, reading, draft, at, token, symbol),
+    }
+}
+
+/// A word.
+#[inline(always)]
+pub(crate) fn take_word<'a>(
+    alloc: Global,
+    reading: &mut Reading,
+    draft: &mut TextDraft<'a>,
+    at: usize,
+    token: &Token<'a>,
+) -> Result<(), SynFault>
+    requires few { at < 2 ^ 32 }
+    requires form { HasForm token.now.kind token.now.text.now }
+    requires kind { token.now.kind ≡ tokens.Word }
+    ensures said { OnOk result (SaysMore (lexeme_of token.now) at reading.old draft.old reading.new draft.new) }
+    ensures fault { IfErr result (Refuses (lexeme_of token.now) at reading.old draft.old) }
+{
+    if let Some(number) = usual_number(token.text) {
+        let symbol = symbol_of_number(number);
+        return take_number(alloc, reading, draft, at, token, symbol);
+    }
+    if let Some(op) = usual_name(token.text) {
+        let symbol = symbol_of_name(op);
+        return take_name(alloc, reading, draft, at, token, symbol);
+    }
+    take_valued(alloc, reading, draft, at, token)
+}
