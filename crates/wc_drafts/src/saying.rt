@@ -124,10 +124,7 @@ impl<'a> BodyDraft<'a> {
         ensures { OnOk result (self.new ≡ settled self.old) }
     {
         match self.awaiting {
-            Awaiting::Nothing => {
-                self.awaiting = Awaiting::Nothing;
-                Ok(())
-            }
+            Awaiting::Nothing => Ok(()),
             Awaiting::MemArg(op, align, offset) => {
                 self.awaiting = Awaiting::Nothing;
                 self.say(TextInstr::Access { op, align, offset })

@@ -236,13 +236,13 @@ pub(crate) fn take_word<'a>(
     ensures said { OnOk result (SaysMore (lexeme_of token.now) at reading.old draft.old reading.new draft.new) }
     ensures fault { IfErr result (Refuses (lexeme_of token.now) at reading.old draft.old) }
 {
-    if let Some(number) = usual_number(token.text) {
-        let symbol = symbol_of_number(number);
-        return take_number(alloc, reading, draft, at, token, symbol);
-    }
     if let Some(op) = usual_name(token.text) {
         let symbol = symbol_of_name(op);
         return take_name(alloc, reading, draft, at, token, symbol);
+    }
+    if let Some(number) = usual_number(token.text) {
+        let symbol = symbol_of_number(number);
+        return take_number(alloc, reading, draft, at, token, symbol);
     }
     take_valued(alloc, reading, draft, at, token)
 }
