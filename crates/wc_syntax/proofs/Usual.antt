@@ -14,8 +14,8 @@ use Rattle.wc_syntax.specs.declared.place.Move.TheVariants.{On, Past, Into, Out}
 use Rattle.wc_syntax.specs.declared.place.Action.{Action}
 use Rattle.wc_syntax.specs.Deriving.{Event}
 use Rattle.wc_syntax.specs.Table.{step, takes_instrs, takes_folded}
-use Rattle.wc_syntax.specs.Usual.{is_free, takes_name, takes_open, behind_name, begun_frame, ends_by_word, is_opened, is_held}
-use Rattle.wc_syntax.specs.Usual.{opened_part, behind_index, is_literal, is_offset, is_align}
+use Rattle.wc_syntax.specs.Usual.{is_free, takes_name, takes_open, behind_name, begun_frame, ends_by_word, is_opened}
+use Rattle.wc_syntax.specs.Usual.{opened_part, is_held, behind_index, is_literal, is_offset, is_align}
 use Rattle.wc_syntax.specs.Reading.{Standing, IsRead, one_read, is_deep, moved, action_at, kept_as}
 
 abbrev pub keeping : Role → Move → Option Action
@@ -190,7 +190,8 @@ opens frame.Else true e = refl
 opens frame.Else false e = refl
 opens _ deep e = absurd cc
 
-part-opens : (q p : Place) (f : Frame) (deep : Bool) → opened_part q ≡ Some p → step q f deep kind.Open ≡ dropping (On p)
+part-opens : (q p : Place) (f : Frame) (deep : Bool) → opened_part q ≡ Some p
+    → step q f deep kind.Open ≡ dropping (On p)
 part-opens place.Label p f deep e = let h : place.OpenUses ≡ p = cc in ap (λ (x : Place). dropping (On x)) h
 part-opens place.Uses p f deep e = let h : place.OpenUses ≡ p = cc in ap (λ (x : Place). dropping (On x)) h
 part-opens place.Params p f deep e = let h : place.OpenParams ≡ p = cc in ap (λ (x : Place). dropping (On x)) h
@@ -267,7 +268,8 @@ begin-at s k g e f t d =
     let h = free-block s.place s.frame (is_deep s) f in
     at-block (λ k g. step s.place s.frame (is_deep s) k ≡ step place.Done s.frame (is_deep s) k) k g e (h.0, h.1)
     ∙ ap (λ (b : Bool). step place.Done s.frame b k) d
-    ∙ at-block (λ k g. step place.Done s.frame false k ≡ keeping role.Begin (Into place.Label g)) k g e (begins s.frame t)
+    ∙ at-block (λ k g. step place.Done s.frame false k ≡ keeping role.Begin (Into place.Label g)) k g e
+    (begins s.frame t)
 
 pub end-at : (s : Standing) → takes_name s.place ≡ true → ends_by_word s.frame ≡ true
     → action_at s kind.EndWord ≡ keeping role.End (Out place.EndLabel)
@@ -297,5 +299,6 @@ pub offset-at : (s : Standing) (k : Kind) → is_offset s.place k ≡ true
     → action_at s k ≡ keeping role.MemOffset (On place.MemAlign)
 offset-at s k e = offset-leads s.place s.frame (is_deep s) k e
 
-pub align-at : (s : Standing) (k : Kind) → is_align s.place k ≡ true → action_at s k ≡ keeping role.MemAlign (On place.Done)
+pub align-at : (s : Standing) (k : Kind) → is_align s.place k ≡ true
+    → action_at s k ≡ keeping role.MemAlign (On place.Done)
 align-at s k e = align-leads s.place s.frame (is_deep s) k e
