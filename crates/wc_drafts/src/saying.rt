@@ -118,13 +118,15 @@ impl<'a> BodyDraft<'a> {
     }
 
     /// None of the last name's immediates can follow.
-    // Mostly nothing is awaited, or a load or a store ends: the others stay out of the loop over tokens.
+    // Mostly nothing is awaited but maybe an identifier, or a load or a store ends: the others stay out of the loop
+    // over tokens.
     #[inline(always)]
     pub(crate) fn settle(&mut self) -> Result<(), AllocError>
         ensures { OnOk result (self.new ≡ settled self.old) }
     {
         match self.awaiting {
-            Awaiting::Nothing => {
+            Awaiting::Nothing => Ok(()),
+            Awaiting::ElseId(_) | Awaiting::EndId(_) => {
                 self.awaiting = Awaiting::Nothing;
                 Ok(())
             }

@@ -14,8 +14,8 @@ use Rattle.wc_syntax.specs.declared.place.Move.TheVariants.{On, Past, Into, Out}
 use Rattle.wc_syntax.specs.declared.place.Action.{Action}
 use Rattle.wc_syntax.specs.Deriving.{Event}
 use Rattle.wc_syntax.specs.Table.{step, takes_instrs, takes_folded}
-use Rattle.wc_syntax.specs.Usual.{is_free, takes_name, takes_open, behind_name, begun_frame, ends_by_word, is_opened, is_held}
-use Rattle.wc_syntax.specs.Usual.{is_index, is_literal, is_offset, is_align}
+use Rattle.wc_syntax.specs.Usual.{is_free, takes_name, takes_open, behind_name, begun_frame, ends_by_word, is_opened}
+use Rattle.wc_syntax.specs.Usual.{opened_part, is_held, behind_index, is_literal, is_offset, is_align}
 use Rattle.wc_syntax.specs.Reading.{Standing, IsRead, one_read, is_deep, moved, action_at, kept_as}
 
 abbrev pub keeping : Role → Move → Option Action
@@ -106,6 +106,15 @@ plain-names frame.Else true e = (refl, refl, refl, refl, refl, refl, refl)
 plain-names frame.Else false e = (refl, refl, refl, refl, refl, refl, refl)
 plain-names _ deep e = absurd cc
 
+-- behind any such parenthesis as where no part is left
+opened-name : (q : Place) (f : Frame) (deep : Bool) → is_opened q ≡ true
+    → AtNames (λ k p. step q f deep k ≡ step place.OpenDone f deep k)
+opened-name place.OpenDone f deep e = (refl, refl, refl, refl, refl, refl, refl)
+opened-name place.OpenUses f deep e = (refl, refl, refl, refl, refl, refl, refl)
+opened-name place.OpenParams f deep e = (refl, refl, refl, refl, refl, refl, refl)
+opened-name place.OpenResults f deep e = (refl, refl, refl, refl, refl, refl, refl)
+opened-name _ f deep e = absurd cc
+
 abbrev Held : Frame → Type 0
 Held f = AtNames (λ k p. step place.OpenDone f false k ≡ keeping role.HeldPlain (Into p frame.Held))
 
@@ -181,11 +190,26 @@ opens frame.Else true e = refl
 opens frame.Else false e = refl
 opens _ deep e = absurd cc
 
-index-leads : (q : Place) (f : Frame) (deep : Bool) (k : Kind) → is_index q k ≡ true
-    → step q f deep k ≡ keeping role.Index (On place.Done)
-index-leads place.Index f deep kind.Natural32 e = refl
-index-leads place.Index f deep _ e = absurd cc
-index-leads _ f deep k e = absurd cc
+part-opens : (q p : Place) (f : Frame) (deep : Bool) → opened_part q ≡ Some p
+    → step q f deep kind.Open ≡ dropping (On p)
+part-opens place.Label p f deep e = let h : place.OpenUses ≡ p = cc in ap (λ (x : Place). dropping (On x)) h
+part-opens place.Uses p f deep e = let h : place.OpenUses ≡ p = cc in ap (λ (x : Place). dropping (On x)) h
+part-opens place.Params p f deep e = let h : place.OpenParams ≡ p = cc in ap (λ (x : Place). dropping (On x)) h
+part-opens place.Results p f deep e = let h : place.OpenResults ≡ p = cc in ap (λ (x : Place). dropping (On x)) h
+part-opens _ p f deep e = absurd cc
+
+index-leads : (q p : Place) (f : Frame) (deep : Bool) (k : Kind) → behind_index q k ≡ Some p
+    → step q f deep k ≡ keeping role.Index (On p)
+index-leads place.Index p f deep kind.Natural32 e =
+    let h : place.Done ≡ p = cc in ap (λ (x : Place). keeping role.Index (On x)) h
+index-leads place.Index p f deep _ e = absurd cc
+index-leads place.FirstIndex p f deep kind.Natural32 e =
+    let h : place.Indices ≡ p = cc in ap (λ (x : Place). keeping role.Index (On x)) h
+index-leads place.FirstIndex p f deep _ e = absurd cc
+index-leads place.Indices p f deep kind.Natural32 e =
+    let h : place.Indices ≡ p = cc in ap (λ (x : Place). keeping role.Index (On x)) h
+index-leads place.Indices p f deep _ e = absurd cc
+index-leads _ p f deep k e = absurd cc
 
 literal-leads : (q : Place) (f : Frame) (deep : Bool) (k : Kind) → is_literal q k ≡ true
     → step q f deep k ≡ keeping role.Literal (On place.Done)
@@ -211,10 +235,6 @@ align-leads place.MemAlign f deep kind.MemAlign e = refl
 align-leads place.MemAlign f deep _ e = absurd cc
 align-leads _ f deep k e = absurd cc
 
-opened-is : (q : Place) → is_opened q ≡ true → q ≡ place.OpenDone
-opened-is place.OpenDone e = refl
-opened-is _ e = absurd cc
-
 held-is : (f : Frame) → is_held f ≡ true → f ≡ frame.Held
 held-is frame.Held e = refl
 held-is _ e = absurd cc
@@ -237,7 +257,9 @@ plain-at s k p e f t =
 pub held-at : (s : Standing) (k : Kind) (p : Place) → behind_name k ≡ Some p → is_opened s.place ≡ true
     → takes_folded s.frame ≡ true → is_deep s ≡ false → action_at s k ≡ keeping role.HeldPlain (Into p frame.Held)
 held-at s k p e f t d =
-    ap (λ (q : Place). step q s.frame (is_deep s) k) (opened-is s.place f) ∙ ap (λ (b : Bool). step place.OpenDone s.frame b k) d
+    at-name (λ k p. step s.place s.frame (is_deep s) k ≡ step place.OpenDone s.frame (is_deep s) k) k p e
+    (opened-name s.place s.frame (is_deep s) f)
+    ∙ ap (λ (b : Bool). step place.OpenDone s.frame b k) d
     ∙ at-name (λ k p. step place.OpenDone s.frame false k ≡ keeping role.HeldPlain (Into p frame.Held)) k p e (held-names s.frame t)
 
 pub begin-at : (s : Standing) (k : Kind) (g : Frame) → begun_frame k ≡ Some g → takes_name s.place ≡ true
@@ -246,7 +268,8 @@ begin-at s k g e f t d =
     let h = free-block s.place s.frame (is_deep s) f in
     at-block (λ k g. step s.place s.frame (is_deep s) k ≡ step place.Done s.frame (is_deep s) k) k g e (h.0, h.1)
     ∙ ap (λ (b : Bool). step place.Done s.frame b k) d
-    ∙ at-block (λ k g. step place.Done s.frame false k ≡ keeping role.Begin (Into place.Label g)) k g e (begins s.frame t)
+    ∙ at-block (λ k g. step place.Done s.frame false k ≡ keeping role.Begin (Into place.Label g)) k g e
+    (begins s.frame t)
 
 pub end-at : (s : Standing) → takes_name s.place ≡ true → ends_by_word s.frame ≡ true
     → action_at s kind.EndWord ≡ keeping role.End (Out place.EndLabel)
@@ -261,8 +284,12 @@ pub held-end-at : (s : Standing) → is_free s.place ≡ true → is_held s.fram
 held-end-at s f t =
     (free-open s.place s.frame (is_deep s) f).1 ∙ ap (λ (g : Frame). step place.Done g (is_deep s) kind.Close) (held-is s.frame t)
 
-pub index-at : (s : Standing) (k : Kind) → is_index s.place k ≡ true → action_at s k ≡ keeping role.Index (On place.Done)
-index-at s k e = index-leads s.place s.frame (is_deep s) k e
+pub part-at : (s : Standing) (p : Place) → opened_part s.place ≡ Some p → action_at s kind.Open ≡ dropping (On p)
+part-at s p e = part-opens s.place p s.frame (is_deep s) e
+
+pub index-at : (s : Standing) (k : Kind) (p : Place) → behind_index s.place k ≡ Some p
+    → action_at s k ≡ keeping role.Index (On p)
+index-at s k p e = index-leads s.place p s.frame (is_deep s) k e
 
 pub literal-at : (s : Standing) (k : Kind) → is_literal s.place k ≡ true
     → action_at s k ≡ keeping role.Literal (On place.Done)
@@ -272,5 +299,6 @@ pub offset-at : (s : Standing) (k : Kind) → is_offset s.place k ≡ true
     → action_at s k ≡ keeping role.MemOffset (On place.MemAlign)
 offset-at s k e = offset-leads s.place s.frame (is_deep s) k e
 
-pub align-at : (s : Standing) (k : Kind) → is_align s.place k ≡ true → action_at s k ≡ keeping role.MemAlign (On place.Done)
+pub align-at : (s : Standing) (k : Kind) → is_align s.place k ≡ true
+    → action_at s k ≡ keeping role.MemAlign (On place.Done)
 align-at s k e = align-leads s.place s.frame (is_deep s) k e

@@ -58,20 +58,33 @@ ends_by_word frame.Region = true
 ends_by_word frame.First = true
 ends_by_word _ = false
 
--- the place behind the parenthesis of an instruction, where no part is left
+-- a place behind a parenthesis that may be that of an instruction
 abbrev pub is_opened : Place → Bool
 is_opened place.OpenDone = true
+is_opened place.OpenUses = true
+is_opened place.OpenParams = true
+is_opened place.OpenResults = true
 is_opened _ = false
+
+-- the place behind a parenthesis that may be that of a part of a type use
+abbrev pub opened_part : Place → Option Place
+opened_part place.Label = Some place.OpenUses
+opened_part place.Uses = Some place.OpenUses
+opened_part place.Params = Some place.OpenParams
+opened_part place.Results = Some place.OpenResults
+opened_part _ = None
 
 -- the frame of an instruction in front of its operands
 abbrev pub is_held : Frame → Bool
 is_held frame.Held = true
 is_held _ = false
 
--- the number of an index
-abbrev pub is_index : Place → Kind → Bool
-is_index place.Index kind.Natural32 = true
-is_index _ _ = false
+-- the place behind the number of an index
+abbrev pub behind_index : Place → Kind → Option Place
+behind_index place.Index kind.Natural32 = Some place.Done
+behind_index place.FirstIndex kind.Natural32 = Some place.Indices
+behind_index place.Indices kind.Natural32 = Some place.Indices
+behind_index _ _ = None
 
 -- a number of a constant, of 32 bits
 abbrev pub is_literal : Place → Kind → Bool

@@ -32,8 +32,10 @@ close-token k text o e h = subst (λ (x : TokenKind). TokenIs x text o) (sym e) 
 pub id-token : (k : TokenKind) (text : List ℕ) (o : Symbol) → k ≡ token.Id → o ≡ bare kind.Id → TokenIs k text o
 id-token k text o e h = subst (λ (x : TokenKind). TokenIs x text o) (sym e) h
 
-pub word-token : (k : TokenKind) (text : List ℕ) (o p : Symbol) → k ≡ token.Word → o ≡ p → WordIs text p → TokenIs k text o
-word-token k text o p e f h = subst (λ (x : TokenKind). TokenIs x text o) (sym e) (subst (λ (x : Symbol). WordIs text x) (sym f) h)
+pub word-token : (k : TokenKind) (text : List ℕ) (o p : Symbol) → k ≡ token.Word → o ≡ p → WordIs text p
+    → TokenIs k text o
+word-token k text o p e f h =
+    subst (λ (x : TokenKind). TokenIs x text o) (sym e) (subst (λ (x : Symbol). WordIs text x) (sym f) h)
 
 -- ---- one more token
 

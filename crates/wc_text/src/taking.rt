@@ -149,6 +149,24 @@ fn take_close<'a>(
     take_any(alloc, reading, draft, at, token, symbol)
 }
 
+/// A string: whether it is a name has to be looked up.
+#[inline(always)]
+fn take_string<'a>(
+    alloc: Global,
+    reading: &mut Reading,
+    draft: &mut TextDraft<'a>,
+    at: usize,
+    token: &Token<'a>,
+) -> Result<(), SynFault>
+    requires few { at < 2 ^ 32 }
+    requires form { HasForm token.now.kind token.now.text.now }
+    ensures said { OnOk result (SaysMore (lexeme_of token.now) at reading.old draft.old reading.new draft.new) }
+    ensures fault { IfErr result (Refuses (lexeme_of token.now) at reading.old draft.old) }
+{
+    let symbol = symbol_of(token);
+    take_any(alloc, reading, draft, at, token, symbol)
+}
+
 /// A token.
 #[inline(always)]
 pub(crate) fn take_token<'a>(
@@ -168,6 +186,6 @@ pub(crate) fn take_token<'a>(
         TokenKind::Close => take_close(alloc, reading, draft, at, token),
         TokenKind::Id => take_any(alloc, reading, draft, at, token, bare(Kind::Id)),
         TokenKind::Word => take_word(alloc, reading, draft, at, token),
-        TokenKind::Str => take_any(alloc, reading, draft, at, token, symbol_of(token)),
+        TokenKind::Str => take_string(alloc, reading, draft, at, token),
     }
 }

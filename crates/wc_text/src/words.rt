@@ -101,6 +101,31 @@ fn take_number<'a>(
     take_any(alloc, reading, draft, at, token, symbol)
 }
 
+/// A number that is no short natural one, mostly one behind a sign.
+// It is apart from `take_number`, so that each is called once, and none is too large for the compiler to be put in place.
+#[inline(always)]
+fn take_signed<'a>(
+    alloc: Global,
+    reading: &mut Reading,
+    draft: &mut TextDraft<'a>,
+    at: usize,
+    token: &Token<'a>,
+    symbol: Symbol,
+) -> Result<(), SynFault>
+    requires few { at < 2 ^ 32 }
+    requires form { HasForm token.now.kind token.now.text.now }
+    requires kind { token.now.kind ≡ tokens.Word }
+    requires symbol { TokenIs token.now.kind token.now.text.now symbol }
+    ensures said { OnOk result (SaysMore (lexeme_of token.now) at reading.old draft.old reading.new draft.new) }
+    ensures fault { IfErr result (Refuses (lexeme_of token.now) at reading.old draft.old) }
+{
+    if reading.take_literal(symbol.kind) {
+        keep(draft, Role::Literal, at, symbol, token.text)?;
+        return Ok(());
+    }
+    take_any(alloc, reading, draft, at, token, symbol)
+}
+
 /// The offset of a load or a store.
 #[inline(always)]
 fn take_offset<'a>(
@@ -214,7 +239,7 @@ fn take_valued<'a>(
 {
     let symbol = symbol_of(token);
     match symbol.value {
-        Value::Number(_) => take_number(alloc, reading, draft, at, token, symbol),
+        Value::Number(_) => take_signed(alloc, reading, draft, at, token, symbol),
         Value::Offset(_) => take_offset(alloc, reading, draft, at, token, symbol),
         Value::Exponent(_) => take_align(alloc, reading, draft, at, token, symbol),
         _ => take_bare(alloc, reading, draft, at, token, symbol),
@@ -236,13 +261,13 @@ pub(crate) fn take_word<'a>(
     ensures said { OnOk result (SaysMore (lexeme_of token.now) at reading.old draft.old reading.new draft.new) }
     ensures fault { IfErr result (Refuses (lexeme_of token.now) at reading.old draft.old) }
 {
-    if let Some(number) = usual_number(token.text) {
-        let symbol = symbol_of_number(number);
-        return take_number(alloc, reading, draft, at, token, symbol);
-    }
     if let Some(op) = usual_name(token.text) {
         let symbol = symbol_of_name(op);
         return take_name(alloc, reading, draft, at, token, symbol);
+    }
+    if let Some(number) = usual_number(token.text) {
+        let symbol = symbol_of_number(number);
+        return take_number(alloc, reading, draft, at, token, symbol);
     }
     take_valued(alloc, reading, draft, at, token)
 }

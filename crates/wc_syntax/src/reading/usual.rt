@@ -5,8 +5,8 @@ ghost use Rattle.std.specs.Prelude.{OnErr, IfOk};
 ghost use Rattle.wc_syntax.specs.Deriving.{Event};
 ghost use Rattle.wc_syntax.specs.Reading.{IsRead, is_deep, kept_as};
 ghost use Rattle.wc_syntax.specs.Table.{takes_instrs, takes_folded};
-ghost use Rattle.wc_syntax.specs.Usual.{is_free, takes_name, takes_open, behind_name, begun_frame, ends_by_word, is_opened};
-ghost use Rattle.wc_syntax.specs.Usual.{is_held, is_index, is_literal, is_offset, is_align};
+ghost use Rattle.wc_syntax.specs.Usual.{is_free, takes_name, takes_open, behind_name, begun_frame, ends_by_word};
+ghost use Rattle.wc_syntax.specs.Usual.{is_opened, opened_part, is_held, behind_index, is_literal, is_offset, is_align};
 ghost use Rattle.wc_syntax.specs.declared.kind.Kind.{Kind as TokenKind};
 ghost use Rattle.wc_syntax.specs.declared.kind.Kind.TheVariants as kinds;
 ghost use Rattle.wc_syntax.specs.declared.role.Role.TheVariants as roles;
@@ -92,12 +92,28 @@ fn ends_by_word(frame: Frame) -> bool
     matches!(frame, Frame::Region | Frame::First)
 }
 
-/// The place behind the parenthesis of an instruction, where no part is left.
+/// A place behind a parenthesis that may be that of an instruction.
 #[inline(always)]
 fn is_opened(place: Place) -> bool
     ensures { result ≡ is_opened place }
 {
-    matches!(place, Place::OpenDone)
+    matches!(
+        place,
+        Place::OpenDone | Place::OpenUses | Place::OpenParams | Place::OpenResults
+    )
+}
+
+/// The place behind a parenthesis that may be that of a part of a type use.
+#[inline(always)]
+fn opened_part(place: Place) -> Option<Place>
+    ensures { result ≡ opened_part place }
+{
+    match place {
+        Place::Label | Place::Uses => Some(Place::OpenUses),
+        Place::Params => Some(Place::OpenParams),
+        Place::Results => Some(Place::OpenResults),
+        _ => None,
+    }
 }
 
 /// The frame of an instruction in front of its operands.
@@ -108,12 +124,16 @@ fn is_held(frame: Frame) -> bool
     matches!(frame, Frame::Held)
 }
 
-/// The number of an index.
+/// The place behind the number of an index.
 #[inline(always)]
-fn is_index(place: Place, kind: Kind) -> bool
-    ensures { result ≡ is_index place kind }
+fn behind_index(place: Place, kind: Kind) -> Option<Place>
+    ensures { result ≡ behind_index place kind }
 {
-    matches!((place, kind), (Place::Index, Kind::Natural32))
+    match (place, kind) {
+        (Place::Index, Kind::Natural32) => Some(Place::Done),
+        (Place::FirstIndex | Place::Indices, Kind::Natural32) => Some(Place::Indices),
+        _ => None,
+    }
 }
 
 /// A number of a constant, of 32 bits.
@@ -225,7 +245,7 @@ impl Reading {
         false
     }
 
-    /// The parenthesis that opens an instruction.
+    /// The parenthesis that opens an instruction, or a part of the type use in front of it.
     #[inline(always)]
     pub fn take_open(&mut self) -> bool
         ensures read { result ≡ true → (limit at : ℕ) (ks : List TokenKind) (es : List Event)
@@ -235,6 +255,10 @@ impl Reading {
     {
         if is_free(self.place) && takes_open(self.frame) {
             self.place = Place::OpenDone;
+            return true;
+        }
+        if let Some(place) = opened_part(self.place) {
+            self.place = place;
             return true;
         }
         false
@@ -263,11 +287,11 @@ impl Reading {
             → IsRead limit (ks ++ kind ∷ []) (es ++ kept_as (Some roles.Index) at kind) self.new }
         ensures stays { result ≡ false → self.new ≡ self.old }
     {
-        if is_index(self.place, kind) {
-            self.place = Place::Done;
-            return true;
-        }
-        false
+        let Some(place) = behind_index(self.place, kind) else {
+            return false;
+        };
+        self.place = place;
+        true
     }
 
     /// The number of a constant, of 32 bits.

@@ -12,7 +12,9 @@ pub returns-then-not-is_deep-clause-read : goal.returns-then-not-is_deep-clause-
 returns-then-not-is_deep-clause-read c h limit at ks es r e =
     usual-by limit at ks es _ _ _ c.args.kind (Some role.Begin) (Into place.Label c.in-Some.frame) refl
     (begin-at _ c.args.kind c.in-Some.frame (sym c.begun_frame.ensures ∙ c.in-Some.is)
-    (subst (λ (x : Standing). takes_name x.place ≡ true) c.self.view_is (sym c.takes_name.ensures ∙ c.if-takes_name.true))
-    (subst (λ (x : Standing). takes_instrs x.frame ≡ true) c.self.view_is (sym c.takes_instrs.ensures ∙ c.if-takes_instrs.true))
+    (subst (λ (x : Standing). takes_name x.place ≡ true) c.self.view_is
+    (sym c.takes_name.ensures ∙ c.if-takes_name.true))
+    (subst (λ (x : Standing). takes_instrs x.frame ≡ true) c.self.view_is
+    (sym c.takes_instrs.ensures ∙ c.if-takes_instrs.true))
     (sym c.is_deep.ensures ∙ c.if-not-is_deep.true))
     c.in_ok-go.ensures.ok r e

@@ -11,6 +11,9 @@ use Rattle.wc_syntax.proofs.reading.Reading.take_end.Goals as goal
 pub returns-then-ends_by_word-clause-read : goal.returns-then-ends_by_word-clause-read
 returns-then-ends_by_word-clause-read c h limit at ks es r e =
     usual-by limit at ks es _ _ _ kind.EndWord (Some role.End) (Out place.EndLabel) refl
-    (end-at _ (subst (λ (x : Standing). takes_name x.place ≡ true) c.self.view_is (sym c.takes_name.ensures ∙ c.if-takes_name.true))
-    (subst (λ (x : Standing). ends_by_word x.frame ≡ true) c.self.view_is (sym c.ends_by_word.ensures ∙ c.if-ends_by_word.true)))
+    (end-at _
+    (subst (λ (x : Standing). takes_name x.place ≡ true) c.self.view_is
+    (sym c.takes_name.ensures ∙ c.if-takes_name.true))
+    (subst (λ (x : Standing). ends_by_word x.frame ≡ true) c.self.view_is
+    (sym c.ends_by_word.ensures ∙ c.if-ends_by_word.true)))
     c.leave.ensures r e
