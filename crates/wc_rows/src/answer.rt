@@ -12,12 +12,13 @@
 //! - `binary 0104`: the canonical bytes of what the input spells, whatever rules it breaks;
 //! - `layout TEXT`: its printed text, and `kept ROLES` what is kept of that;
 //! - `tokens`, `symbol`: the tokens of the input, and what its only token is to the grammar;
-//! - `roles`, `fault`, `sentence`, `words`: what is kept of the input, its first fault, that each of its fronts begins a
-//!   text, and the fault of each word behind it, where two instructions may be nested.
+//! - `roles`, `fault`, `sentence`, `words`: what is kept of the input, its first fault, that each of its fronts begins
+//!   a text, and the fault of each word behind it, where two instructions may be nested.
 
 use crate::calls::fault_of_calls;
 use crate::grammar::{fault_shown, roles_shown, sentence_shown, words_behind};
 use crate::input::{binary_of, bytes_of, text_of};
+use crate::kept::kept_agree;
 use crate::layers::{printed, spelled};
 use crate::told::{Told, rendered, told_of};
 use crate::words::{symbol_shown, tokens_shown};
@@ -45,10 +46,18 @@ fn other_text(text: String, wanted: &[u8]) -> Found {
     Some(text)
 }
 
+/// What was found of an input that the grammar takes, where it refuses its kept tokens.
+fn other_kept(alloc: Global, input: &[u8]) -> Result<Found> {
+    if kept_agree(alloc, input, None)? {
+        return Ok(None);
+    }
+    Ok(Some("its kept tokens are refused".to_string(alloc)?))
+}
+
 /// What was found of an input that the grammar takes, where it doesn't.
 fn other_grammar(alloc: Global, input: &[u8]) -> Result<Found> {
     match normalise(alloc, input) {
-        Ok(_) | Err(Refusal::Names { .. } | Refusal::Check { .. }) => Ok(None),
+        Ok(_) | Err(Refusal::Names { .. } | Refusal::Check { .. }) => other_kept(alloc, input),
         Err(refusal) => Ok(Some(rendered(alloc, &refusal)?)),
     }
 }

@@ -1,6 +1,7 @@
 //! Whether the calls agree on an input.
 
 use crate::fronts::fronts_are_cut;
+use crate::kept::kept_agree;
 use crate::readers::{readers_fail, readers_give, readers_refuse, refused_at_once};
 use crate::told::{Told, has_bytes, is_refused};
 use anyhow::Result;
@@ -38,6 +39,9 @@ fn disagreement(alloc: Global, input: &[u8], bytes: &[u8]) -> Result<Option<&'st
     if !fronts_are_cut(alloc, input)? {
         return Ok(Some("a front is refused elsewhere"));
     }
+    if !kept_agree(alloc, input, None)? {
+        return Ok(Some("its kept tokens are refused"));
+    }
     Ok(None)
 }
 
@@ -57,6 +61,9 @@ fn other_refusal(alloc: Global, input: &[u8], text: &str) -> Result<Option<&'sta
     }
     if !refused_at_once(alloc, input, text)? {
         return Ok(Some("a read that fails behind its byte differs"));
+    }
+    if !kept_agree(alloc, input, Some(text))? {
+        return Ok(Some("what its kept tokens say differs"));
     }
     Ok(None)
 }

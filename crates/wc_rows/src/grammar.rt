@@ -98,7 +98,8 @@ pub fn fault_shown(alloc: Global, text: &[u8]) -> Result<String> {
     Ok(format!(in alloc; "{token}:{reason}")?)
 }
 
-/// `.` of a text of the grammar whose fronts all begin one; else the first front that doesn't, or the reason of the fault.
+/// `.` of a text of the grammar whose fronts all begin one; else the first front that doesn't, or the reason of the
+/// fault.
 pub fn sentence_shown(alloc: Global, text: &[u8]) -> Result<String> {
     let kinds = kinds_in(alloc, text)?;
     for count in 1..kinds.len() {

@@ -1,7 +1,7 @@
 //! How the inputs of rows are written.
 //!
-//! `hex 0061` are the bytes of these digits, and `module 0104` the preamble of a binary and such bytes. Anything else is a
-//! text, in which `%0a` is the byte of these digits. In all of them `{3* nop}` stands for three times ` nop`.
+//! `hex 0061` are the bytes of these digits, and `module 0104` the preamble of a binary and such bytes. Anything else
+//! is a text, in which `%0a` is the byte of these digits. In all of them `{3* nop}` stands for three times ` nop`.
 
 use anyhow::{Context, Result};
 use hex::decode;

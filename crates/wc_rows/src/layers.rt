@@ -1,8 +1,8 @@
 //! What the layers below tell of a binary, whatever rules it breaks. What holds a module hands it on.
 
 use anyhow::{Result, bail};
-use std::alloc::Global;
-use wc_ast::Module;
+use std::alloc::{AllocError, Global};
+use wc_ast::{Module, TryClone};
 use wc_binary::{BinFault, decode, encode};
 use wc_print::print;
 
@@ -22,10 +22,16 @@ fn whole(decoded: Result<Module, BinFault>) -> Result<Module> {
     }
 }
 
-/// The canonical bytes of what the input spells.
+/// The canonical bytes of a copy.
+fn copied(alloc: Global, copy: Result<Module, AllocError>) -> Result<Vec<u8>> {
+    let module = copy?;
+    bytes_of(alloc, &module)
+}
+
+/// The canonical bytes of a copy of what the input spells.
 pub fn spelled(alloc: Global, input: &[u8]) -> Result<Vec<u8>> {
     let module = whole(decode(alloc, input))?;
-    bytes_of(alloc, &module)
+    copied(alloc, module.try_clone())
 }
 
 /// The printed text of what the input spells.

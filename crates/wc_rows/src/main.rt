@@ -1,5 +1,5 @@
-//! Asks the public calls of `wc_canon` for the answers of tables: `wc_rows TABLE..`. It tells of each table how many rows
-//! it has, and each row whose answer is another. `rows` says how a row is written.
+//! Asks the public calls of `wc_canon` for the answers of tables: `wc_rows TABLE..`. It tells of each table how many
+//! rows it has, and each row whose answer is another. `rows` says how a row is written.
 #![tactic(auto)]
 
 mod answer;
@@ -7,6 +7,7 @@ mod calls;
 mod fronts;
 mod grammar;
 mod input;
+mod kept;
 mod layers;
 mod readers;
 mod rows;
