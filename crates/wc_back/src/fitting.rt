@@ -12,8 +12,8 @@ fn func_has_few_locals(func: &FuncRef<'_>)
     let _groups = func.locals().groups();
 }
 
-/// No function of a module declares more locals than may be (Core 1.0, 5.5.13). It does nothing, in time that grows with
-/// the number of functions.
+/// No function of a module declares more locals than may be (Core 1.0, 5.5.13). It does nothing, in time that grows
+/// with the number of functions.
 pub fn module_has_few_locals(module: &Module)
     ensures { HasFewLocals module.now }
 {

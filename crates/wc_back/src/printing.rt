@@ -14,8 +14,8 @@ use wc_ast::Module;
 use wc_print::print;
 use wc_printed::module_fits;
 
-/// The printed text of a module, in its layout. Where the module breaks no rule (Core 1.0, 3.4) and the text isn't longer
-/// than a text may be, it is a text of this very module. The error is want of memory.
+/// The printed text of a module, in its layout. Where the module breaks no rule (Core 1.0, 3.4) and the text isn't
+/// longer than a text may be, it is a text of this very module. The error is want of memory.
 pub fn text_of(alloc: Global, module: &Module) -> Result<String, AllocError>
     ensures layout { IfOk result (λ it. string_bytes it ≡ text (layout «module».now)) }
     ensures back { IfOk result (λ it. broken «module».now ≡ [] → length (string_bytes it) ≤ longest

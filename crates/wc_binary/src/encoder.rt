@@ -34,8 +34,8 @@ pub fn encode(alloc: Global, m: &Module) -> Result<Vec<u8>, EncFault>
     Ok(out)
 }
 
-/// How many canonical bytes a module has: the length of what `encode` answers, where memory suffices. None exactly where
-/// that answer is `Oversize`. No byte is written, and it takes no memory.
+/// How many canonical bytes a module has: the length of what `encode` answers, where memory suffices. None exactly
+/// where that answer is `Oversize`. No byte is written, and it takes no memory.
 pub fn encoded_length(m: &Module) -> Option<u64>
     ensures { HasLength m.now result }
 {

@@ -1,5 +1,5 @@
-//! Instructions and the bodies of functions: entries, the builder that takes them, the bytes that keep them, and rows of
-//! bodies.
+//! Instructions and the bodies of functions: entries, the builder that takes them, the bytes that keep them, and rows
+//! of bodies.
 #![tactic(auto)]
 
 pub mod bodies;

@@ -55,8 +55,8 @@ OfSide B P Q f = Q f
 abbrev pub WasJudged : Option (List ℕ) → Option (List ℕ) → ℕ → Type 0
 WasJudged x new count = IsAtEnd new ⊎ ((f : Refusal) × IfSome x (λ u. HasFault u f × RefusesNear count (Refused f) u))
 
--- which sides were judged: both behind a comparison and a refusal, whatever side it names, and A behind what else is told
--- of B. P says that A was, Q that B was, and N that B wasn't asked for anything
+-- which sides were judged: both behind a comparison and a refusal, whatever side it names, and A behind what else is
+-- told of B. P says that A was, Q that B was, and N that B wasn't asked for anything
 abbrev pub GoesOver : Type 0 → Type 0 → Type 0 → Result Comparison (Side × RunFault) → Type 0
 GoesOver P Q N (Ok c) = P × Q
 GoesOver P Q N (Err (side, Refused f)) = P × Q

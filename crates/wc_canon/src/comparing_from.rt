@@ -45,8 +45,8 @@ fn judge_from<R: Read>(
 /// one that is refused before its end isn't read further than `normalise_from` reads it.
 ///
 /// # Errors
-/// In this order: a failed read of A, a failed read of B, the refusal of A, the refusal of B; want of memory wherever it
-/// occurs, of the side that was judged. `RunFault::Write` never comes.
+/// In this order: a failed read of A, a failed read of B, the refusal of A, the refusal of B; want of memory wherever
+/// it occurs, of the side that was judged. `RunFault::Write` never comes.
 pub fn compare_from<R: Read, S: Read>(
     alloc: Global,
     a: &mut Device<R>,
@@ -62,8 +62,8 @@ pub fn compare_from<R: Read, S: Read>(
         (λ f. IfSome (S.remaining (device_inner b.old)) (RefusesNear (read_count b.new) f)) e.1) }
     ensures memory { IfErr result (λ e. e.1 ≢ RunFault.Refused refusals.Memory) }
 
-    // Behind a comparison or a refusal both sides were judged, B also where A is refused. Want of memory is told of A only
-    // while nothing was asked of B, and of B only once A was judged.
+    // Behind a comparison or a refusal both sides were judged, B also where A is refused. Want of memory is told of A
+    // only while nothing was asked of B, and of B only once A was judged.
     ensures goes_over { GoesOver
         (WasJudged (R.remaining (device_inner a.old)) (R.remaining (device_inner a.new)) (read_count a.new))
         (WasJudged (S.remaining (device_inner b.old)) (S.remaining (device_inner b.new)) (read_count b.new))

@@ -1,6 +1,7 @@
 //! The module that the bytes of a reader denote.
 
-ghost use Rattle.std.specs.Prelude.{ℕ, List, Option as Maybe, ◌≡◌, ◌≤◌, ◌<◌, length, IfOk, IfErr, IfSome, IsErrOf, OnOk};
+ghost use Rattle.std.specs.Prelude.{ℕ, List, Option as Maybe, ◌≡◌, ◌≤◌, ◌<◌, length, IfOk};
+ghost use Rattle.std.specs.Prelude.{IfErr, IfSome, IsErrOf, OnOk};
 ghost use Rattle.std.specs.Prelude.{[], Some, true, false};
 ghost use Rattle.std.specs.Io.KnownBytes.{Consumes, IsAtEnd};
 ghost use Rattle.wc_device.specs.Device.{device_inner, failed_at, has_failed, has_ended, was_asked_again, read_count};
@@ -85,8 +86,8 @@ fn read_text<R: Read>(
     Ok((read(alloc, &text)?, false))
 }
 
-/// The module of the binary that begins with `front` and goes on with the reader's bytes, to its end. The second part of
-/// the answer is true.
+/// The module of the binary that begins with `front` and goes on with the reader's bytes, to its end. The second part
+/// of the answer is true.
 fn read_binary<R: Read>(
     alloc: Global,
     front: &[u8],
@@ -126,8 +127,8 @@ fn read_nothing(alloc: Global) -> Result<(Module, bool), RunFault>
 }
 
 /// The module that the reader's bytes denote, to the reader's end, and whether they are a binary; or else their first
-/// fault. One piece is read, and its first byte tells a binary, which is read no further than its fault shows; a text is
-/// read to its end.
+/// fault. One piece is read, and its first byte tells a binary, which is read no further than its fault shows; a text
+/// is read to its end.
 pub(crate) fn read_module<R: Read>(
     alloc: Global,
     r: &mut Device<R>,

@@ -21,8 +21,8 @@ use std::alloc::Global;
 /// # Errors
 /// `Refusal::Binary` where a binary has a fault; `Refusal::Lex`, else `Refusal::Syntax`, else `Refusal::Names` where a
 /// text has one; else `Refusal::Check` where the module breaks a rule; else `Refusal::Oversize` where a text denotes a
-/// module that is too large for any bytes. Exactly these inputs are refused; `Refusal::Memory` comes only where a growth
-/// of memory was refused.
+/// module that is too large for any bytes. Exactly these inputs are refused; `Refusal::Memory` comes only where a
+/// growth of memory was refused.
 pub fn normalise(alloc: Global, input: &[u8]) -> Result<Vec<u8>, Refusal>
     ensures ok { IfOk result (λ b. HasAnswer input.now b.items) }
     ensures err { IfErr result (IsRefused input.now) }

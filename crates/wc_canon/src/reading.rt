@@ -6,7 +6,8 @@ ghost use Rattle.wc_device.specs.Device.{device_inner, failed_at, has_failed, ha
 ghost use Rattle.wc_canon.specs.declared.fault.Refusal.TheVariants as refusals;
 ghost use Rattle.wc_canon.specs.Input.{KeepsRules, IsAccepted};
 ghost use Rattle.wc_canon.specs.declared.running.Job.{Job};
-ghost use Rattle.wc_canon.specs.Run.{Judges, IsAnswerOf, IsOutputOf, RefusesNear, ReadsCut, is_read_fault, is_write_fault};
+ghost use Rattle.wc_canon.specs.Run.{Judges, IsAnswerOf, IsOutputOf, RefusesNear};
+ghost use Rattle.wc_canon.specs.Run.{ReadsCut, is_read_fault, is_write_fault};
 ghost use Rattle.wc_canon.specs.Inner.Steps.{IsModuleFault, IsSized};
 ghost use Rattle.std.specs.String.{string_bytes};
 
@@ -20,8 +21,8 @@ use wc_back::text_of;
 use wc_device::Device;
 
 /// The canonical bytes of the module that the reader's bytes denote, to the reader's end: the answer that `normalise`
-/// gives to these bytes. Those of a binary aren't held, and where they are refused before their end, the rest isn't read: at
-/// most 4,096 bytes are read past the byte where the fault shows. A text is read to its end, and then judged.
+/// gives to these bytes. Those of a binary aren't held, and where they are refused before their end, the rest isn't
+/// read: at most 4,096 bytes are read past the byte where the fault shows. A text is read to its end, and then judged.
 ///
 /// # Errors
 /// `RunFault::Refused` where the bytes aren't accepted. `RunFault::Read` exactly where the reader failed, which isn't

@@ -118,9 +118,9 @@ fn render_broken(alloc: Global, item: Item, rule: &str) -> Result<String, AllocE
     }
 }
 
-/// The text of a refusal, without a line end. Numbers are in decimal digits. `byte AT: TEXT` where the bytes of a binary
-/// or the characters of a text are wrong; `token N at byte AT: TEXT` where the grammar or the names of a text are;
-/// `ITEM: TEXT` where a rule is broken, as in `func 0 instruction 1: label out of range`.
+/// The text of a refusal, without a line end. Numbers are in decimal digits. `byte AT: TEXT` where the bytes of a
+/// binary or the characters of a text are wrong; `token N at byte AT: TEXT` where the grammar or the names of a text
+/// are; `ITEM: TEXT` where a rule is broken, as in `func 0 instruction 1: label out of range`.
 ///
 /// # Errors
 /// A growth of memory was refused.

@@ -83,7 +83,8 @@ fn without_second<'a, R: Read>(
 ) -> Failure<'a>
     requires well { has_failed first.old ≡ false }
     requires unread { read_count first.old ≡ 0 }
-    ensures { (x y : Option (List ℕ)) → ComparesInputs paths.entry.0.now paths.entry.1.now x y (has_failed first.new) true
+    ensures { (x y : Option (List ℕ))
+        → ComparesInputs paths.entry.0.now paths.entry.1.now x y (has_failed first.new) true
         (Err result) }
 {
     match accept_from(alloc, first) {

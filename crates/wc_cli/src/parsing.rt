@@ -121,8 +121,8 @@ fn lines_at<'a>(
     }
 }
 
-/// The lines that the words ask for, in order, the program's name first: one of `binary IN` or `text IN`, with
-/// `-o OUT` or `--output OUT`, or of `compare A B`; and one for each path of `check IN..`, `canonical IN..` and `hash IN..`.
+/// The lines that the words ask for, in order, the program's name first: one of `binary IN` or `text IN`, with `-o OUT`
+/// or `--output OUT`, or of `compare A B`; and one for each path of `check IN..`, `canonical IN..` and `hash IN..`.
 ///
 /// # Errors
 /// Help or the version that is asked for, words that name no subcommand with its paths, or `ErrorKind::OutOfMemory`.

@@ -73,7 +73,8 @@ pub fn act_each<R: Read + Drop, O: Opens<R>, W: Write, E: Write>(
     e: &mut Device<E>,
 ) -> u8
     // The first lines, up to one at which the writer failed, were carried out so; or else all of them.
-    ensures turns { (n : ℕ) × ActsEach (O.bytes_at opens.now) W.contents E.contents w.old e.old (take n lines.now) result
+    ensures turns { (n : ℕ)
+        × ActsEach (O.bytes_at opens.now) W.contents E.contents w.old e.old (take n lines.now) result
         w.new e.new × (n < length lines.now → has_failed w.new ≡ true) }
 {
     let mut status = 0;

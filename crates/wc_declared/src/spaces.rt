@@ -45,6 +45,16 @@ fn declared<'a>(kind: SpaceKind, field: &'a Field<'a>) -> Option<Option<&'a Id<'
     }
 }
 
+/// How many identifiers the fields declare in the index space. It takes no memory.
+fn named_in(kind: SpaceKind, fields: &[Field<'_>]) -> usize
+    ensures { result ≤ length fields.now }
+{
+    fields
+        .iter()
+        .filter(|field| matches!(declared(kind, *field), Some(Some(_))))
+        .count()
+}
+
 /// Adds one declaration, with this identifier or with none.
 fn add_one<'a>(
     space: &mut Space<'a>,
@@ -103,7 +113,7 @@ pub fn space<'a>(
     ensures noted { OnOk result (noted.new.first
         ≡ least_from noted.old.first (repeated (all_declared kind fields.now))) }
 {
-    let mut space = Space::new(alloc);
+    let mut space = Space::with_room(alloc, named_in(kind, fields))?;
     for field in fields {
         add_found(&mut space, declared(kind, field), noted)?;
     }

@@ -29,8 +29,8 @@ pub fn one_token_adds_one()
     ensures end { (d : BodyDraft) → body_size (ended d) ≤ said_size d }
 {}
 
-/// One more kept token, and the end, leave all that was said: the heads, type uses, identifiers and labels of a body only
-/// grow at their ends. Of a head, the identifiers behind `else` and `end` come later.
+/// One more kept token, and the end, leave all that was said: the heads, type uses, identifiers and labels of a body
+/// only grow at their ends. Of a head, the identifiers behind `else` and `end` come later.
 pub fn what_was_said_stays()
     ensures token { (d : BodyDraft) (r : Role) (w : Word) → Grows (body_of d) (body_of (take d r w)) }
     ensures end { (d : BodyDraft) → Grows (body_of d) (ended d) }

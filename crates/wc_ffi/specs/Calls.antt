@@ -26,7 +26,8 @@ IsUntouched old new needed = (new ≡ old) × (needed ≡ 0)
 pub record Normalises (input old new : List ℕ) (needed status : ℕ) : Type 0 where
   pub done : status ≡ 0 → (b : List ℕ) × HasAnswer input b × (needed ≡ length b) × (length b ≤ length old)
       × (new ≡ in_front b old)
-  pub short : status ≡ 3 → (b : List ℕ) × HasAnswer input b × (needed ≡ length b) × (length old < length b) × (new ≡ old)
+  pub short : status ≡ 3
+      → (b : List ℕ) × HasAnswer input b × (needed ≡ length b) × (length old < length b) × (new ≡ old)
   pub refused : status ≡ 1 → ((f : Refusal) × HasFault input f) × IsUntouched old new needed
   pub memory : status ≡ 2 → IsUntouched old new needed
 

@@ -120,7 +120,8 @@ fn global_by<'a>(
 
 impl<'a> FieldDraft<'a> {
     ghost use Rattle.wc_fields.specs.Standard.Finished.{finished, type_field, import_field, func_field, table_field};
-    ghost use Rattle.wc_fields.specs.Standard.Finished.{memory_field, global_field, export_field, elem_field, data_field};
+    ghost use Rattle.wc_fields.specs.Standard.Finished.{memory_field, global_field, export_field};
+    ghost use Rattle.wc_fields.specs.Standard.Finished.{elem_field, data_field};
     ghost use Rattle.wc_fields.specs.Standard.Finished.{start_field};
 
     /// The field. The error is want of memory.

@@ -1,6 +1,7 @@
 //! The local index space of a function.
 
-ghost use Rattle.std.specs.Prelude.{◌≡◌, ◌<◌, ◌+◌, ◌++◌, ◌∷◌, [], ◌^◌, ℕ, List, Option, Some, IfOk, OnOk, length, drop, ◌≤◌};
+ghost use Rattle.std.specs.Prelude.{◌≡◌, ◌<◌, ◌+◌, ◌++◌, ◌∷◌, [], ◌^◌, ℕ, List, Option};
+ghost use Rattle.std.specs.Prelude.{Some, IfOk, OnOk, length, drop, ◌≤◌};
 ghost use Rattle.wc_spaces.specs.Kept.Spaces.{IsSpace, size_of};
 ghost use Rattle.wc_surface.specs.Standard.WrittenLocals.{locals_of, written_out};
 ghost use Rattle.wc_declared.specs.Standard.Spaces.{texts, text_in};

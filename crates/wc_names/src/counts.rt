@@ -9,8 +9,8 @@ ghost use Rattle.wc_names.specs.Kept.Counted.{AtMost};
 use wc_declared::SpaceKind;
 use wc_surface::{Field, ImportDesc};
 
-/// How many functions, tables, memories and globals are declared before a field (Core 1.0, 6.6.1): the next one has that
-/// number for its index.
+/// How many functions, tables, memories and globals are declared before a field (Core 1.0, 6.6.1): the next one has
+/// that number for its index.
 #[derive(Clone, Copy, Debug, PartialEq, Eq)]
 pub struct Counts {
     pub funcs: u32,

@@ -97,8 +97,8 @@ fn resolve_fields<'a>(alloc: Global, surface: &'a Surface<'a>) -> Result<Module,
 
 /// The module that a text denotes (Core 1.0, 6.6.13): numbers stand in place of identifiers, each type use is the index
 /// of its type, each inline form is the fields that it stands for, and defaults are written out. The error is the first
-/// fault, or want of memory. Declarations are judged first, then type uses, and then what else is named: the fault is that
-/// of the first of these stages that has one, there the one of the least token.
+/// fault, or want of memory. Declarations are judged first, then type uses, and then what else is named: the fault is
+/// that of the first of these stages that has one, there the one of the least token.
 pub fn resolve<'a>(alloc: Global, surface: &'a Surface<'a>) -> Result<Module, NameFault>
     ensures ok { IfOk result (Names surface.now) }
     ensures only { (m : ModuleValue) → Names surface.now m

@@ -21,4 +21,5 @@ line_items m = mark_items (λ p. below 4 p) m
 
 -- where the marks that are left are put behind these bytes, each on a line, all are put behind the old ones
 abbrev pub LeavesLines : (left all : List (Mark Instr BlockType)) (out old : List ℕ) → Type 0
-LeavesLines left all out old = Leaves (flat_map (mark_items (λ p. below 4 p)) left) (flat_map (mark_items (λ p. below 4 p)) all) out old
+LeavesLines left all out old =
+    Leaves (flat_map (mark_items (λ p. below 4 p)) left) (flat_map (mark_items (λ p. below 4 p)) all) out old

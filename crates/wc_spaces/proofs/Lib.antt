@@ -1,6 +1,7 @@
 pub mod Positions
 pub mod FirstStays
 pub mod Numbers
+pub mod Settling
 pub mod Declaring
 pub mod Least
 pub mod Opening

@@ -2,6 +2,7 @@
 //! the list of types; and the fault of the least token.
 #![tactic(auto)]
 
+mod directory;
 mod labels;
 mod law;
 mod noted;

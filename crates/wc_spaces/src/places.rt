@@ -27,7 +27,7 @@ pub struct Places<'a> {
 
 /// The number of a text. Two texts that nobody chose for it hardly ever have the same.
 #[inline(always)]
-fn number_of(text: &[u8]) -> u64
+pub(crate) fn number_of(text: &[u8]) -> u64
     ensures { result ≡ number_in text.now }
 {
     let mut number = 0u64;
@@ -52,7 +52,7 @@ fn put_back<'a>(firsts: &mut BTreeMap<u64, Placed<'a>>, number: u64, first: Plac
 impl<'a> Places<'a> {
     ghost use Rattle.std.specs.Prelude.{◌≡◌, ℕ, List, Some, None, IfOk, OnOk, OnErr, not, true, is_some, if◌then◌else◌};
     ghost use Rattle.std.specs.Str.{bytes_eq};
-    ghost use Rattle.wc_spaces.specs.Kept.Places.{place_in, IsBeside};
+    ghost use Rattle.wc_spaces.specs.Kept.Places.{number_in, place_in, IsBeside};
 
     /// No text has a place. It takes no memory.
     pub fn new(alloc: Global) -> Places<'a>
@@ -64,15 +64,23 @@ impl<'a> Places<'a> {
         }
     }
 
+    /// The place of a text, whose number this is. It takes no memory.
+    #[inline(always)]
+    pub(crate) fn place_by(&self, number: u64, text: &[u8]) -> Option<u32>
+        ensures { number ≡ number_in text.now → result ≡ place_in self.now text.now }
+    {
+        match self.firsts.get(&number) {
+            Some(first) if first.text == text => Some(first.place),
+            _ => self.others.get(text).copied(),
+        }
+    }
+
     /// The place of a text. It takes no memory.
     #[inline(always)]
     pub fn place(&self, text: &[u8]) -> Option<u32>
         ensures { result ≡ place_in self.now text.now }
     {
-        match self.firsts.get(&number_of(text)) {
-            Some(first) if first.text == text => Some(first.place),
-            _ => self.others.get(text).copied(),
-        }
+        self.place_by(number_of(text), text)
     }
 
     /// From here on the text, whose number stands for no text or for another one, has this place. Tells the one that it

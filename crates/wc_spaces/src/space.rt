@@ -2,8 +2,8 @@
 
 ghost use Rattle.std.specs.Prelude.{◌≡◌};
 
+use crate::directory::Directory;
 use crate::noted::Noted;
-use crate::places::Places;
 use std::alloc::{AllocError, Global};
 
 /// What is declared in an index space (Core 1.0, 6.6.1), by its identifiers. A contract speaks of the list of
@@ -11,12 +11,13 @@ use std::alloc::{AllocError, Global};
 #[derive(Drop)]
 pub struct Space<'a> {
     // Of each identifier the place of its first declaration.
-    places: Places<'a>,
+    places: Directory<'a>,
     count: u32,
 }
 
 impl<'a> Space<'a> {
-    ghost use Rattle.std.specs.Prelude.{◌≡◌, ◌<◌, ◌+◌, ◌^◌, ℕ, List, Option, Some, None, [], ◌∷◌, ◌++◌, OnOk, replicate};
+    ghost use Rattle.std.specs.Prelude.{◌≡◌, ◌<◌, ◌+◌, ◌^◌, ℕ, List, Option, Some, None, [], ◌∷◌, ◌++◌, replicate};
+    ghost use Rattle.std.specs.Prelude.{IfOk, OnOk};
     ghost use Rattle.wc_spaces.specs.Kept.Spaces.{IsSpace, size_of};
     ghost use Rattle.wc_spaces.specs.Standard.Least.{least_from};
     ghost use Rattle.wc_spaces.specs.Standard.Spaces.{place_of, duplicate};
@@ -26,9 +27,21 @@ impl<'a> Space<'a> {
         ensures { IsSpace [] result }
     {
         Space {
-            places: Places::new(alloc),
+            places: Directory::new(alloc),
             count: 0,
         }
+    }
+
+    /// Nothing is declared, and about so many identifiers are to come. Of more or fewer, too, each is found: of so many
+    /// nearly each at once. The error is want of memory.
+    pub fn with_room(alloc: Global, identifiers: usize) -> Result<Space<'a>, AllocError>
+        ensures space { IfOk result (IsSpace []) }
+        ensures size { IfOk result (λ space. size_of space ≡ 0) }
+    {
+        Ok(Space {
+            places: Directory::with_room(alloc, identifiers)?,
+            count: 0,
+        })
     }
 
     /// One more is declared, with no identifier. It takes no memory.

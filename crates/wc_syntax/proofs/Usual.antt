@@ -202,11 +202,17 @@ index-leads : (q p : Place) (f : Frame) (deep : Bool) (k : Kind) → behind_inde
     → step q f deep k ≡ keeping role.Index (On p)
 index-leads place.Index p f deep kind.Natural32 e =
     let h : place.Done ≡ p = cc in ap (λ (x : Place). keeping role.Index (On x)) h
+index-leads place.Index p f deep kind.Id e =
+    let h : place.Done ≡ p = cc in ap (λ (x : Place). keeping role.Index (On x)) h
 index-leads place.Index p f deep _ e = absurd cc
 index-leads place.FirstIndex p f deep kind.Natural32 e =
     let h : place.Indices ≡ p = cc in ap (λ (x : Place). keeping role.Index (On x)) h
+index-leads place.FirstIndex p f deep kind.Id e =
+    let h : place.Indices ≡ p = cc in ap (λ (x : Place). keeping role.Index (On x)) h
 index-leads place.FirstIndex p f deep _ e = absurd cc
 index-leads place.Indices p f deep kind.Natural32 e =
+    let h : place.Indices ≡ p = cc in ap (λ (x : Place). keeping role.Index (On x)) h
+index-leads place.Indices p f deep kind.Id e =
     let h : place.Indices ≡ p = cc in ap (λ (x : Place). keeping role.Index (On x)) h
 index-leads place.Indices p f deep _ e = absurd cc
 index-leads _ p f deep k e = absurd cc

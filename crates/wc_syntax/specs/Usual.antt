@@ -82,8 +82,11 @@ is_held _ = false
 -- the place behind the number of an index
 abbrev pub behind_index : Place → Kind → Option Place
 behind_index place.Index kind.Natural32 = Some place.Done
+behind_index place.Index kind.Id = Some place.Done
 behind_index place.FirstIndex kind.Natural32 = Some place.Indices
+behind_index place.FirstIndex kind.Id = Some place.Indices
 behind_index place.Indices kind.Natural32 = Some place.Indices
+behind_index place.Indices kind.Id = Some place.Indices
 behind_index _ _ = None
 
 -- a number of a constant, of 32 bits

@@ -1,5 +1,5 @@
-//! The tests of what no clause and no row of `wc_rows` says, over public items: readers and writers that fail, memory that
-//! is given back, sizes, and the lines of the program.
+//! The tests of what no clause and no row of `wc_rows` says, over public items: readers and writers that fail, memory
+//! that is given back, sizes, and the lines of the program.
 #![tactic(auto)]
 
 #[cfg(test)]

@@ -23,6 +23,38 @@ fn a_name_has_the_place_of_its_first_declaration(rt: HostRuntime) -> Result<(), 
     Ok(())
 }
 
+/// What is told of three texts in a space with room for so many: the places of `$a`, of two more of one number, and of
+/// `$b`, which isn't declared, and the token that is noted where the third is declared again.
+fn places_with_room(
+    alloc: Global,
+    room: usize,
+) -> Result<([Option<u32>; 4], Option<u32>), AllocError> {
+    let one = alike(alloc, false)?;
+    let other = alike(alloc, true)?;
+    let mut noted = Noted::nothing();
+    let mut space = Space::with_room(alloc, room)?;
+    space.add_named(3, b"$a", 2u8, &mut noted)?;
+    space.add_named(5, one.as_slice(), 2u8, &mut noted)?;
+    space.add_named(7, other.as_slice(), 2u8, &mut noted)?;
+    space.add_named(9, other.as_slice(), 2u8, &mut noted)?;
+    let places = [
+        space.place(b"$a"),
+        space.place(one.as_slice()),
+        space.place(other.as_slice()),
+        space.place(b"$b"),
+    ];
+    Ok((places, noted.first.map(|fault| fault.token)))
+}
+
+#[test]
+fn names_are_found_whatever_the_room(rt: HostRuntime) -> Result<(), Fail> {
+    let found = ([Some(0), Some(1), Some(2), None], Some(9));
+    assert!(rt; places_with_room(rt.alloc(), 0)? == found);
+    assert!(rt; places_with_room(rt.alloc(), 1)? == found);
+    assert!(rt; places_with_room(rt.alloc(), 1000)? == found);
+    Ok(())
+}
+
 /// The token that is noted where `$a` stands at the first of these tokens, and then at the others.
 fn noted_of(alloc: Global, first: u32, second: u32, third: u32) -> Result<Option<u32>, AllocError> {
     let mut noted = Noted::nothing();
@@ -95,8 +127,8 @@ fn a_text_has_the_place_that_was_put(rt: HostRuntime) -> Result<(), Fail> {
     Ok(())
 }
 
-/// A text of `a` and `b` in the order of Thue and Morse, or the one with the letters exchanged. The two are told apart by
-/// one number, so that only the texts themselves tell which is which.
+/// A text of `a` and `b` in the order of Thue and Morse, or the one with the letters exchanged. The two are told apart
+/// by one number, so that only the texts themselves tell which is which.
 fn alike(alloc: Global, exchanged: bool) -> Result<Vec<u8>, AllocError> {
     let mut text = Vec::new(alloc);
     for place in 0..1024u32 {

@@ -45,6 +45,9 @@ open-is k text o e h = subst (λ (x : TokenKind). TokenIs x text o) e h
 close-is : (k : TokenKind) (text : List ℕ) (o : Symbol) → k ≡ token.Close → TokenIs k text o → o ≡ bare kind.Close
 close-is k text o e h = subst (λ (x : TokenKind). TokenIs x text o) e h
 
+id-is : (k : TokenKind) (text : List ℕ) (o : Symbol) → k ≡ token.Id → TokenIs k text o → o ≡ bare kind.Id
+id-is k text o e h = subst (λ (x : TokenKind). TokenIs x text o) e h
+
 no-bytes : (k l : TokenKind) (text : List ℕ) → k ≡ l → StandsFor l text [] → StandsFor k text []
 no-bytes k l text e h = subst (λ (x : TokenKind). StandsFor x text []) (sym e) h
 
@@ -77,3 +80,15 @@ pub said-word : {ts : List Lexeme} {n : ℕ} {s : Standing} {d : TextDraft} (w :
     → d' ≡ take_by r (kept_token n o t.text) [] d → IsSaid ts (n + 1) s' d'
 said-word w t rest o r s' d' e k h i q =
     said-kept w t rest o r [] s' d' e h i (no-bytes t.kind token.Word t.text k refl) q
+
+pub said-id : {ts : List Lexeme} {n : ℕ} {s : Standing} {d : TextDraft} (w : IsSaid ts n s d) (t : Lexeme)
+    (rest : List Lexeme)
+    (o : Symbol) (r : Role) (s' : Standing) (d' : TextDraft) → drop n ts ≡ t ∷ rest → t.kind ≡ token.Id
+    → TokenIs t.kind t.text o
+    → IsRead nesting_limit (w.kinds ++ kind.Id ∷ []) (w.es ++ kept_as (Some r) n kind.Id) s'
+    → d' ≡ take_by r (kept_token n o t.text) [] d → IsSaid ts (n + 1) s' d'
+said-id {ts} {n} w t rest o r s' d' e k h i q =
+    let c : o.kind ≡ kind.Id = ap (λ (x : Symbol). x.kind) (id-is t.kind t.text o k h) in
+    said-kept w t rest o r [] s' d' e h
+    (subst (λ (x : Kind). IsRead nesting_limit (w.kinds ++ x ∷ []) (w.es ++ kept_as (Some r) n x) s') (sym c) i)
+    (no-bytes t.kind token.Id t.text k refl) q

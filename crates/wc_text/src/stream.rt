@@ -19,7 +19,8 @@ use wc_surface::Surface;
 use wc_syntax::{Reading, SynWhy};
 use wc_tokens::Lexer;
 
-/// The first fault of a text of whose tokens this is the first that the grammar refuses: what is left may have no tokens.
+/// The first fault of a text of whose tokens this is the first that the grammar refuses: what is left may have no
+/// tokens.
 #[cold]
 #[inline(never)]
 fn ungrammatical(lexer: &Lexer<'_>, token: u64, why: SynWhy) -> TextRefusal

@@ -167,6 +167,29 @@ fn take_string<'a>(
     take_any(alloc, reading, draft, at, token, symbol)
 }
 
+/// An identifier.
+#[inline(always)]
+fn take_id<'a>(
+    alloc: Global,
+    reading: &mut Reading,
+    draft: &mut TextDraft<'a>,
+    at: usize,
+    token: &Token<'a>,
+) -> Result<(), SynFault>
+    requires few { at < 2 ^ 32 }
+    requires form { HasForm token.now.kind token.now.text.now }
+    requires kind { token.now.kind ≡ tokens.Id }
+    ensures said { OnOk result (SaysMore (lexeme_of token.now) at reading.old draft.old reading.new draft.new) }
+    ensures fault { IfErr result (Refuses (lexeme_of token.now) at reading.old draft.old) }
+{
+    let symbol = bare(Kind::Id);
+    if reading.take_index(Kind::Id) {
+        keep(draft, Role::Index, at, symbol, token.text)?;
+        return Ok(());
+    }
+    take_any(alloc, reading, draft, at, token, symbol)
+}
+
 /// A token.
 #[inline(always)]
 pub(crate) fn take_token<'a>(
@@ -184,7 +207,7 @@ pub(crate) fn take_token<'a>(
     match token.kind {
         TokenKind::Open => take_open(alloc, reading, draft, at, token),
         TokenKind::Close => take_close(alloc, reading, draft, at, token),
-        TokenKind::Id => take_any(alloc, reading, draft, at, token, bare(Kind::Id)),
+        TokenKind::Id => take_id(alloc, reading, draft, at, token),
         TokenKind::Word => take_word(alloc, reading, draft, at, token),
         TokenKind::Str => take_string(alloc, reading, draft, at, token),
     }

@@ -1,7 +1,7 @@
 //! Words of a text, token by token.
 //!
-//! Each function takes one more word, the token of this number. The error is the first fault, or want of memory. Names of
-//! instructions and numbers, of which there are most, are told from each other first.
+//! Each function takes one more word, the token of this number. The error is the first fault, or want of memory. Names
+//! of instructions and numbers, of which there are most, are told from each other first.
 
 ghost use Rattle.std.specs.Prelude.{◌≡◌, ◌<◌, ◌^◌, IfErr, OnOk};
 ghost use Rattle.wc_tokens.specs.Standard.Lexemes.{HasForm};

@@ -1,7 +1,8 @@
 //! Sections (Core 1.0, 5.5.2 to 5.5.14).
 
 ghost use Rattle.std.specs.Prelude.{◌≡◌};
-ghost use Rattle.wc_binary.specs.Standard.Sections.{skip as skip_phrase, custom as custom_phrase, start as start_phrase};
+ghost use Rattle.wc_binary.specs.Standard.Sections.{skip as skip_phrase, custom as custom_phrase};
+ghost use Rattle.wc_binary.specs.Standard.Sections.{start as start_phrase};
 ghost use Rattle.wc_binary.specs.Standard.Sections.{content as content_phrase, id_of, put as put_in};
 ghost use Rattle.wc_binary.specs.Standard.Values.{sized as sized_phrase};
 ghost use Rattle.wc_binary.specs.Reading.Source.{Gives};

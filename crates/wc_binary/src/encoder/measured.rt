@@ -1,5 +1,5 @@
-//! What has canonical bytes. Nothing is laid out to be counted: the number of bytes is told first, and then the bytes are
-//! written once, where they stand in the module.
+//! What has canonical bytes. Nothing is laid out to be counted: the number of bytes is told first, and then the bytes
+//! are written once, where they stand in the module.
 
 ghost use Rattle.std.specs.Prelude.{ℕ, List as Seq, length};
 ghost use Rattle.wc_body.specs.Standard.ValueBytes.{vector_bytes, FitsVector};

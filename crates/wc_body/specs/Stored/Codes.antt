@@ -37,6 +37,7 @@ module _ {P H : Type 0} where
   of_mark_choice (inr (inl k)) = head k.0 k.1
   of_mark_choice (inr (inr n)) = bare n
 
+  -- a mark is that of its choice
   pub mark-back : (m : Mark P H) → of_mark_choice (mark_choice m) ≡ m
   mark-back (plain p) = refl
   mark-back (begin block h) = refl

@@ -40,6 +40,7 @@ of_choice (inr (inr (inr (inr (inl ty))))) = CallIndirect ty
 of_choice (inr (inr (inr (inr (inr (inl n)))))) = I32Const n
 of_choice (inr (inr (inr (inr (inr (inr n)))))) = I64Const n
 
+-- an instruction is that of its choice
 pub choice-back : (i : Instr) → of_choice (choice_of i) ≡ i
 choice-back (Simple op) = refl
 choice-back (Index op i) = refl

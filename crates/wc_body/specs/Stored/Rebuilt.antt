@@ -7,18 +7,21 @@ use Rattle.wc_body.specs.Standard.Draft.{Frame, in_region, in_then, in_else, Dra
 use Rattle.wc_body.specs.Standard.Draft.{open_marks, upto}
 
 module _ {P H : Type 0} where
+  -- nothing joined behind instructions leaves them as they are
   pub append-empty : (is : Code P H) → is ⧺ empty ≡ is
   append-empty empty = refl
   append-empty (op p next) = ap (λ (x : Code P H). op p x) (append-empty next)
   append-empty (region r h inside next) = ap (λ (x : Code P H). region r h inside x) (append-empty next)
   append-empty (choice h one two next) = ap (λ (x : Code P H). choice h one two x) (append-empty next)
 
+  -- of three rows of instructions it makes no difference which two are joined first
   pub append-assoc : (is js ks : Code P H) → (is ⧺ js) ⧺ ks ≡ is ⧺ (js ⧺ ks)
   append-assoc empty js ks = refl
   append-assoc (op p next) js ks = ap (λ (x : Code P H). op p x) (append-assoc next js ks)
   append-assoc (region r h inside next) js ks = ap (λ (x : Code P H). region r h inside x) (append-assoc next js ks)
   append-assoc (choice h one two next) js ks = ap (λ (x : Code P H). choice h one two x) (append-assoc next js ks)
 
+  -- read behind a first part, the marks of an else part and its end make the if whole
   second_part : (before : Code P H) (h : H) (one two : Code P H) (around : List (Frame P H)) (after : List (Mark P H))
       → ((d : Draft P H) (after : List (Mark P H)) → steps d (flat two after) ≡ steps
       (draft d.around (d.last ⧺ two)) after)
@@ -47,10 +50,11 @@ module _ {P H : Type 0} where
       ∙ steps-flat (draft d.around (d.last ⧺ choice h one two empty)) next after
       ∙ rw append-assoc refl
 
+  -- the marks of instructions build them, and leave nothing open
   pub built_flatten : (is : Code P H) → built (flatten is) ≡ whole is
   built_flatten is = steps-flat (whole empty) is []
 
-  -- the marks of a draft build it
+  -- reading the marks of what is open opens it
   pub steps-front : (around : List (Frame P H)) (after : List (Mark P H))
       → steps (whole empty) (open_marks around after) ≡ steps (draft around empty) after
   steps-front [] after = refl
@@ -63,5 +67,6 @@ module _ {P H : Type 0} where
       ∙ steps-flat (draft around empty) before (begin_if h ∷ flat first (otherwise ∷ after))
       ∙ steps-flat (draft (in_then before h ∷ around) empty) first (otherwise ∷ after)
 
+  -- the marks of a draft build it
   pub built_upto : (d : Draft P H) → built (upto d []) ≡ d
   built_upto d = steps-front d.around (flat d.last []) ∙ steps-flat (draft d.around empty) d.last []

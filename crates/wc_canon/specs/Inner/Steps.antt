@@ -9,7 +9,8 @@ use Rattle.wc_canon.specs.declared.fault.RunFault.{RunFault}
 use Rattle.wc_canon.specs.Input.{is_binary, Denotes, KeepsRules, BreaksFirst}
 use Rattle.wc_canon.specs.Run.{Judges, RefusesNear}
 
--- a module that is refused is refused so: by the first rule that it breaks, or where it breaks none and no bytes spell it
+-- a module that is refused is refused so: by the first rule that it breaks, or where it breaks none and no bytes spell
+-- it
 abbrev pub IsModuleFault : Module → Refusal → Type 0
 IsModuleFault m (Binary at why) = ⊥
 IsModuleFault m (Lex at why) = ⊥

@@ -1,6 +1,6 @@
--- The module that the fields of a text denote, and the first fault of their names (Core 1.0, 6.6.13). Names are judged in
--- three stages: declarations, types, and then what instructions, exports, the start function and segments name. Of the
--- first stage with a fault the one of the least token counts.
+-- The module that the fields of a text denote, and the first fault of their names (Core 1.0, 6.6.13). Names are judged
+-- in three stages: declarations, types, and then what instructions, exports, the start function and segments name. Of
+-- the first stage with a fault the one of the least token counts.
 use Rattle.std.specs.Prelude.{◌≡◌, ℕ, List, ◌++◌, Option, Some, None}
 use Rattle.wc_ast.specs.declared.module.Module.{Module}
 use Rattle.wc_spaces.specs.declared.noted.Fault.{Fault}

@@ -27,7 +27,8 @@ field_exports all c (field.Func f) = exported_as exported.Func c.funcs f.exports
 field_exports all c (field.Table f) = exported_as exported.Table c.tables f.exports
 field_exports all c (field.Memory f) = exported_as exported.Memory c.memories f.exports
 field_exports all c (field.Global f) = exported_as exported.Global c.globals f.exports
-field_exports all c (field.Export f) = export f.kind (named_index (declared_in (space_kind f.kind) all) f.index) f.name ∷ []
+field_exports all c (field.Export f) =
+    export f.kind (named_index (declared_in (space_kind f.kind) all) f.index) f.name ∷ []
 field_exports all c _ = []
 
 -- the exports of a text

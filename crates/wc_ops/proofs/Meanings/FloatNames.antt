@@ -10,7 +10,7 @@ use Rattle.wc_ops.specs.declared.op.MemOp.{MemOp}
 use Rattle.wc_ops.specs.declared.op.MemOp.TheVariants.{I32Load}
 use Rattle.wc_ops.specs.Standard.Opcodes.{row}
 use Rattle.wc_ops.specs.Standard.NameMeaning.{IsOpName, is_float_name}
-use Rattle.wc_ops.specs.Reading.NameSlots.{IsNamed}
+use Rattle.wc_ops.specs.Standard.NameMeaning.{IsNamed}
 use Rattle.wc_ops.specs.declared.op.OpName.TheVariants.{Known}
 
 simple-no_float : (op : SimpleOp) → is_float_name (row (Simple op)).name ≡ false

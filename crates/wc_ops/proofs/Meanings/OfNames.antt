@@ -13,7 +13,8 @@ use Rattle.wc_ops.specs.declared.op.MemOp.TheVariants.{I32Load}
 use Rattle.wc_ops.specs.declared.op_of_name.TheConstants.{OPCODES}
 use Rattle.wc_ops.specs.Standard.Opcodes.{row}
 use Rattle.wc_ops.specs.Standard.ByteMeaning.{IsOpByte}
-use Rattle.wc_ops.specs.Reading.NameSlots.{slot, IsNamed}
+use Rattle.wc_ops.specs.Standard.NameMeaning.{IsNamed}
+use Rattle.wc_ops.specs.Reading.NameSlots.{slot}
 
 -- the opcode at the slot of a word
 abbrev pub at_slot : List ℕ → ℕ

@@ -5,20 +5,23 @@ use Rattle.wc_ops.specs.declared.val_type.ValType.TheVariants.{I32, I64}
 use Rattle.wc_ast.specs.declared.func_type.FuncType.{FuncType}
 use Rattle.wc_surface.specs.Standard.Keys.{func_type, key_of}
 
+-- the value type of its byte (Core 1.0, 5.3.1): 0x7F is i32, and any other one stands for i64
 abbrev pub byte_type : ℕ → ValType
 byte_type b = if b == 0x7F then I32 else I64
 
--- the types before the zero, and those behind it
+-- the parameters: the types before the zero, or all where there is none
 abbrev pub params_in : List ℕ → List ValType
 params_in [] = []
 params_in (zero ∷ bytes) = []
 params_in (suc b ∷ bytes) = byte_type (suc b) ∷ params_in bytes
 
+-- the results: the types behind the zero, or none
 abbrev pub results_in : List ℕ → List ValType
 results_in [] = []
 results_in (zero ∷ bytes) = map byte_type bytes
 results_in (suc b ∷ bytes) = results_in bytes
 
+-- the function type of this key; bytes that are no key have one too
 abbrev pub keyed : List ℕ → FuncType
 keyed bytes = func_type (params_in bytes) (results_in bytes)
 

@@ -6,5 +6,6 @@ pub record Identifier : Type 0 where
   pub token : ℕ
   pub text : List ℕ
 
+-- the identifier of these bytes, at the token of this number
 abbrev pub identifier : ℕ → List ℕ → Identifier
 identifier token text = record { token = token; text = text }

@@ -13,6 +13,7 @@ abbrev pub type_byte : ValType → ℕ
 type_byte I32 = 0x7F
 type_byte I64 = 0x7E
 
+-- the bytes of value types, one for each
 abbrev pub type_bytes : List ValType → List ℕ
 type_bytes ts = map type_byte ts
 

@@ -23,14 +23,17 @@ use_size u = 1 + length u.signature.params
 abbrev pub body_size : TextBody → ℕ
 body_size b = sum_by use_size b.uses
 
+-- the type use of an import, which only one of a function has
 abbrev pub import_size : ImportDesc → ℕ
 import_size (import.Func u) = use_size u
 import_size _ = 0
 
+-- the declared locals and the type uses of a function that is no import
 abbrev pub func_size : FuncDesc → ℕ
 func_size (func.Import names) = 0
 func_size (func.Code locals body) = length locals + body_size body
 
+-- the type uses in the first value of a global that is no import
 abbrev pub global_size : GlobalDesc → ℕ
 global_size (global.Import names) = 0
 global_size (global.Init body) = body_size body
@@ -52,10 +55,12 @@ inner_size (field.Data f) = body_size f.offset
 abbrev pub field_size : Field → ℕ
 field_size f = 1 + inner_size f
 
+-- how many functions are listed inside a table (Core 1.0, 6.6.6)
 abbrev pub table_inline : TableDesc → ℕ
 table_inline (table.Elems funcs) = length funcs
 table_inline _ = 0
 
+-- how many bytes stand inside a memory (Core 1.0, 6.6.7)
 abbrev pub memory_inline : MemoryDesc → ℕ
 memory_inline (memory.Bytes bytes) = length bytes
 memory_inline _ = 0

@@ -6,6 +6,7 @@ use Rattle.wc_surface.specs.Standard.Identifiers.{Identifier}
 use Rattle.wc_surface.specs.declared.local.Local.{Local}
 use Rattle.wc_surface.specs.declared.local.LocalGroup.{LocalGroup}
 
+-- the local of this identifier, if any, and this type, which is the token of this number (Core 1.0, 6.6.5)
 abbrev pub local : Option Identifier → ValType → ℕ → Local
 local id ty token = record { id = id; ty = ty; token = token }
 
@@ -14,6 +15,7 @@ abbrev pub locals_from : Option Identifier → ValType → ℕ → ℕ → List 
 locals_from id ty token zero = []
 locals_from id ty token (suc count) = local id ty token ∷ locals_from id ty (suc token) count
 
+-- the locals that a group stands for: as many as it counts, from its token on
 abbrev pub locals_of : LocalGroup → List Local
 locals_of g = locals_from g.id g.ty g.token g.count
 

@@ -130,8 +130,8 @@ fn behind_index(place: Place, kind: Kind) -> Option<Place>
     ensures { result ≡ behind_index place kind }
 {
     match (place, kind) {
-        (Place::Index, Kind::Natural32) => Some(Place::Done),
-        (Place::FirstIndex | Place::Indices, Kind::Natural32) => Some(Place::Indices),
+        (Place::Index, Kind::Natural32 | Kind::Id) => Some(Place::Done),
+        (Place::FirstIndex | Place::Indices, Kind::Natural32 | Kind::Id) => Some(Place::Indices),
         _ => None,
     }
 }
@@ -279,7 +279,7 @@ impl Reading {
         false
     }
 
-    /// The number of an index.
+    /// The number or the identifier of an index.
     #[inline(always)]
     pub fn take_index(&mut self, kind: Kind) -> bool
         ensures read { result ≡ true → (limit at : ℕ) (ks : List TokenKind) (es : List Event)

@@ -1,10 +1,16 @@
-use Rattle.std.proofs.Common.{sym, ◌∙◌}
-use Rattle.std.proofs.lemmas.Slice.Eq.{bytes_eq-Decides}
-use Rattle.wc_words.specs.Names.{instruction}
-use Rattle.wc_words.specs.Words.{known, name}
+use Rattle.std.proofs.Common.{List, ℕ, Option, Some, None, IfSome, refl}
+use Rattle.wc_ops.specs.declared.op.Op.{Op}
+use Rattle.wc_ops.specs.Standard.NameMeaning.{IsNamed}
+use Rattle.wc_words.specs.declared.symbol.Value.TheVariants.{Instruction}
+use Rattle.wc_words.specs.Names.{instruction, op_kind}
+use Rattle.wc_words.specs.Symbols.{valued}
+use Rattle.wc_words.specs.Words.{WordIs, known, name}
 use Rattle.wc_words.proofs.usual.usual_name.Goals as goal
 
-pub returns-then-eq : goal.returns-then-eq
-returns-then-eq c =
-    known (name (instruction c.in-Known.op
-    (sym c.name.ensures ∙ (bytes_eq-Decides c.name.result.now c.args.word.now).0 (sym c.eq.ensures ∙ c.if-eq.true))))
+says : (word : List ℕ) (found : Option Op) → IsNamed word found
+    → IfSome found (λ op. WordIs word (valued (op_kind op) (Instruction op)))
+says word None h = tt
+says word (Some op) h = known (name (instruction op ((h op).0 refl)))
+
+pub returns : goal.returns
+returns c = says _ _ c.named.ensures

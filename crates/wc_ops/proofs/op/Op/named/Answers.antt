@@ -6,7 +6,7 @@ use Rattle.wc_ops.specs.declared.op_of_name.TheConstants.{OPCODES}
 use Rattle.wc_ops.specs.Standard.ByteMeaning.{IsOpByte}
 use Rattle.wc_ops.specs.Reading.NameSlots.{slot}
 use Rattle.wc_ops.proofs.Meanings.OfNames.{is-named, is-other, is-none}
-use Rattle.wc_ops.proofs.op_of_name.named.Goals as goal
+use Rattle.wc_ops.proofs.op.Op.named.Goals as goal
 
 pub returns-then-eq : goal.returns-then-eq
 returns-then-eq c =
