@@ -3,8 +3,8 @@
 pub mod bytes;
 pub mod feed;
 
-ghost use Rattle.std.specs.Prelude.{◌≡◌, ◌+◌, ℕ, min, OnOk};
-ghost use Rattle.wc_binary.specs.Reading.Source.{Input, NextGives, TakesBehind, Passes};
+ghost use Rattle.std.specs.Prelude.{◌≡◌, ◌≤◌, ◌+◌, ◌↔◌, ℕ, min, OnOk, IsSome, IfSome};
+ghost use Rattle.wc_binary.specs.Reading.Source.{Input, NextGives, TakesBehind, Passes, AreAhead};
 
 use crate::fault::BinFault;
 pub use bytes::Bytes;
@@ -30,6 +30,11 @@ pub trait Source {
     fn take(&mut self, most: usize, out: &mut Vec<u8>) -> Result<(), AllocError>
         ensures taken { TakesBehind most (input self.old) (input self.new) out.old.items out.new.items result }
         ensures amount { OnOk result ((input self.new).place ≡ (input self.old).place + min most (at_hand self.old)) };
+
+    /// The next `count` bytes, where so many are at hand. None is taken or read.
+    fn ahead(&self, count: usize) -> Option<&[u8]>
+        ensures ahead { IfSome result (λ bytes. AreAhead (input self.now) count bytes.now) }
+        ensures variant { IsSome result ↔ (count ≤ at_hand self.now) };
 
     /// Drops the bytes that are at hand, but at most `most`, and answers how many. Nothing is read for that.
     fn pass(&mut self, most: u64) -> u64

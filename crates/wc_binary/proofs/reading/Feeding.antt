@@ -4,7 +4,7 @@ use Rattle.std.proofs.Common.{append_assoc, sym, ◌∙◌, ap, subst, arith}
 use Rattle.std.specs.List.{AllByRecursion}
 use Rattle.wc_binary.specs.Standard.Values.{IsByte}
 use Rattle.std.proofs.lemmas.List.{length-take-le, take-append-drop, drop-take, drop-drop, take-take, length-drop}
-use Rattle.std.proofs.lemmas.List.{length-append, take_at, drop_at}
+use Rattle.std.proofs.lemmas.List.{length-append, take_at, drop_at, take-append-le}
 
 -- the first of the bytes that lie in the buffer, and those behind them
 pub pending-split : (buffer : List ℕ) (at end n k : ℕ) → k ≡ n → at + n ≤ end → end ≤ length buffer
@@ -42,4 +42,20 @@ pending-dropped buffer at end n k same le within are after left is =
       omega (arith, sum, split.0),
       sym (ap (drop n) whole ∙ drop_at first behind n split.0),
       subst (AllByRecursion IsByte) (sym (ap (take n) whole ∙ take_at first behind n split.0)) are,
+    )
+
+-- the first of the bytes that lie in the buffer are the next ones
+pub pending-ahead : (buffer : List ℕ) (at end count : ℕ) (bytes : List ℕ) → at ≤ end → end ≤ length buffer
+    → count ≤ end - at → bytes ≡ take count (take (end - at) (drop at buffer))
+    → (length bytes ≡ count) × ((after : List ℕ) → bytes ≡ take count (drop at (take end buffer) ++ after))
+pending-ahead buffer at end count bytes ordered within has are =
+    let rest = take (end - at) (drop at buffer) in
+    let sum : end ≡ at + (end - at) = omega (arith, ordered) in
+    let pending : drop at (take end buffer) ≡ rest =
+    ap (λ e. drop at (take e buffer)) sum ∙ drop-take at (end - at) buffer in
+    let long : length rest ≡ end - at =
+    length-take-le (end - at) (drop at buffer) (rw (length-drop at buffer) (omega (arith, ordered, within))) in
+    let le : count ≤ length rest = omega (arith, long, has) in (
+      rw are (length-take-le count rest le),
+      λ after. rw (are, pending) (sym (take-append-le count rest after le)),
     )

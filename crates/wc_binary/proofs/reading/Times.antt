@@ -10,7 +10,7 @@ use Rattle.wc_binary.specs.declared.fault.BinFault.{BinFault}
 use Rattle.wc_binary.specs.declared.fault.BinWhy.TheVariants.{End}
 use Rattle.wc_binary.specs.Standard.Phrase.{Halt, halt, Phrase, byte, ◌>>=◌}
 use Rattle.wc_binary.specs.Reading.Reading.{Got, got, fault, ◌and_then◌, read}
-use Rattle.wc_binary.specs.Reading.Source.{Input, NextGives, Takes, Passes, Fails, Gave}
+use Rattle.wc_binary.specs.Reading.Source.{Input, NextGives, Takes, Passes, AreAhead, Fails, Gave}
 use Rattle.wc_binary.specs.Standard.Values.{times, any_byte, exactly, only, IsByte}
 use Rattle.wc_binary.specs.declared.fault.BinWhy.{BinWhy}
 use Rattle.wc_binary.specs.Standard.Sections.{skip}
@@ -119,6 +119,28 @@ times-bytes first count old mid new total so_far bytes le takes = record {
         ∙ s.1 c (within-before mid.place new.place c takes.0.forward within),
   );
 }
+
+-- all that are wanted, taken at once
+pub times-taken : (old new : Input) (bytes : List ℕ) (n : ℕ) → length bytes ≡ n → Takes old new bytes
+    → Gave old new (Ok bytes) (λ x. read (times n any_byte) old.place x)
+times-taken old new bytes n long takes = (
+  takes.0,
+  λ w.
+      let e = takes.2 w in
+      let none : n - length bytes ≡ 0 = omega (arith, long) in
+      let there = behind-bytes bytes n old.place new.left (omega (arith, long)) takes.3 in
+      (e.0, rw (e.1, there, none, takes.1) (rw append-nil refl)),
+)
+
+-- the bytes that were ahead are those that were dropped
+pub ahead-taken : (old new : Input) (bytes : List ℕ) (count dropped : ℕ) → dropped ≡ count
+    → AreAhead old count bytes → Passes count old new dropped → Takes old new bytes
+ahead-taken old new bytes count dropped all ahead passes = (
+  passes.0,
+  rw ahead.0 (passes.2 ∙ ap (λ n. old.place + n) all),
+  λ w. let e = passes.3 w in (e.0, rw (ahead.1 w, e.2, all) (sym (take-append-drop count old.left))),
+  ahead.2,
+)
 
 -- no byte, where more are wanted
 pub times-end : (first : List ℕ) (count : ℕ) (old mid : Input) (total : List ℕ → Result (Got (List ℕ)) Halt)

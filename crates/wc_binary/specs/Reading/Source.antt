@@ -82,6 +82,11 @@ Takes old new bytes =
     GoesOn old new × (new.place ≡ old.place + length bytes)
     × (IsTrue old.known → IsTrue new.known × (old.left ≡ bytes ++ new.left)) × AllByRecursion IsByte bytes
 
+-- these so many bytes are the next ones
+abbrev pub AreAhead : Input → ℕ → List ℕ → Type 0
+AreAhead i count bytes =
+    (length bytes ≡ count) × (IsTrue i.known → bytes ≡ take count i.left) × AllByRecursion IsByte bytes
+
 -- at most so many bytes were taken, and put behind those before
 abbrev pub TakesBehind : {E : Type 0} → ℕ → Input → Input → List ℕ → List ℕ → Result (Unit {0}) E → Type 0
 TakesBehind most old new before after (Ok u) =

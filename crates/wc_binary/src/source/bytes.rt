@@ -56,6 +56,13 @@ impl Source for Bytes<'_> {
         Ok(())
     }
 
+    fn ahead(&self, count: usize) -> Option<&[u8]> {
+        let left = &self.bytes[self.at..];
+        let bytes = left.get(..count)?;
+        are_bytes(bytes);
+        Some(bytes)
+    }
+
     fn pass(&mut self, most: u64) -> u64 {
         let count = most.min((self.bytes.len() - self.at) as u64);
         are_bytes(&self.bytes[self.at..self.at + count as usize]);

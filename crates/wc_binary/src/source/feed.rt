@@ -67,6 +67,13 @@ impl<R: Read> Source for Feed<'_, R> {
         Ok(())
     }
 
+    fn ahead(&self, count: usize) -> Option<&[u8]> {
+        let left = &self.buffer[self.at..self.end];
+        let bytes = left.get(..count)?;
+        are_bytes(bytes);
+        Some(bytes)
+    }
+
     fn pass(&mut self, most: u64) -> u64 {
         let count = most.min((self.end - self.at) as u64);
         are_bytes(&self.buffer[self.at..self.at + count as usize]);

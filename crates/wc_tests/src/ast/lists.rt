@@ -60,6 +60,6 @@ fn names_give_back_their_text(rt: HostRuntime) -> Result<(), Fail> {
     let name = Name::from_string(String::from_str(rt.alloc(), "größe")?);
     let copy = name.try_clone()?;
     assert_eq!(rt; copy.as_str(), "größe");
-    assert_eq!(rt; copy.into_string().len(), 7);
+    assert_eq!(rt; copy.as_str().len(), 7);
     Ok(())
 }
