@@ -22,7 +22,7 @@ use Rattle.wc_canon.specs.declared.fault.Refusal.TheVariants.{Binary, Lex, Synta
 use Rattle.wc_canon.specs.Inner.Faults.{reading_refusal, checking_refusal, encoding_refusal}
 use Rattle.wc_canon.specs.Input.{is_binary, Denotes, KeepsRules, BreaksFirst, IsAccepted, Means, HasAnswer, HasFault, IsRefused}
 use Rattle.wc_canon.specs.Printing.{HasText}
-use Rattle.wc_canon.specs.Inner.Steps.{IsModuleFault}
+use Rattle.wc_canon.specs.Inner.Steps.{IsModuleFault, IsSized}
 use Rattle.wc_canon.proofs.Laws.{denotes-binary, denoted-means, has-answer, has-text-fault, has-broken-rule}
 use Rattle.wc_canon.proofs.Laws.{has-oversize, answer-canonical, meant-or-fault, never-both, one-fault}
 
@@ -81,6 +81,11 @@ pub binary-accepted : {V : Type 0} (r : Result V Refusal) (x : List ℕ) (m : Mo
     → OnOk r (KeepsRules m) → IfOk r (λ v. Means x m)
 binary-accepted (Ok v) x m e p k = binary-meant x m e p k
 binary-accepted (Err f) x m e p k = tt
+
+pub text-accepted : {V : Type 0} (r : Result V Refusal) (x : List ℕ) (m : Module) → Denotes x m
+    → OnOk r (KeepsRules m) → OnOk r (IsSized false m) → IfOk r (λ v. Means x m)
+text-accepted (Ok v) x m p k z = denoted-means x z.0 m p k z.1
+text-accepted (Err f) x m p k z = tt
 
 pub module-refuses : {V : Type 0} (r : Result V Refusal) (x : List ℕ) (m : Module) → Denotes x m
     → IfErr r (IsModuleFault m) → IfErr r (IsRefused x)

@@ -80,11 +80,6 @@ pub printed : (a : Option (List ℕ)) (m : Module) (s : Bool) (b t : List ℕ)
 printed None m s b t p k q e = (b, has-text b t m (denoted-means b b m (canon-denotes b m q) k q) e)
 printed (Some x) m s b t p k q e = has-text x t m (denoted-means x b m p.0 k q) e
 
--- of a module with canonical bytes nothing is left to ask
-pub sized : (s : Bool) (b : List ℕ) (m : Module) → Canon b m → IsSized s m
-sized true b m q = tt
-sized false b m q = (b, q)
-
 pub accepts : (a : Option (List ℕ)) (m : Module) (s : Bool) → IfSome a (λ x. Denotes x m × (s ≡ is_binary x))
     → KeepsRules m → IsSized s m → IfSome a IsAccepted
 accepts None m s p k z = tt

@@ -1,14 +1,14 @@
 //! The canonical bytes of a module that breaks no rule.
 
-ghost use Rattle.std.specs.Prelude.{IfOk, IfErr, OnOk};
+ghost use Rattle.std.specs.Prelude.{IfOk, IfErr, OnOk, false};
 ghost use Rattle.wc_binary.specs.Standard.Module.{Canon, IsShortestOf};
 ghost use Rattle.wc_canon.specs.Input.{KeepsRules};
-ghost use Rattle.wc_canon.specs.Inner.Steps.{IsModuleFault};
+ghost use Rattle.wc_canon.specs.Inner.Steps.{IsModuleFault, IsSized};
 
 use crate::fault::Refusal;
 use std::alloc::Global;
 use wc_ast::Module;
-use wc_binary::encode;
+use wc_binary::{encode, encoded_length};
 use wc_check::check;
 
 /// That the module breaks no rule.
@@ -18,6 +18,19 @@ pub(crate) fn judge_module(alloc: Global, module: &Module) -> Result<(), Refusal
 {
     check(alloc, module)?;
     Ok(())
+}
+
+/// That the module breaks no rule, and that some bytes spell it. They are measured, and not written.
+pub(crate) fn judge_spelled(alloc: Global, module: &Module) -> Result<(), Refusal>
+    ensures keeps { OnOk result (KeepsRules «module».now) }
+    ensures spelled { OnOk result (IsSized false «module».now) }
+    ensures err { IfErr result (IsModuleFault «module».now) }
+{
+    judge_module(alloc, module)?;
+    match encoded_length(module) {
+        Some(_) => Ok(()),
+        None => Err(Refusal::Oversize),
+    }
 }
 
 /// The canonical bytes of the module, where it breaks no rule.

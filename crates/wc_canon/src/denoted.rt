@@ -3,7 +3,7 @@
 ghost use Rattle.std.specs.Prelude.{◌≡◌, IfOk, IfErr, true, false};
 ghost use Rattle.wc_canon.specs.Input.{is_binary as begins_with_zero, Denotes, Means, IsRefused};
 
-use crate::canonical::{canonical_bytes, judge_module};
+use crate::canonical::{judge_module, judge_spelled};
 use crate::fault::Refusal;
 use std::alloc::Global;
 use wc_ast::Module;
@@ -66,8 +66,7 @@ fn judge(alloc: Global, input: &[u8], module: &Module) -> Result<(), Refusal>
     if is_binary(input) {
         return judge_module(alloc, module);
     }
-    canonical_bytes(alloc, module)?;
-    Ok(())
+    judge_spelled(alloc, module)
 }
 
 /// The module of an input that is accepted, or else the first fault of the input.

@@ -11,7 +11,7 @@ ghost use Rattle.wc_canon.specs.Run.{ReadsCut, is_read_fault, is_write_fault};
 ghost use Rattle.wc_canon.specs.Inner.Steps.{IsModuleFault, IsSized};
 ghost use Rattle.std.specs.String.{string_bytes};
 
-use crate::canonical::{canonical_bytes, judge_module};
+use crate::canonical::{canonical_bytes, judge_module, judge_spelled};
 use crate::fault::{Refusal, RunFault};
 use crate::from_reader::read_module;
 use std::alloc::Global;
@@ -55,8 +55,7 @@ fn judge(alloc: Global, binary: bool, module: &Module) -> Result<(), Refusal>
     if binary {
         return judge_module(alloc, module);
     }
-    canonical_bytes(alloc, module)?;
-    Ok(())
+    judge_spelled(alloc, module)
 }
 
 /// Ok exactly where `normalise_from` has an answer, without making it.
@@ -103,6 +102,6 @@ pub fn text_from<R: Read>(alloc: Global, r: &mut Device<R>) -> Result<String, Ru
     ensures memory { ¬ (IsErrOf result (RunFault.Refused refusals.Memory)) }
 {
     let found = read_module(alloc, r)?;
-    canonical_bytes(alloc, &found.0)?;
+    judge_spelled(alloc, &found.0)?;
     Ok(text_of(alloc, &found.0)?)
 }

@@ -1,6 +1,5 @@
-use Rattle.std.proofs.Common.{sym, ◌∙◌}
-use Rattle.wc_canon.proofs.Laws.{denoted-means}
-use Rattle.wc_canon.proofs.Judged.{if-error, binary-accepted, module-refuses, module-refused}
+use Rattle.std.proofs.Common.{sym}
+use Rattle.wc_canon.proofs.Judged.{binary-accepted, text-accepted, module-refuses}
 use Rattle.wc_canon.proofs.denoted.judge.Goals as goal
 
 pub returns-then-is_binary-clause-ok : goal.returns-then-is_binary-clause-ok
@@ -10,11 +9,9 @@ returns-then-is_binary-clause-ok c =
 pub returns-then-is_binary-clause-err : goal.returns-then-is_binary-clause-err
 returns-then-is_binary-clause-err c = module-refuses _ _ _ c.requires.denoted c.judge_module.ensures.err
 
-pub returns-in_err-canonical_bytes-clause-err : goal.returns-in_err-canonical_bytes-clause-err
-returns-in_err-canonical_bytes-clause-err c =
-    if-error _ _ _ c.from_residual.ensures.1
-    (module-refused _ _ _ c.requires.denoted c.in_err-canonical_bytes.ensures.err)
-
 pub returns-clause-ok : goal.returns-clause-ok
 returns-clause-ok c =
-    let e = c.in_ok-canonical_bytes.ensures in denoted-means _ _ _ c.requires.denoted e.keeps e.canonical
+    let e = c.judge_spelled.ensures in text-accepted _ _ _ c.requires.denoted e.keeps e.spelled
+
+pub returns-clause-err : goal.returns-clause-err
+returns-clause-err c = module-refuses _ _ _ c.requires.denoted c.judge_spelled.ensures.err
