@@ -1,6 +1,6 @@
 //! The elements of strings that most strings are made of: a byte that stands for itself, and a byte by two digits.
 
-ghost use Rattle.std.specs.Prelude.{◌≡◌, ◌+◌, ◌<◌, ◌≤◌, ℕ, List, [], ◌∷◌, IsTrue, IfSome, length, take, drop};
+ghost use Rattle.std.specs.Prelude.{◌≡◌, ◌+◌, ◌<◌, ◌≤◌, ℕ, List, [], ◌∷◌, IsTrue, IfSome, length, take, drop, slice_index};
 ghost use Rattle.wc_tokens.specs.Standard.Digits.{IsDigit};
 ghost use Rattle.wc_tokens.specs.Standard.Strings.{IsPlain, Element, Elements, EndsElements};
 ghost use Rattle.wc_tokens.specs.Reading.Simple.{IsSimple, IsSimpleAt};
@@ -87,12 +87,41 @@ struct Simple {
     len: usize,
 }
 
-/// The simple element at the front of a text.
+/// The simple element that begins with these bytes.
+// Which of the two it is can't be foretold in the bytes of a string, so it is computed, and not branched for.
+#[inline(always)]
+fn simple_of(first: u8, next: u8, last: u8) -> Option<Simple>
+    ensures within { IfSome result (λ s. s.len ≤ 3) }
+    ensures element { IfSome result (λ s. (rest : List ℕ)
+        → Element (take s.len (first ∷ next ∷ last ∷ rest)) (s.value ∷ [])) }
+{
+    let escape = first == b'\\';
+    let other = !(escape | is_plain(first));
+    let high = digit_of(next);
+    let low = digit_of(last);
+    if escape as u64 * (high / 16 + low / 16) + other as u64 != 0 {
+        return None;
+    }
+    let value = if escape {
+        (16 * high + low) as u8
+    } else {
+        first
+    };
+    Some(Simple {
+        value,
+        len: 1 + 2 * escape as usize,
+    })
+}
+
+/// The simple element at the front of a text. Of one or two bytes it is the plain one alone.
 #[inline(always)]
 fn simple_at(text: &[u8]) -> Option<Simple>
     ensures within { IfSome result (λ s. s.len ≤ length text.now) }
     ensures element { IfSome result (λ s. Element (take s.len text.now) (s.value ∷ [])) }
 {
+    if text.len() >= 3 {
+        return simple_of(text[0], text[1], text[2]);
+    }
     let (first, rest) = text.split_first()?;
     if is_plain(*first) {
         return Some(Simple {
@@ -100,18 +129,32 @@ fn simple_at(text: &[u8]) -> Option<Simple>
             len: 1,
         });
     }
-    if *first != b'\\' || rest.len() < 2 {
-        return None;
-    }
-    let high = digit_of(rest[0]);
-    let low = digit_of(rest[1]);
-    if high < 16 && low < 16 {
-        return Some(Simple {
-            value: (16 * high + low) as u8,
-            len: 3,
-        });
-    }
     None
+}
+
+/// Whether all these bytes stand for themselves.
+#[inline(always)]
+fn all_plain(bytes: &[u8]) -> bool
+    ensures { IsTrue result → (k : ℕ) → k < length bytes.now → IsPlain (slice_index bytes.now k) }
+{
+    let mut all = true;
+    for byte in bytes {
+        all &= is_plain(*byte);
+    }
+    all
+}
+
+/// How many bytes at the front stand for themselves, found in chunks.
+#[inline(always)]
+pub fn plain_chunks(text: &[u8]) -> usize
+    ensures within { result ≤ length text.now }
+    ensures plain { (k : ℕ) → k < result → IsPlain (slice_index text.now k) }
+{
+    let mut at = 0;
+    while text.len() - at >= CHUNK && all_plain(&text[at..at + CHUNK]) {
+        at += CHUNK;
+    }
+    at
 }
 
 /// Simple elements one after another: how long they are, and how many bytes they stand for.

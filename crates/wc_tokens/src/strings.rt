@@ -5,7 +5,7 @@ ghost use Rattle.wc_tokens.specs.Reading.Elements.{bytes_of};
 ghost use Rattle.wc_tokens.specs.Standard.Strings.{IsString};
 
 use crate::elements::{Meaning, read_element};
-use crate::simple::{ROOM, read_simple};
+use crate::simple::{ROOM, plain_chunks, read_simple};
 use crate::token::Token;
 use std::alloc::{AllocError, Global};
 
@@ -36,9 +36,11 @@ pub fn string_bytes(alloc: Global, token: &Token<'_>) -> Result<Vec<u8>, AllocEr
     let mut rest = &token.text.as_bytes()[1..];
     while let Some(element) = read_element(rest) {
         push_meaning(&mut bytes, element.meaning)?;
-        let run = read_simple(element.rest, &mut some);
+        let (plain, others) = element.rest.split_at(plain_chunks(element.rest));
+        bytes.extend_from_slice(plain)?;
+        let run = read_simple(others, &mut some);
         bytes.extend_from_slice(&some[..run.made])?;
-        rest = &element.rest[run.len..];
+        rest = &others[run.len..];
     }
     Ok(bytes)
 }

@@ -1,7 +1,12 @@
 -- Simple elements, and where the elements of a string end.
 use Rattle.std.proofs.Common.{◌≡◌, ◌≢◌, ℕ, zero, suc, ◌+◌, ◌-◌, ◌*◌, ◌<◌, ◌≤◌, List, [], ◌∷◌, ◌++◌, length, take, drop, get_or, set}
 use Rattle.std.proofs.Common.{Some, None, refl, sym, ap, subst, ◌∙◌, append_assoc, length-drop, inl, inr, lit≤, arith}
-use Rattle.std.proofs.lemmas.Bool.{cases_lt}
+use Rattle.std.proofs.Common.{◌/◌, Bool, true, false, not, ◌||◌, IsTrue}
+use mir.Val.{bool_byte}
+use Rattle.std.proofs.Math.Dec.{eqb}
+use Rattle.std.specs.List.{between}
+use Rattle.std.proofs.lemmas.List.Edits.{length-between, get_or-between}
+use Rattle.std.proofs.lemmas.Bool.{cases_lt, ne_eqb}
 use Rattle.std.proofs.lemmas.Bool.Decides.{nat_tests}
 use Rattle.std.proofs.lemmas.List.{take_rest}
 use Rattle.std.proofs.lemmas.Grind.{take-set_at}
@@ -115,16 +120,54 @@ EndsElements-simple (c ∷ text) (suc n) h rest e =
 pub Element-plain : (text rest : List ℕ) (c : ℕ) → text ≡ c ∷ rest → IsPlain c → Element (take 1 text) (c ∷ [])
 Element-plain text rest c e p = subst (λ (t : List ℕ). Element (take 1 t) (c ∷ [])) (sym e) (plain c p)
 
-pub Element-byte : (text rest : List ℕ) (c high low : ℕ) → text ≡ c ∷ rest → c ≡ 92 → 2 ≤ length rest
-    → high ≡ digit_of (get_or rest 0 0) → low ≡ digit_of (get_or rest 1 0) → high < 16 → low < 16
-    → Element (take 3 text) ((16 * high + low) ∷ [])
-Element-byte text [] c high low e b l h k m n = absurd (omega arith)
-Element-byte text (x ∷ []) c high low e b l h k m n = absurd (omega arith)
-Element-byte text (x ∷ y ∷ rest) c high low e b l h k m n =
-    let value : 16 * high + low ≡ 16 * digit_of x + digit_of y = omega (arith, h, k) in
-    let whole : text ≡ 92 ∷ x ∷ y ∷ rest = cc (e, b) in
-    subst (λ (t : List ℕ). Element (take 3 t) ((16 * high + low) ∷ [])) (sym whole)
-    (subst (λ (v : ℕ). Element (92 ∷ x ∷ y ∷ []) (v ∷ [])) (sym value) (byte x y (omega (arith, h, m)) (omega (arith, k, n))))
+-- what is computed of the three bytes: where the first one is a backslash, the others are digits, and else it is plain
+pub escape-digits : (first x : ℕ) (p : Bool) → first ≡ 92
+    → bool_byte (eqb first 92) * x + bool_byte (not (eqb first 92 || p)) ≡ 0 → x ≡ 0
+escape-digits first x p e h =
+    let same : bool_byte (eqb 92 92) * x + bool_byte (not (eqb 92 92 || p)) ≡ 0 =
+    subst (λ (c : ℕ). bool_byte (eqb c 92) * x + bool_byte (not (eqb c 92 || p)) ≡ 0) e h in
+    omega (arith, same)
+
+pub other-plain : (first x : ℕ) (p : Bool) → (first ≡ 92 → ⊥)
+    → bool_byte (eqb first 92) * x + bool_byte (not (eqb first 92 || p)) ≡ 0 → IsTrue p
+other-plain first x true differs h = refl
+other-plain first x false differs h =
+    let same : bool_byte false * x + bool_byte (not (false || false)) ≡ 0 = rw (ne_eqb first 92 differs) at h in
+    absurd (omega (arith, same))
+
+pub Element-digits : (high low h l : ℕ) → h ≡ digit_of high → l ≡ digit_of low → h / 16 + l / 16 ≡ 0
+    → Element (92 ∷ high ∷ low ∷ []) ((16 * h + l) ∷ [])
+Element-digits high low h l e f zeros =
+    let a : digit_of high < 16 = omega (arith, e, zeros) in
+    let b : digit_of low < 16 = omega (arith, f, zeros) in
+    rw (e, f) (byte high low a b)
+
+-- the first bytes are plain, and so are these many more
+pub plain-more : (text : List ℕ) (at : ℕ) → at + 16 ≤ length text → ((k : ℕ) → k < at → IsPlain (get_or text k 0))
+    → ((k : ℕ) → k < length (between at (at + 16) text) → IsPlain (get_or (between at (at + 16) text) k 0))
+    → (at + 16 ≤ length text) × ((k : ℕ) → k < at + 16 → IsPlain (get_or text k 0))
+plain-more text at fits before here = (
+  fits,
+  λ k lt. elim (cases_lt k at) [
+    | inl below ↦ before k below
+    | inr above ↦
+        let e : at + (k - at) ≡ k = omega (arith, above) in
+        let within : k - at < length (between at (at + 16) text) =
+        omega (arith, length-between text at (at + 16) fits, above, lt) in
+        let same : get_or (between at (at + 16) text) (k - at) 0 ≡ get_or text k 0 =
+        rw e at (get_or-between text at (at + 16) (k - at) 0 (omega (arith, above, lt))) in
+        rw same at (here (k - at) within)
+  ],
+)
+
+-- plain bytes stand for themselves
+pub Elements-plain : (text : List ℕ) (n : ℕ) → n ≤ length text → ((k : ℕ) → k < n → IsPlain (get_or text k 0))
+    → Elements (take n text) (take n text)
+Elements-plain text zero le h = none
+Elements-plain [] (suc n) le h = absurd (omega arith)
+Elements-plain (c ∷ text) (suc n) le h =
+    more (plain c (h 0 (omega arith)))
+    (Elements-plain text n (omega (arith, le)) (λ k l. h (suc k) (omega (arith, l))))
 
 -- one more behind those that were read
 pub Elements-simple : (text bytes : List ℕ) (len one made value : ℕ) → Elements (take len text) (take made bytes)
