@@ -6,6 +6,7 @@ pub mod SignedBytes
 pub mod UnsignedBytes
 pub mod Feeding
 pub mod Entries
+pub mod FrontEntries
 pub mod Times
 pub mod Sized
 pub mod Whole

@@ -11,6 +11,7 @@ mod integer;
 mod locals;
 mod module;
 mod name;
+mod pace;
 mod section;
 mod signed;
 mod types;

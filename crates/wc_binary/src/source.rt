@@ -3,7 +3,7 @@
 pub mod bytes;
 pub mod feed;
 
-ghost use Rattle.std.specs.Prelude.{◌≡◌, ◌≤◌, ◌+◌, ◌↔◌, ℕ, min, OnOk, IsSome, IfSome};
+ghost use Rattle.std.specs.Prelude.{◌≡◌, ◌≤◌, ◌+◌, ◌↔◌, ℕ, min, length, OnOk, IsSome, IfSome};
 ghost use Rattle.wc_binary.specs.Reading.Source.{Input, NextGives, TakesBehind, Passes, AreAhead};
 
 use crate::fault::BinFault;
@@ -35,6 +35,11 @@ pub trait Source {
     fn ahead(&self, count: usize) -> Option<&[u8]>
         ensures ahead { IfSome result (λ bytes. AreAhead (input self.now) count bytes.now) }
         ensures variant { IsSome result ↔ (count ≤ at_hand self.now) };
+
+    /// The bytes that are at hand, but at most `most`. None is taken or read.
+    fn front(&self, most: usize) -> &[u8]
+        ensures ahead { AreAhead (input self.now) (length result.now) result.now }
+        ensures amount { length result.now ≡ min most (at_hand self.now) };
 
     /// Drops the bytes that are at hand, but at most `most`, and answers how many. Nothing is read for that.
     fn pass(&mut self, most: u64) -> u64

@@ -3,3 +3,5 @@ pub mod DraftLaws
 pub mod BuildingLemmas
 pub mod NeedsLemmas
 pub mod BuilderLemmas
+pub mod FrontLemmas
+pub mod FrontRun

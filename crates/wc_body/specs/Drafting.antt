@@ -5,3 +5,5 @@ pub mod OpenParts
 pub mod NeededAlong
 pub mod PackedBody
 pub mod BodyRow
+pub mod AtFront
+pub mod FrontEntries

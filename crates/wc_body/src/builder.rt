@@ -1,6 +1,6 @@
 //! Bodies, entry by entry.
 
-ghost use Rattle.std.specs.Prelude.{◌≡◌, ◌<◌, true, length, OnOk, OnErr, IfErr};
+ghost use Rattle.std.specs.Prelude.{◌≡◌, ◌+◌, ◌<◌, ◌≤◌, ◌++◌, true, length, OnOk, OnErr, IfErr, vec_len, vec_capacity};
 ghost use Rattle.wc_body.specs.Drafting.OpenParts.{part_of};
 ghost use Rattle.wc_body.specs.Drafting.PackedBody.{with_end};
 ghost use Rattle.wc_body.specs.declared.builder.BuildFault.TheVariants.{Memory};
@@ -8,6 +8,7 @@ ghost use Rattle.wc_body.specs.declared.builder.BuildFault.TheVariants.{Memory};
 use crate::body::{Body, NESTING_LIMIT};
 use crate::bytes::put::{put_begin, put_instr};
 use crate::entry::{Entry, Kind};
+use crate::front::entry_front;
 use crate::instr::{BlockType, Instr};
 use crate::needs::Needs;
 use std::alloc::{AllocError, AllocFailed, Global};
@@ -48,7 +49,7 @@ impl<T: Drop> From<AllocFailed<T>> for BuildFault {
 
 /// Which part an open block, loop or if is in: the first part of an if, or any other.
 #[derive(Clone, Copy, Debug, PartialEq, Eq)]
-enum Part {
+pub(crate) enum Part {
     Other,
     Then,
 }
@@ -94,6 +95,7 @@ impl BodyBuilder {
     ghost use Rattle.wc_body.specs.Standard.Draft.{so_far, kept_with, whole, step, may_come, in_first_part};
     ghost use Rattle.wc_body.specs.Standard.Draft.{is_open, reach, IsTooDeep};
     ghost use Rattle.wc_body.specs.Standard.Entries.{mark, begin_of};
+    ghost use Rattle.wc_body.specs.Drafting.FrontEntries.{AddsFront};
     ghost use Rattle.wc_body.specs.declared.builder.BuildFault.TheVariants as faults;
 
     /// Nothing so far, in this memory.
@@ -243,6 +245,28 @@ impl BodyBuilder {
         self.put(entry)
     }
 
+    /// Adds the entries that these bytes begin with, as many as are usual, spelled as they are kept, and fit the memory
+    /// at hand; answers how many bytes these have. No end is added at which none is open.
+    pub fn push_front(&mut self, bytes: &[u8]) -> usize
+        ensures { AddsFront self.old self.new bytes.now result }
+    {
+        if self.after_else {
+            return 0;
+        }
+        let room = self.bytes.capacity() - self.bytes.len();
+        let fitting = &bytes[..room.min(bytes.len())];
+        let mut rest = fitting;
+        'entries: loop {
+            let Some(behind) = entry_front(rest, &mut self.needs, &mut self.parts) else {
+                break;
+            };
+            rest = behind;
+        }
+        let count = fitting.len() - rest.len();
+        append(&mut self.bytes, &fitting[..count]);
+        count
+    }
+
     /// The body of the entries that were kept, in order. It takes no memory, and gives back what was held for more
     /// entries, but for a few bytes. The error is `Mark`, where something is open.
     pub fn finish(self) -> Result<Body, BuildFault>
@@ -267,13 +291,21 @@ impl BodyBuilder {
     }
 }
 
-fn first_part_of(kind: Kind) -> Part
+pub(crate) fn first_part_of(kind: Kind) -> Part
     ensures { result ≡ part_of kind }
 {
     match kind {
         Kind::If => Part::Then,
         Kind::Block | Kind::Loop => Part::Other,
     }
+}
+
+/// Puts these bytes behind others, for which there is room.
+fn append(bytes: &mut Vec<u8>, more: &[u8])
+    requires { vec_len bytes.old + length more.now ≤ vec_capacity bytes.old }
+    ensures { bytes.new.items ≡ bytes.old.items ++ more.now }
+{
+    let _ = bytes.extend_from_slice(more);
 }
 
 /// Puts an end mark last; an else mark that stands last gives way to it.

@@ -10,6 +10,7 @@ pub mod builder;
 mod bytes;
 pub mod entries;
 pub mod entry;
+mod front;
 pub mod instr;
 pub mod labels;
 pub mod needs;

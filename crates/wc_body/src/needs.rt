@@ -1,11 +1,11 @@
 //! What instructions need of what is around them.
 
 ghost use Rattle.std.specs.Prelude.{◌≡◌};
-ghost use Rattle.wc_body.specs.Standard.Needed.{nothing, enough, with_simple, with_index, with_instr, with_block};
+ghost use Rattle.wc_body.specs.Standard.Needed.{nothing, enough, with_simple, with_index, with_access, with_instr, with_block};
 ghost use Rattle.wc_body.specs.Standard.Needed.{joined, own_of};
 
 use crate::instr::{BlockType, Instr};
-use wc_ops::{IndexOp, SimpleOp};
+use wc_ops::{IndexOp, MemOp, SimpleOp};
 
 /// What the instructions of a body need of the function and of the module around them, so that the rules on each of
 /// them hold (Core 1.0, 3.3). What is needed of an index space is a count: one more than the highest index, and
@@ -103,7 +103,7 @@ impl Needs {
     }
 
     #[inline(always)]
-    fn note_index(&mut self, enclosing: usize, op: IndexOp, index: u32)
+    pub(crate) fn note_index(&mut self, enclosing: usize, op: IndexOp, index: u32)
         ensures { self.new ≡ with_index self.old enclosing op index }
     {
         match op {
@@ -121,6 +121,15 @@ impl Needs {
         }
     }
 
+    /// One more access of memory, of this alignment.
+    #[inline(always)]
+    pub(crate) fn note_access(&mut self, op: MemOp, align: u32)
+        ensures { self.new ≡ with_access self.old op align }
+    {
+        self.memory = true;
+        self.over_aligned = self.over_aligned || op.natural_alignment() < align;
+    }
+
     /// One more instruction, which so many blocks enclose.
     #[inline(always)]
     pub(crate) fn note_instr(&mut self, enclosing: usize, instr: &Instr<'_>)
@@ -129,10 +138,7 @@ impl Needs {
         match *instr {
             Instr::Simple(op) => self.note_simple(op),
             Instr::Index(op, index) => self.note_index(enclosing, op, index),
-            Instr::Mem(op, arg) => {
-                self.memory = true;
-                self.over_aligned = self.over_aligned || op.natural_alignment() < arg.align;
-            }
+            Instr::Mem(op, arg) => self.note_access(op, arg.align),
             Instr::BrTable(default, ref labels) => {
                 let is_outer = labels.again().any_above(enclosing) || enclosing < default as usize;
                 self.outer_label = self.outer_label || is_outer;

@@ -70,7 +70,7 @@ freed-expression table f h plains heads b code s =
     (λ c t q. q) (λ c t q. q) (λ Q. tt) s.0 code s.4 in
     (s.0, s.1, s.2, s.3, inner, s.5)
 
-freed : {A : Type 0} (p : Phrase A) (b : List ℕ) (v : A) → SpellsBy canonical p b v → SpellsBy free p b v
+pub freed : {A : Type 0} (p : Phrase A) (b : List ℕ) (v : A) → SpellsBy canonical p b v → SpellsBy free p b v
 freed (gives w) b v h = h
 freed (byte table) b v h = h
 freed (unsigned N) b v h = h.0

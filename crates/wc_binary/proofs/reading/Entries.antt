@@ -67,10 +67,10 @@ no-entry d b at x h ends turns = go (nat_eq b 0x05) refl (nat_eq b 0x0B) refl
 
 -- ---- the loop
 
-abbrev Reading : Type 0
+abbrev pub Reading : Type 0
 Reading = Result (Got (Code Instr BlockType)) Halt
 
-abbrev all_marks : ℕ → Draft Instr BlockType → ℕ → List ℕ → Reading
+abbrev pub all_marks : ℕ → Draft Instr BlockType → ℕ → List ℕ → Reading
 all_marks n d o x = marks_at opcode (λ u q y. read (follows u) q y) (λ q y. read block_type q y) n d o x
 
 abbrev opcode_at : Result (Begun Op) BinWhy → ℕ → List ℕ → Result (Got (Mark Instr BlockType)) Halt

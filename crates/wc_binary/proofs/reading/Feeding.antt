@@ -1,6 +1,6 @@
 -- The bytes that a buffered reader hands over at once.
 use Rattle.std.proofs.Common.{◌≡◌, ℕ, suc, ◌+◌, ◌-◌, ◌≤◌, ◌<◌, List, [], ◌∷◌, ◌++◌, length, take, drop, get_or}
-use Rattle.std.proofs.Common.{append_assoc, sym, ◌∙◌, ap, subst, arith}
+use Rattle.std.proofs.Common.{append_assoc, refl, sym, ◌∙◌, ap, subst, arith}
 use Rattle.std.specs.List.{AllByRecursion}
 use Rattle.wc_binary.specs.Standard.Values.{IsByte}
 use Rattle.std.proofs.lemmas.List.{length-take-le, take-append-drop, drop-take, drop-drop, take-take, length-drop}
@@ -59,3 +59,13 @@ pending-ahead buffer at end count bytes ordered within has are =
       rw are (length-take-le count rest le),
       λ after. rw (are, pending) (sym (take-append-le count rest after le)),
     )
+
+-- the same where as many are taken as lie there
+pub pending-front : (buffer : List ℕ) (at end n k : ℕ) → k ≡ n → at + n ≤ end → end ≤ length buffer
+    → (after : List ℕ)
+    → take k (drop at buffer) ≡ take (length (take k (drop at buffer))) (drop at (take end buffer) ++ after)
+pending-front buffer at end n k same le within after =
+    let first = take k (drop at buffer) in
+    let split = pending-split buffer at end n k same le within in
+    sym (ap (take (length first)) (split.1 after)
+    ∙ take_at first (drop (at + n) (take end buffer) ++ after) (length first) refl)

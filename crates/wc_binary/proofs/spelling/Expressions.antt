@@ -31,7 +31,7 @@ in_style s = letters s.Neat opcode (λ u c i. SpellsBy s (follows u) c i) (λ c 
 
 -- ---- the pieces are canonical
 
-plain-begins : (i : Instr) → opcode (row (op_of i)).byte ≡ Ok (plain_op (op_of i))
+pub plain-begins : (i : Instr) → opcode (row (op_of i)).byte ≡ Ok (plain_op (op_of i))
 plain-begins (Simple o) = row-begins (ops.Simple o)
 plain-begins (Index o n) = row-begins (ops.Index o)
 plain-begins (Mem o arg) = row-begins (ops.Mem o)

@@ -10,13 +10,14 @@ use Rattle.wc_body.specs.declared.instr.BlockType.{BlockType}
 use Rattle.wc_body.specs.Standard.Nested.{Mark, block, loop, nesting_limit}
 use Rattle.wc_body.specs.Standard.Draft.{Draft, step, may_come, begins, in_first_part}
 use Rattle.wc_body.specs.Standard.Entries.{mark}
+use Rattle.wc_body.specs.Drafting.FrontEntries.{AddsFront}
 use Rattle.wc_binary.specs.declared.fault.BinFault.{BinFault}
 use Rattle.wc_binary.specs.declared.fault.BinWhy.{BinWhy}
 use Rattle.wc_binary.specs.Standard.Expression.{Begun, region_op, if_op, standing}
 use Rattle.wc_binary.specs.Standard.Phrase.{Halt}
 use Rattle.wc_binary.specs.Reading.Reading.{Got, read, is_last, behind_opcode}
 use Rattle.wc_binary.specs.Standard.Instructions.{opcode, follows, block_type}
-use Rattle.wc_binary.specs.Reading.Source.{Input, Fails, Gave}
+use Rattle.wc_binary.specs.Reading.Source.{Input, AreAhead, Passes, Fails, Gave}
 
 -- what a block, a loop or an if begins
 abbrev pub begun_by : Kind → Begun Op
@@ -54,6 +55,11 @@ MayStand d e =
 abbrev pub Keeps : Draft Instr BlockType → Entry → Draft Instr BlockType → Bool → Type 0
 Keeps d e after more =
     (more ≡ may_come d (mark e)) × (more ≡ true → after ≡ step d (mark e)) × (more ≡ false → after ≡ d)
+
+-- entries whose canonical bytes lay ahead were added, and these bytes passed
+abbrev pub AddsAhead : Draft Instr BlockType → Draft Instr BlockType → Input → Input → Type 0
+AddsAhead d after old new =
+    (bytes : List ℕ) × (n : ℕ) × AreAhead old (length bytes) bytes × AddsFront d after bytes n × Passes n old new n
 
 -- what was read behind an opcode that begins k was kept
 abbrev pub AddsNext :

@@ -8,7 +8,7 @@ ghost use Rattle.wc_body.specs.Standard.Entries.{mark};
 ghost use Rattle.wc_ops.specs.declared.op.Op.TheVariants as ops;
 ghost use Rattle.wc_ops.specs.declared.op.OpByte.TheVariants as bytes;
 ghost use Rattle.wc_binary.specs.Standard.Instructions.{opcode, begun_of, expr};
-ghost use Rattle.wc_binary.specs.Reading.NextMark.{begun_by, GivesEntry, MayStand, AddsNext};
+ghost use Rattle.wc_binary.specs.Reading.NextMark.{begun_by, GivesEntry, MayStand, AddsNext, AddsAhead};
 ghost use Rattle.wc_binary.specs.Reading.Source.{Gives};
 ghost use Rattle.wc_binary.specs.declared.fault.BinFault.TheVariants as faults;
 
@@ -17,8 +17,9 @@ use crate::decoder::from_source::FromSource;
 use crate::decoder::immediates::{
     block_type, br_table, call_indirect, i32_const, i64_const, index, memory, simple,
 };
+use crate::decoder::pace::Pace;
 use crate::fault::{BinFault, BinWhy, bad};
-use crate::source::Source;
+use crate::source::{BUFFER_SIZE, Source};
 use std::alloc::Global;
 use wc_ast::{
     Body, BodyBuilder, BuildFault, Entry, IndexOp, Kind, List, NESTING_LIMIT, Op, OpByte,
@@ -169,6 +170,19 @@ fn entry<S: Source>(
     }
 }
 
+/// Adds the entries that lie ahead, as many as the builder takes at once, where it is time to look for some.
+#[inline(always)]
+fn entries_ahead<S: Source>(pace: &mut Pace, builder: &mut BodyBuilder, source: &mut S)
+    ensures { AddsAhead builder.old builder.new (S.input source.old) (S.input source.new) }
+{
+    if !pace.is_due() {
+        return;
+    }
+    let count = builder.push_front(source.front(BUFFER_SIZE));
+    source.pass(count as u64);
+    pace.found(count);
+}
+
 /// The instructions up to the end at which none is open, in the memory of this builder, which has nothing so far.
 pub fn body_from<S: Source>(
     alloc: Global,
@@ -180,7 +194,9 @@ pub fn body_from<S: Source>(
 {
     let mut builder = builder;
     let mut labels = List::new(alloc);
+    let mut pace = Pace::new();
     'entries: loop {
+        entries_ahead(&mut pace, &mut builder, source);
         let at = source.place();
         let byte = any_byte(source)?;
         if !entry(alloc, byte, at, &mut builder, &mut labels, source)? {

@@ -63,6 +63,13 @@ impl Source for Bytes<'_> {
         Some(bytes)
     }
 
+    fn front(&self, most: usize) -> &[u8] {
+        let count = most.min(self.bytes.len() - self.at);
+        let bytes = &self.bytes[self.at..self.at + count];
+        are_bytes(bytes);
+        bytes
+    }
+
     fn pass(&mut self, most: u64) -> u64 {
         let count = most.min((self.bytes.len() - self.at) as u64);
         are_bytes(&self.bytes[self.at..self.at + count as usize]);

@@ -74,6 +74,13 @@ impl<R: Read> Source for Feed<'_, R> {
         Some(bytes)
     }
 
+    fn front(&self, most: usize) -> &[u8] {
+        let count = most.min(self.end - self.at);
+        let bytes = &self.buffer[self.at..self.at + count];
+        are_bytes(bytes);
+        bytes
+    }
+
     fn pass(&mut self, most: u64) -> u64 {
         let count = most.min((self.end - self.at) as u64);
         are_bytes(&self.buffer[self.at..self.at + count as usize]);

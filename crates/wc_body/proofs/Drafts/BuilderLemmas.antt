@@ -138,7 +138,7 @@ begin-parts d If t = refl
 
 -- ---- each kind of entry
 
-begin-needs : (n : Needs) (k : ℕ) (kind : Kind) (t : BlockType) → with_block n t ≡ with_mark n k (begin_of kind t)
+pub begin-needs : (n : Needs) (k : ℕ) (kind : Kind) (t : BlockType) → with_block n t ≡ with_mark n k (begin_of kind t)
 begin-needs n k Block t = refl
 begin-needs n k Loop t = refl
 begin-needs n k If t = refl

@@ -72,12 +72,12 @@ front-none x p h = go (unpacked x) refl p.same p.fits
 
 -- ---- one more entry
 
-packed-append : (es fs : List Entry) → packed (es ++ fs) ≡ packed es ++ packed fs
+pub packed-append : (es fs : List Entry) → packed (es ++ fs) ≡ packed es ++ packed fs
 packed-append [] fs = refl
 packed-append (e ∷ es) fs = ap (λ (z : List ℕ). entry_bytes e ++ z) (packed-append es fs)
     ∙ sym (append_assoc (entry_bytes e) (packed es) (packed fs))
 
-fits-append : (es : List Entry) (e : Entry) → AllByRecursion FitsEntry es → FitsEntry e
+pub fits-append : (es : List Entry) (e : Entry) → AllByRecursion FitsEntry es → FitsEntry e
     → AllByRecursion FitsEntry (es ++ e ∷ [])
 fits-append [] e all f = (f, tt)
 fits-append (d ∷ es) e all f = (all.0, fits-append es e all.1 f)

@@ -11,6 +11,7 @@ use Rattle.wc_body.specs.declared.needs.Needs.{Needs}
 use Rattle.wc_body.specs.declared.needs.OwnNeeds.{OwnNeeds}
 use Rattle.wc_ops.specs.declared.op.SimpleOp.{SimpleOp}
 use Rattle.wc_ops.specs.declared.op.SimpleOp.TheVariants.{MemorySize, MemoryGrow}
+use Rattle.wc_ops.specs.declared.op.MemOp.{MemOp}
 use Rattle.wc_ops.specs.declared.op.IndexOp.{IndexOp}
 use Rattle.wc_ops.specs.declared.op.IndexOp.TheVariants.{Br, BrIf, Call, LocalGet, LocalSet, LocalTee, GlobalGet}
 use Rattle.wc_ops.specs.declared.op.IndexOp.TheVariants.{GlobalSet}
@@ -57,12 +58,16 @@ with_index s enclosing GlobalGet n = record s { globals = enough s.globals n }
 with_index s enclosing GlobalSet n =
     record s { set_globals = enough s.set_globals n; lowest_set_global = min s.lowest_set_global n }
 
+-- it is an access of memory, of this alignment (3.3.4.1 to 3.3.4.4)
+abbrev pub with_access : Needs → MemOp → ℕ → Needs
+with_access s op align =
+    record s { memory = true; over_aligned = s.over_aligned || nat_lt (memory op).alignment align }
+
 -- none is nested in it (3.3.4, 3.3.5)
 abbrev pub with_instr : Needs → ℕ → Instr → Needs
 with_instr s enclosing (Simple op) = with_simple s op
 with_instr s enclosing (Index op n) = with_index s enclosing op n
-with_instr s enclosing (Mem op arg) =
-    record s { memory = true; over_aligned = s.over_aligned || nat_lt (memory op).alignment arg.align }
+with_instr s enclosing (Mem op arg) = with_access s op arg.align
 with_instr s enclosing (BrTable default labels) =
     record s { outer_label = s.outer_label || (list_any (λ n. nat_lt enclosing n) labels || nat_lt enclosing default) }
 with_instr s enclosing (CallIndirect t) = record s { types = enough s.types t; table = true }

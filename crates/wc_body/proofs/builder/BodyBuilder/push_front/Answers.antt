@@ -1,0 +1,39 @@
+use Rattle.std.proofs.Common.{◌<◌, length, refl, arith}
+use Rattle.wc_body.proofs.Drafts.FrontRun.{fronted-none, fronted-more, fronted-length, fronted-shorter, fronted-room}
+use Rattle.wc_body.proofs.Drafts.FrontRun.{fronted-kept, fronted-added}
+use Rattle.wc_body.proofs.builder.BodyBuilder.push_front.Goals as goal
+
+pub entries-init : goal.entries-init
+entries-init c =
+    (fronted-none _ _ _ _ _ (rw c.if-self.false at c.self.invariant) c.self.view_is, refl, c.if-self.false)
+
+pub entries-smaller : goal.entries-smaller
+entries-smaller c =
+    let h = c.in-Some.ensures.some in
+    let shorter : length c.in-Some.behind.now < length c.entries.rest.now = fronted-shorter _ _ h.0 h.1 in
+    shorter
+
+pub entries-preserved : goal.entries-preserved
+entries-preserved c =
+    let i = c.entries.invariant in
+    (fronted-more _ _ _ _ _ _ _ _ _ i.0 c.in-Some.ensures.some, i.1, i.2)
+
+pub overflow_sub-count : goal.overflow_sub-count
+overflow_sub-count c = omega (arith, fronted-length _ _ _ _ _ _ c.entries.invariant.0)
+
+pub append-requires : goal.append-requires
+append-requires c =
+    let i = c.entries.invariant in
+    let room = fronted-room _ _ c.args.bytes.now c.min.result _ _ _ i.0 in
+    rw i.1 (omega (arith, room, c.min.ensures, c.capacity.ensures, c.len.ensures))
+
+pub invariant_of-self : goal.invariant_of-self
+invariant_of-self c =
+    let i = c.entries.invariant in
+    let none = c.in_default.ensures.none refl in
+    rw (c.append.ensures, i.1, i.2, none.0, none.1) (fronted-kept _ _ c.args.bytes.now c.min.result _ _ _ i.0)
+
+pub returns : goal.returns
+returns c =
+    let i = c.entries.invariant in
+    rw (c.append.ensures, i.1) (fronted-added _ _ c.args.bytes.now c.min.result _ _ _ i.0)
