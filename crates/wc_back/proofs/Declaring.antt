@@ -143,9 +143,6 @@ NotLate fs = late_after false fs ≡ []
 abbrev NeverLate : List Field → Type 0
 NeverLate fs = (seen : Bool) → late_after seen fs ≡ []
 
-late-by : (b : Bool) (fs : List Field) → NeverLate fs → late_after b fs ≡ []
-late-by b fs h = h b
-
 none-late : (m : Module) → late_after false (text_fields m) ≡ []
 none-late m =
     over type_field type_signs NotLate (λ n x fs r. r) m.types _ (

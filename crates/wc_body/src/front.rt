@@ -3,7 +3,8 @@
 ghost use Rattle.std.specs.Prelude.{◌≡◌, ◌≤◌, ◌++◌, ◌∷◌, [], IsTrue, IfSome, IsNone};
 ghost use Rattle.wc_leb128.specs.Writing.Bytes.{unsigned_bytes};
 ghost use Rattle.wc_body.specs.Standard.ValueBytes.{Fits32};
-ghost use Rattle.wc_body.specs.Drafting.AtFront.{NotesIndex, NotesAccess, NotesBegin, NotesPlain, Notes, AreLast, IsSplit, IsBare, IsWholeType};
+ghost use Rattle.wc_body.specs.Drafting.AtFront.{NotesIndex, NotesAccess, NotesBegin, NotesPlain, Notes};
+ghost use Rattle.wc_body.specs.Drafting.AtFront.{AreLast, IsSplit, IsBare, IsWholeType};
 
 use crate::body::NESTING_LIMIT;
 use crate::builder::{Part, first_part_of};
@@ -28,7 +29,8 @@ fn unsigned_front(bytes: &[u8]) -> Option<(u32, &[u8])>
     Some((u32::from(*first - 128) + 128 * u32::from(*second), rest))
 }
 
-/// What follows the signed integer that the bytes begin with, where it has at most four bytes, and no more than it needs.
+/// What follows the signed integer that the bytes begin with, where it has at most four bytes, and no more than it
+/// needs.
 #[inline(always)]
 fn behind_signed(bytes: &[u8]) -> Option<&[u8]>
     ensures { IfSome result (λ rest. IsSplit bytes.now rest.now) }

@@ -1,8 +1,8 @@
 //! What instructions need of what is around them.
 
 ghost use Rattle.std.specs.Prelude.{◌≡◌};
-ghost use Rattle.wc_body.specs.Standard.Needed.{nothing, enough, with_simple, with_index, with_access, with_instr, with_block};
-ghost use Rattle.wc_body.specs.Standard.Needed.{joined, own_of};
+ghost use Rattle.wc_body.specs.Standard.Needed.{nothing, enough, with_simple, with_index, with_access};
+ghost use Rattle.wc_body.specs.Standard.Needed.{with_instr, with_block, joined, own_of};
 
 use crate::instr::{BlockType, Instr};
 use wc_ops::{IndexOp, MemOp, SimpleOp};

@@ -26,11 +26,6 @@ use Rattle.wc_canon.specs.Inner.Steps.{IsModuleFault, IsSized}
 use Rattle.wc_canon.proofs.Laws.{denotes-binary, denoted-means, has-answer, has-text-fault, has-broken-rule}
 use Rattle.wc_canon.proofs.Laws.{has-oversize, answer-canonical, meant-or-fault, never-both, one-fault}
 
--- what holds of the one error holds of the error
-pub at-error : {V E : Type 0} (r : Result V E) (e : E) (P : E → Type 0) → IsErrAnd r (λ f. f ≡ e) → P e → IsErrAnd r P
-at-error (Ok v) e P h p = absurd h
-at-error (Err f) e P h p = subst P (sym h) p
-
 pub if-error : {V E : Type 0} (r : Result V E) (e : E) (P : E → Type 0) → IsErrAnd r (λ f. f ≡ e) → P e → IfErr r P
 if-error (Ok v) e P h p = absurd h
 if-error (Err f) e P h p = subst P (sym h) p
@@ -50,11 +45,6 @@ pub broken-refusal : (m : Module) (e : CheckFault) → IsFirstOf (broken m) e �
 unfolding BreaksFirst
 broken-refusal m (Broken item why) p = p
 broken-refusal m NoMemoryToCheck p = tt
-
-pub oversize-refusal : (m : Module) (e : EncFault) → KeepsRules m → EncodesModule m (Err e)
-    → IsModuleFault m (encoding_refusal e)
-oversize-refusal m TooLarge k p = (k, p)
-oversize-refusal m NoMemoryToEncode k p = tt
 
 -- ---- a refusal of an input
 

@@ -174,16 +174,6 @@ near-read None count f (Err g) e h = tt
 near-read (Some u) count f (Err g) e h =
     subst (λ d. RefusesNear count d u) (sym h) (near-told-of-text count u f e)
 
--- nothing was read, and nothing is left
-pub nothing-near : {V : Type 0} (old new : Option (List ℕ)) (front : List ℕ) (count : ℕ) (r : Result V RunFault)
-    → Consumes old new front → IsAtEnd new → length front ≡ 0 → count ≡ 0 → ReadsNear 0 r [] → IfSome old (ReadsNear count r)
-nothing-near None new front count r c e z n p = tt
-nothing-near (Some x) None front count r c e z n p = absurd c
-nothing-near (Some x) (Some y) (b ∷ front) count r c e z n p = absurd (omega arith)
-nothing-near (Some x) (Some y) [] count r c e z n p =
-    let T : List ℕ → Type 0 = λ u. ReadsNear count r u in
-    let U : ℕ → Type 0 = λ k. ReadsNear k r [] in subst T (sym (c ∙ e)) (subst U (sym n) p)
-
 -- ---- a binary
 
 -- what holds of the front and what is left holds of all the bytes

@@ -61,15 +61,6 @@ added Keeps After start total noted now all from ds rest e w k f = record {
       ∙ ap (λ (x : List (Option Identifier)). least_from noted (repeated_after w.so_far x)) (sym e) ∙ w.faults);
 }
 
--- nothing is left
-pub finished-kept : (Keeps : List (Option (List ℕ)) → Type 0) (start : List (Option (List ℕ))) (total noted : Option (Fault NameWhy))
-    (all : List (Option Identifier)) → (w : Adding Keeps start total noted all []) → Keeps (start ++ texts all)
-finished-kept Keeps start total noted all w = rw (sym w.whole, append-nil) w.kept
-
-pub finished-faults : (Keeps : List (Option (List ℕ)) → Type 0) (start : List (Option (List ℕ))) (total noted : Option (Fault NameWhy))
-    (all : List (Option Identifier)) → (w : Adding Keeps start total noted all []) → noted ≡ total
-finished-faults Keeps start total noted all w = w.faults
-
 -- the declarations of the next field
 pub space-next : (k : SpaceKind) (fs : List Field) (i : ℕ) (f : Field) (ds : List (Option Identifier)) → i < length fs
     → f ≡ get_or fs i f → ds ≡ declares k f → space k (drop i fs) ≡ ds ++ space k (drop (i + 1) fs)

@@ -23,14 +23,6 @@ use Rattle.wc_declared.specs.Standard.Types.{import_uses, func_uses, global_uses
 use Rattle.wc_declared.specs.Standard.Types.{with_type, with_use, with_uses}
 use Rattle.wc_declared.proofs.Faults.{next}
 
--- the keys of the list with one more type
-pub keys-with : (ts : List FuncType) (f : FuncType) → map key_of (with_type ts f) ≡ keys.with_type (map key_of ts) (key_of f)
-keys-with ts f = by (is_some (type_index f ts))
-  where
-    by : (b : Bool) → map key_of (cond b ts (ts ++ f ∷ [])) ≡ cond b (map key_of ts) (map key_of ts ++ key_of f ∷ [])
-    by true = refl
-    by false = map-append key_of ts (f ∷ [])
-
 -- types behind others
 pub uses-append : (ts : List FuncType) (us vs : List TypeUse) → with_uses ts (us ++ vs) ≡ with_uses (with_uses ts us) vs
 uses-append ts [] vs = refl
@@ -51,12 +43,6 @@ listed-more total old new from us rest e w h = record {
   listed = h w.so_far w.listed;
   whole = sym (uses-append w.so_far us rest) ∙ ap (λ (x : List TypeUse). with_uses w.so_far x) (sym e) ∙ w.whole;
 }
-
-pub listed-all : (total : List FuncType) (types : Types) → Listing total types [] → AreTypes (map key_of total) types
-listed-all total types w = subst (λ (x : List FuncType). AreTypes (map key_of x) types) w.whole w.listed
-
-pub uses-next : (us : List TypeUse) (i : ℕ) (u : TypeUse) → i < length us → u ≡ get_or us i u → drop i us ≡ (u ∷ []) ++ drop (i + 1) us
-uses-next us i u lt e = next us i u lt ∙ ap (λ (x : TypeUse). x ∷ drop (i + 1) us) (sym e)
 
 pub fields-next : (fs : List Field) (i : ℕ) (f : Field) → i < length fs → f ≡ get_or fs i f
     → all_uses (drop i fs) ≡ uses_of f ++ all_uses (drop (i + 1) fs)

@@ -44,9 +44,6 @@ copies-next n k id lt =
     let e : n - k ≡ suc (n - (k + 1)) = omega (arith, lt) in
     ap (λ (m : ℕ). copies m id) e
 
-pub copies-none : (n : ℕ) (id : Identifier) → copies (n - n) id ≡ []
-copies-none n id = let e : n - n ≡ zero = omega arith in ap (λ (m : ℕ). copies m id) e
-
 pub same-copies : (id : Identifier) (ty : ValType) (token n : ℕ) → local_ids (locals_from (Some id) ty token n) ≡ copies n id
 same-copies id ty token zero = refl
 same-copies id ty token (suc n) = ap (λ (x : List (Option Identifier)). Some id ∷ x) (same-copies id ty (suc token) n)

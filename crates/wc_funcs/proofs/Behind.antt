@@ -123,9 +123,6 @@ params-next place count used after names lt e =
     ∙ ap (λ (n : ℕ). id_at place (drop used names) ∷ params_from n (count - (place + 1)) (behind place (drop used names))) p
     ∙ ap (λ (x : List ParamName). id_at place (drop used names) ∷ params_from (place + 1) (count - (place + 1)) x) (sym e)
 
-pub params-none : (place n : ℕ) (names : List ParamName) → params_from place (n - n) names ≡ []
-params-none place n names = let e : n - n ≡ zero = omega arith in ap (λ (m : ℕ). params_from place m names) e
-
 pub unnamed-params : (count : ℕ) (names : List ParamName) (space : Space) (ds : List (Option (List ℕ))) → true ≡ (length names == 0)
     → IsSpace (ds ++ replicate count None) space → IsSpace (ds ++ texts (params_from 0 count names)) space
 unnamed-params count [] space ds e w = subst (λ (x : List (Option (List ℕ))). IsSpace (ds ++ x) space) (none-named 0 count) w

@@ -26,15 +26,6 @@ pub import-count : (k : SpaceKind) (x : Field) (f : ImportField) (n : ℕ) → x
     → ((id : Option Identifier) → n ≡ length (brings k f.desc id)) → n ≡ length (declares k x)
 import-count k x f n e h = brought-count k f n h ∙ ap (λ (y : Field). length (declares k y)) (sym e)
 
--- before a field there are fewer than fields
-pub few-before : (n i : ℕ) (c : Counts) → n < 2 ^ 32 → i < n → AtMost i c → AtMost (2 ^ 32 - 2) c
-few-before n i c small lt w = record {
-  funcs = omega (arith, w.funcs);
-  tables = omega (arith, w.tables);
-  memories = omega (arith, w.memories);
-  globals = omega (arith, w.globals);
-}
-
 module _ {X : Type 0} (g : Counts → Field → List X) where
   pub along-more : (c d : Counts) (fs : List Field) (i : ℕ) (f : Field) (out new all : List X) → i < length fs → f ≡ get_or fs i f
       → d ≡ counts_after c f → new ≡ out ++ g c f

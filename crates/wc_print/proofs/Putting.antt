@@ -65,9 +65,6 @@ text-last items old new bytes (Err f) h is e = tt
 
 -- ---- loops
 
-pub leaves-all : (all : List Item) (old : List ℕ) → Leaves all all old old
-leaves-all all old = record { finish = λ new h. h }
-
 pub leaves-less : {first left all : List Item} {out mid old : List ℕ} → Put first out mid → Leaves (first ++ left) all out old
     → Leaves left all mid old
 leaves-less h k = record { finish = λ new p. k.finish new (chain h p) }
@@ -79,11 +76,6 @@ leaves-then h k = record { finish = λ new p. k.finish new (h.finish new p) }
 
 pub leaves-none : {all : List Item} {out old : List ℕ} → Leaves [] all out old → Put all old out
 leaves-none {out = out} k = k.finish out (nothing out)
-
-pub leaves-last : {R E : Type 0} {left all : List Item} {out old : List ℕ} (new : List ℕ) (r : Result R E)
-    → Leaves left all out old → OnOk r (Put left out new) → OnOk r (Put all old new)
-leaves-last new (Ok v) k h = k.finish new h
-leaves-last new (Err e) k h = tt
 
 drop-first : {A : Type 0} (xs : List A) (i : ℕ) (x d : A) → x ≡ get_or xs i d → i < length xs
     → drop i xs ≡ x ∷ drop (suc i) xs

@@ -1,6 +1,6 @@
-pub mod Printed
-pub mod Printable
-pub mod Lines
+pub mod Inner
 pub mod Layout
-pub mod Places
+pub mod Lines
+pub mod Printable
+pub mod Printed
 pub mod ReadAs

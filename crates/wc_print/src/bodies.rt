@@ -8,7 +8,7 @@ ghost use Rattle.wc_print.specs.Printed.{Printed, number, after, below, printed}
 ghost use Rattle.wc_print.specs.Printable.{IsSpelled, Put};
 ghost use Rattle.wc_print.specs.Lines.{block_items, number_items, offset_items, bytes_of, align_items, mark_items};
 ghost use Rattle.wc_print.specs.Lines.{told, expr_items};
-ghost use Rattle.wc_print.specs.Places.{item_at};
+ghost use Rattle.wc_print.specs.Inner.Places.{item_at};
 
 use crate::lines::{Row, head_line, index_line, memory_line, simple_line};
 use crate::numbers::{put_integer, put_natural, put_number};

@@ -12,7 +12,7 @@ ghost use Rattle.wc_body.specs.Standard.Short.{instruction};
 ghost use Rattle.wc_print.specs.Printed.{below, word, number, integer, after};
 ghost use Rattle.wc_print.specs.Printable.{Put};
 ghost use Rattle.wc_print.specs.Lines.{told, offset_items, body_items};
-ghost use Rattle.wc_print.specs.Places.{line_items, LeavesLines};
+ghost use Rattle.wc_print.specs.Inner.Places.{line_items, LeavesLines};
 
 use crate::bodies::{Place, put_entry};
 use crate::lines::{Row, head_line, index_line, memory_line, simple_line};
@@ -115,7 +115,8 @@ fn write_short(page: &mut [u8; PAGE], at: usize, short: Short) -> usize
 fn write_memory(page: &mut [u8; PAGE], at: usize, op: MemOp, offset: u8) -> usize
     requires { at + 48 ≤ 512 }
     ensures within { result ≤ 512 }
-    ensures put { Put (below 4 (word (memory op).name) ∷ offset_items offset) (take at page.old) (take result page.new) }
+    ensures put { Put (below 4 (word (memory op).name) ∷ offset_items offset)
+        (take at page.old) (take result page.new) }
 {
     let end = write_row(page, at, memory_line(op));
     if offset == 0 {

@@ -33,11 +33,3 @@ key-is f = ap key_of (key-back f)
 -- function types with one key are equal
 pub one-key : (f g : FuncType) → key_of f ≡ key_of g → f ≡ g
 one-key f g e = sym (key-back f) ∙ ap keyed e ∙ key-back g
-
-pub results-none : (ts : List ValType) → length ts ≡ 0 → result_bytes ts ≡ []
-results-none [] e = refl
-results-none (t ∷ ts) e = absurd (omega arith)
-
-pub results-some : (ts : List ValType) → 0 < length ts → result_bytes ts ≡ 0 ∷ type_bytes ts
-results-some [] e = absurd (omega arith)
-results-some (t ∷ ts) e = refl

@@ -9,8 +9,8 @@ use Rattle.wc_syntax.specs.declared.place.Move.{Move}
 use Rattle.wc_syntax.specs.declared.place.Move.TheVariants.{On, Past, Turn, Into, Out}
 use Rattle.wc_syntax.specs.declared.place.Action.{Action}
 use Rattle.wc_syntax.specs.Phrases.{Terminal, Phrase}
-use Rattle.wc_syntax.specs.Kinds.{all_terminals}
-use Rattle.wc_syntax.specs.Table.{leads_to, is_end, resume}
+use Rattle.wc_syntax.specs.Inner.Kinds.{all_terminals}
+use Rattle.wc_syntax.specs.Inner.Table.{leads_to, is_end, resume}
 use Rattle.wc_syntax.proofs.Edges.{Edges, edges}
 use Rattle.wc_syntax.proofs.Places.{edges-all, pick, the-edges, left, front, over, is-open, fuel, means, Alt, alt}
 use Rattle.wc_syntax.proofs.Validity.{valid, is-block, fits-in, leaves}

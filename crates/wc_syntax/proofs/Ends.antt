@@ -16,7 +16,7 @@ use Rattle.wc_syntax.specs.Phrases.{Terminal, word, Nonterminal, Phrase, Empty, 
 use Rattle.wc_syntax.specs.Grammar.{body}
 use Rattle.wc_syntax.specs.Deriving.{Item, at, terminal_of, numbered, Event, Derives, Begins}
 use Rattle.wc_syntax.specs.Reasons.{wrong, Why, ReasonAt, FirstFault}
-use Rattle.wc_syntax.specs.Table.{resume, step, leads_to, is_end, first_reason, where_stands, reason_of}
+use Rattle.wc_syntax.specs.Inner.Table.{resume, step, leads_to, is_end, first_reason, where_stands, reason_of}
 use Rattle.wc_syntax.proofs.Run.{Whole, Cut, Run, end, r-empty, r-left, r-right, r-none, r-more, r-rule, derived, begun}
 use Rattle.wc_syntax.proofs.Run.{sentence, front}
 use Rattle.wc_syntax.proofs.Edges.{Edges, deep, edges, either, on, edges-of, on-out, on-back}

@@ -21,7 +21,7 @@ use Rattle.wc_syntax.specs.Phrases.{Terminal, word, The, text}
 use Rattle.wc_syntax.specs.Deriving.{Item, at, numbered, Event, Begins}
 use Rattle.wc_syntax.specs.Reasons.{wrong, Why, ReasonAt, FirstFault}
 use Rattle.wc_syntax.specs.Parsing.{events, IsText, IsRefusal}
-use Rattle.wc_syntax.specs.Table.{resume, step, is_end}
+use Rattle.wc_syntax.specs.Inner.Table.{resume, step, is_end}
 use Rattle.wc_syntax.proofs.Run.{derives-begins}
 use Rattle.wc_syntax.proofs.Shorter.{begins-front, take-longer}
 use Rattle.wc_syntax.proofs.Agreement.{limit-reached}

@@ -8,8 +8,8 @@ use Rattle.wc_syntax.specs.declared.place.Place.{Place}
 use Rattle.wc_syntax.specs.declared.place.Frame.{Frame}
 use Rattle.wc_syntax.specs.Phrases.{Terminal, word, mark, Phrase}
 use Rattle.wc_syntax.specs.Deriving.{Item, terminal_of, Event}
-use Rattle.wc_syntax.specs.Kinds.{code_of, same, all_terminals}
-use Rattle.wc_syntax.specs.Table.{leads_to, is_end}
+use Rattle.wc_syntax.specs.Inner.Kinds.{code_of, same, all_terminals}
+use Rattle.wc_syntax.specs.Inner.Table.{leads_to, is_end}
 use Rattle.wc_syntax.proofs.Run.{Mode, Run}
 use Rattle.wc_syntax.proofs.Edges.{Edge, edge, Edges, edges, edges-of, keep, AlongAny, edges-out, edges-in}
 use Rattle.wc_syntax.proofs.Edges.{out-left, out-right, in-split, Out as OutAlong, In as InAlong}

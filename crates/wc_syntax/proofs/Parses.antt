@@ -17,7 +17,7 @@ use Rattle.wc_syntax.specs.Phrases.{word}
 use Rattle.wc_syntax.specs.Deriving.{Item, at, numbered, Event}
 use Rattle.wc_syntax.specs.Parsing.{event, events, IsText}
 use Rattle.wc_syntax.specs.Reasons.{FirstFault}
-use Rattle.wc_syntax.specs.Table.{step, is_end, reason_of}
+use Rattle.wc_syntax.specs.Inner.Table.{step, is_end, reason_of}
 use Rattle.wc_syntax.specs.Reading.{Standing, IsRead, nothing_read, one_read, is_deep, moved, left_for, action_at, kept_as}
 use Rattle.wc_syntax.proofs.Agreement.{limit-reached}
 use Rattle.wc_syntax.proofs.States.{Bottom, nests, up, Reached, reached-first, Next, next, keeps-one}
@@ -107,12 +107,6 @@ not-ended n ks es s r h =
     fault-end n ks (length ks) w.more s.place s.frame s.around es refl (subst (λ (y : List Item). Reached n y w.more s.place s.frame s.around es) (sym (all-of-it ks (length ks) (omega arith))) w.reached) h
 
 -- ---- the list of what is kept
-
-pub kept-one : (ks js : List Kept) (r : Role) (q : ℕ) (k : Kind) (o : Option Role) → o ≡ Some r → js ≡ ks ++ record { role = r; at = q; kind = k } ∷ [] → events js ≡ events ks ++ kept_as o q k
-kept-one ks js r q k o e h = rw (e, h) (map-append event ks (record { role = r; at = q; kind = k } ∷ []))
-
-pub kept-none : (ks js : List Kept) (q : ℕ) (k : Kind) (o : Option Role) → o ≡ None → js ≡ ks → events js ≡ events ks ++ kept_as o q k
-kept-none ks js q k o e h = rw (e, h) (sym (append-nil (events ks)))
 
 -- ---- what the code computes
 

@@ -13,7 +13,7 @@ use Rattle.wc_syntax.specs.Types.{lp, rp, index, limits, tabletype, globaltype}
 use Rattle.wc_syntax.specs.Instructions.{literal32, literal64, head, end_id, instrs}
 use Rattle.wc_syntax.specs.Fields.{field_id, import_names, importdesc, exportkind, strings, elements, field_end}
 use Rattle.wc_syntax.specs.Fields.{function, table, memory, global}
-use Rattle.wc_syntax.specs.Kinds.{same}
+use Rattle.wc_syntax.specs.Inner.Kinds.{same}
 use Rattle.wc_syntax.proofs.Edges.{Edge, edge, Edges, deep, edges, either, on, edges-of}
 
 -- ---- edges of several stacks, one of which is read

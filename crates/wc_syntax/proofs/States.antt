@@ -12,7 +12,7 @@ use Rattle.wc_syntax.specs.declared.place.Move.TheVariants.{On, Past, Turn, Into
 use Rattle.wc_syntax.specs.declared.place.Action.{Action}
 use Rattle.wc_syntax.specs.Phrases.{Phrase, The, text}
 use Rattle.wc_syntax.specs.Deriving.{Item, terminal_of, Event, kept}
-use Rattle.wc_syntax.specs.Table.{leads_to, is_end, resume}
+use Rattle.wc_syntax.specs.Inner.Table.{leads_to, is_end, resume}
 use Rattle.wc_syntax.proofs.Run.{Mode, Cut, Run, cut}
 use Rattle.wc_syntax.proofs.Edges.{keep}
 use Rattle.wc_syntax.proofs.Places.{left, front, over, is-open, means}

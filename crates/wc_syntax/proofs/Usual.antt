@@ -13,9 +13,9 @@ use Rattle.wc_syntax.specs.declared.place.Move.{Move}
 use Rattle.wc_syntax.specs.declared.place.Move.TheVariants.{On, Past, Into, Out}
 use Rattle.wc_syntax.specs.declared.place.Action.{Action}
 use Rattle.wc_syntax.specs.Deriving.{Event}
-use Rattle.wc_syntax.specs.Table.{step, takes_instrs, takes_folded}
-use Rattle.wc_syntax.specs.Usual.{is_free, takes_name, takes_open, behind_name, begun_frame, ends_by_word, is_opened}
-use Rattle.wc_syntax.specs.Usual.{opened_part, is_held, behind_index, is_literal, is_offset, is_align}
+use Rattle.wc_syntax.specs.Inner.Table.{step, takes_instrs, takes_folded}
+use Rattle.wc_syntax.specs.Inner.Usual.{is_free, takes_name, takes_open, behind_name, begun_frame, ends_by_word, is_opened}
+use Rattle.wc_syntax.specs.Inner.Usual.{opened_part, is_held, behind_index, is_literal, is_offset, is_align}
 use Rattle.wc_syntax.specs.Reading.{Standing, IsRead, one_read, is_deep, moved, action_at, kept_as}
 
 abbrev pub keeping : Role → Move → Option Action

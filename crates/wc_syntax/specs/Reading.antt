@@ -11,7 +11,7 @@ use Rattle.wc_syntax.specs.declared.place.Move.TheVariants.{On, Past, Turn, Into
 use Rattle.wc_syntax.specs.declared.place.Action.{Action}
 use Rattle.wc_syntax.specs.Phrases.{word}
 use Rattle.wc_syntax.specs.Deriving.{at, Event, kept}
-use Rattle.wc_syntax.specs.Table.{step, resume}
+use Rattle.wc_syntax.specs.Inner.Table.{step, resume}
 
 -- where a reader stands: how many instructions may be nested in one another, what may still come in front of the rest
 -- of the innermost frame, that frame, and those around it, innermost first

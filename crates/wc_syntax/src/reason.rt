@@ -2,7 +2,7 @@
 
 ghost use Rattle.std.specs.Prelude.{◌≡◌};
 ghost use Rattle.wc_syntax.specs.Reasons.{wrong};
-ghost use Rattle.wc_syntax.specs.Table.{leads_to, reason_of};
+ghost use Rattle.wc_syntax.specs.Inner.Table.{leads_to, reason_of};
 ghost use Rattle.wc_syntax.specs.Instead.{terminal_or_mark, wrongs};
 
 use crate::kind::Kind;

@@ -102,7 +102,8 @@ fn take_number<'a>(
 }
 
 /// A number that is no short natural one, mostly one behind a sign.
-// It is apart from `take_number`, so that each is called once, and none is too large for the compiler to be put in place.
+// It is apart from `take_number`, so that each is called once, and none is too large for the compiler to put it in
+// place.
 #[inline(always)]
 fn take_signed<'a>(
     alloc: Global,

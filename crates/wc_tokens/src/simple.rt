@@ -1,6 +1,7 @@
 //! The elements of strings that most strings are made of: a byte that stands for itself, and a byte by two digits.
 
-ghost use Rattle.std.specs.Prelude.{◌≡◌, ◌+◌, ◌<◌, ◌≤◌, ℕ, List, [], ◌∷◌, IsTrue, IfSome, length, take, drop, slice_index};
+ghost use Rattle.std.specs.Prelude.{◌≡◌, ◌+◌, ◌<◌, ◌≤◌, ℕ, List, [], ◌∷◌};
+ghost use Rattle.std.specs.Prelude.{IsTrue, IfSome, length, take, drop, slice_index};
 ghost use Rattle.wc_tokens.specs.Standard.Digits.{IsDigit};
 ghost use Rattle.wc_tokens.specs.Standard.Strings.{IsPlain, Element, Elements, EndsElements};
 ghost use Rattle.wc_tokens.specs.Reading.Simple.{IsSimple, IsSimpleAt};

@@ -135,9 +135,6 @@ pub fits-StringIs : {text : List ℕ} {s : Symbol} → StringIs text s → FitsK
 fits-StringIs (string_name i u) = refl
 fits-StringIs (no_name i u) = refl
 
-pub fits-bare : (k : Kind) (s : Symbol) → s ≡ bare k → FitsKind k Nothing → FitsKind s.kind s.value
-fits-bare k s e h = subst (λ (o : Symbol). FitsKind o.kind o.value) (sym e) h
-
 -- ---- literals
 
 literal-32 : (s : Symbol) (l : Signed) (k : Kind) (b : ℕ) → s ≡ record { kind = k; value = Number b }

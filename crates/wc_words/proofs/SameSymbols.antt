@@ -5,7 +5,7 @@ use Rattle.wc_words.specs.declared.shape.Shape.{Shape}
 use Rattle.wc_words.specs.declared.shape.Shape.TheVariants as shape
 use Rattle.wc_words.specs.Numbers.{OffsetIs, AlignIs}
 use Rattle.wc_words.specs.Words.{WordIs, known, other}
-use Rattle.wc_words.specs.Shapes.{shape_of}
+use Rattle.wc_words.specs.Inner.Shapes.{shape_of}
 use Rattle.wc_words.proofs.WordLemmas.{SaysAs, says-as}
 use Rattle.wc_words.proofs.SameNumbers.{NaturalIs-same, SignedIs-same, OffsetIs-same, AlignIs-same}
 use Rattle.wc_words.proofs.SameNames.{NameIs-same}

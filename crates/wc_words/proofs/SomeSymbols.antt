@@ -13,7 +13,7 @@ use Rattle.wc_words.specs.declared.symbol.Symbol.{Symbol}
 use Rattle.wc_words.specs.declared.shape.Shape.{Shape}
 use Rattle.wc_words.specs.declared.shape.Shape.TheVariants as shape
 use Rattle.wc_words.specs.Symbols.{bare}
-use Rattle.wc_words.specs.Shapes.{shape_of}
+use Rattle.wc_words.specs.Inner.Shapes.{shape_of}
 use Rattle.wc_words.specs.Words.{WordIs}
 use Rattle.wc_words.specs.Tokens.{StringIs, name, no_name, TokenIs}
 use Rattle.wc_words.proofs.WordLemmas.{word-is, offset-begins, align-begins}

@@ -11,7 +11,7 @@ use Rattle.simdutf8.specs.Tracks.{last_three}
 use Rattle.simdutf8.proofs.Chars.{StepsThen-IsUtf8}
 use Rattle.simdutf8.proofs.StepsLemmas.{StepsThen_parts, StepsThen-append}
 use Rattle.wc_words.specs.declared.utf8.Tail.{Tail}
-use Rattle.wc_words.specs.Reading.{is_closed, may_follow, Tracks}
+use Rattle.wc_words.specs.Inner.Reading.{is_closed, may_follow, Tracks}
 
 may-closed : (x y z b : ℕ) → x < 0xf0 → y < 0xe0 → z < 0xc0 → may_follow x y z b ≡ true → Step x y z b
 may-closed x y z b h i j t = elim (cases_lt b 0x80) [

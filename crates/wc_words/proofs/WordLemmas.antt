@@ -31,7 +31,7 @@ use Rattle.wc_words.specs.Numbers.{NaturalIs, below_32, below_64, above, HasSign
 use Rattle.wc_words.specs.Numbers.{OffsetIs, AlignIs}
 use Rattle.wc_words.specs.Names.{keyword, KeywordIs, word, i32, i64, f32, f64, NameIs, keyword_is, instruction, float}
 use Rattle.wc_words.specs.Words.{Says, natural, signed, offset, align, name, WordIs, known, other}
-use Rattle.wc_words.specs.Shapes.{shape_of}
+use Rattle.wc_words.specs.Inner.Shapes.{shape_of}
 use Rattle.wc_words.proofs.DigitLemmas.{begins}
 
 -- ---- the shape of what says something

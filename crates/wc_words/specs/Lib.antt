@@ -1,9 +1,8 @@
-pub mod Symbols
-pub mod Numbers
-pub mod Names
-pub mod Words
-pub mod Shapes
-pub mod Tokens
-pub mod Reading
-pub mod Ranges
+pub mod Inner
 pub mod Literals
+pub mod Names
+pub mod Numbers
+pub mod Ranges
+pub mod Symbols
+pub mod Tokens
+pub mod Words

@@ -3,7 +3,7 @@
 ghost use Rattle.std.specs.Prelude.{◌≡◌, ◌++◌, ℕ, List, IsTrue, IsUtf8, ◌↔◌};
 ghost use Rattle.wc_tokens.specs.Reading.Elements.{bytes_of};
 ghost use Rattle.wc_tokens.specs.Standard.Strings.{IsString};
-ghost use Rattle.wc_words.specs.Reading.{Tracks};
+ghost use Rattle.wc_words.specs.Inner.Reading.{Tracks};
 ghost use Rattle.wc_words.specs.Tokens.{StringIs};
 
 use crate::symbol::{Symbol, bare};

@@ -16,10 +16,6 @@ pub record Leads {A : Type 0} (old new : Input) (rest total : List ℕ → Resul
   pub same : IsTrue old.known
       → IsTrue new.known × ((c : Option ℕ) → IsWithin new.place c → rest (bytes_to c new) ≡ total (bytes_to c old))
 
-pub leads-none : {A : Type 0} (old : Input) (rest total : List ℕ → Result (Got A) Halt)
-    → ((x : List ℕ) → rest x ≡ total x) → Leads old old rest total
-leads-none old rest total e = record { going = GoesOn-refl old; same = λ w. (w, λ c le. e (bytes_to c old)) }
-
 -- a fault of what is still read is one of all that is read
 pub leads-fail : {A : Type 0} (old mid new : Input) (rest total : List ℕ → Result (Got A) Halt)
     → Leads old mid rest total → (e : BinFault) → Fails mid new e rest → Fails old new e total

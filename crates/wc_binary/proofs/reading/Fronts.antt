@@ -28,10 +28,6 @@ front (b ∷ a) y o c q e le =
     let more : c - o ≡ suc (c - (o + 1)) = omega arith in
     rw more (ap (λ (l : List ℕ). b ∷ l) (front a y (o + 1) c q (omega arith) le))
 
--- none up to the place itself
-pub none-to : (at : ℕ) (i : Input) → at ≡ i.place → up_to at i ≡ []
-none-to at i e = let none : at - i.place ≡ 0 = omega arith in ap (λ n. take n i.left) none
-
 -- bytes that were taken stand in front of those behind
 pub bytes-split : (old new : Input) (a : List ℕ) → old.left ≡ a ++ new.left → new.place ≡ old.place + length a
     → (c : Option ℕ) → IsWithin new.place c → bytes_to c old ≡ a ++ bytes_to c new

@@ -49,10 +49,6 @@ pub record Found (o : ℕ) (x : List ℕ) (p : ℕ) (y : List ℕ) (last : ℕ) 
   pub last_is : last ≡ reached 0 before
   pub parts_are : m ≡ put_all nothing before
 
-pub found-none : (o : ℕ) (x : List ℕ) → Found o x o x 0 nothing
-found-none o x =
-    record { before = []; read_so_far = []; split = refl; place = sym (add-zero o); spelled = refl; last_is = refl; parts_are = refl }
-
 module _ (o : ℕ) (x : List ℕ) (p : ℕ) (y : List ℕ) (last : ℕ) (m : Parts) (b : ℕ) (z : List ℕ) (here : y ≡ b ∷ z) where
   pub id-stops : Found o x p y last m → (r : BinWhy) → id_of last b ≡ Err r → StopsSections 0 o x (halt p r (p + 1))
   id-stops f r e = (

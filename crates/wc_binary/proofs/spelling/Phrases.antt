@@ -37,9 +37,6 @@ u32-writes = record {
   told = λ s V j b n h. j.integer b n h;
 }
 
-abbrev pub Exactly : {A : Type 0} → A → A → Type 0
-Exactly u v = v ≡ u
-
 -- a part, and one that may depend on its value, which the whole's value tells
 module _ {A B : Type 0} (p : Phrase A) (f : A → Phrase B) (fit : A → Type 0) (w : A → List ℕ) (fits : A → B → Type 0)
     (ws : A → B → List ℕ) (back : B → A)

@@ -14,7 +14,8 @@ use crate::section::SectionKind;
 /// How many bytes a section takes whose content takes so many: also its id and its size.
 #[inline]
 pub fn headed_size(content: usize) -> Option<usize>
-    ensures { MeasuresWithin section_limit (content < 2 ^ 32) (1 + (count_of (unsigned_bytes content) + content)) result }
+    ensures { MeasuresWithin section_limit (content < 2 ^ 32)
+        (1 + (count_of (unsigned_bytes content) + content)) result }
 {
     let size = length_size(content)?;
     Some(1 + size + content)

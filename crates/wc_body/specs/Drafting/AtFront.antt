@@ -1,4 +1,4 @@
--- Entries that bytes begin with, spelled as they are kept: what is noted of each, and what follows it.
+-- Entries that bytes begin with, spelled as they are kept (Core 1.0, 5.4): what is noted of each, and what follows it.
 use Rattle.std.specs.Prelude.{◌≡◌, ◌<◌, ◌≤◌, ◌+◌, ◌^◌, ℕ, ℤ, Bool, List, [], ◌∷◌, ◌++◌, length, take}
 use Rattle.wc_leb128.specs.Standard.Shortest.{HoldsSigned}
 use Rattle.wc_leb128.specs.Writing.Bytes.{unsigned_bytes, signed_bytes, signed_of}
@@ -17,7 +17,8 @@ use Rattle.wc_body.specs.declared.needs.Needs.{Needs}
 use Rattle.wc_body.specs.Standard.Nested.{nesting_limit}
 use Rattle.wc_body.specs.Standard.Entries.{mark}
 use Rattle.wc_body.specs.Standard.ValueBytes.{Fits32}
-use Rattle.wc_body.specs.Standard.InstructionBytes.{simple_rest, instr_bytes, rest_bytes, block_type_bytes, FitsInstr, FitsBlockType}
+use Rattle.wc_body.specs.Standard.InstructionBytes.{simple_rest, instr_bytes, rest_bytes, block_type_bytes}
+use Rattle.wc_body.specs.Standard.InstructionBytes.{FitsInstr, FitsBlockType}
 use Rattle.wc_body.specs.Standard.Needed.{with_simple, with_index, with_access, with_instr, with_block, with_mark}
 use Rattle.wc_body.specs.Writing.EntryBytes.{entry_bytes, FitsEntry}
 use Rattle.wc_body.specs.Drafting.OpenParts.{part_of}

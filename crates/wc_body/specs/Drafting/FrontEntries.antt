@@ -1,4 +1,4 @@
--- Entries that were added all at once, by the bytes that they are spelled by.
+-- Entries that were added all at once, by the bytes that they are spelled by (Core 1.0, 5.4).
 use Rattle.std.specs.Prelude.{◌≡◌, ◌<◌, ◌≤◌, ℕ, true, List, [], ◌∷◌, length, take}
 use Rattle.std.specs.List.{AllByRecursion}
 use Rattle.wc_body.specs.declared.instr.BlockType.{BlockType}

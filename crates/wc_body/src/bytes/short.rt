@@ -12,7 +12,8 @@ use wc_ops::{IndexOp, Op, OpByte, SimpleOp};
 
 #[inline(always)]
 fn simple_at(op: SimpleOp, bytes: &[u8]) -> Option<(Short, &[u8])>
-    ensures { IfSome result (λ f. known_front (ops.Simple op) bytes.now ≡ Some (PlainEntry (instruction f.0), f.1.now)) }
+    ensures { IfSome result
+        (λ f. known_front (ops.Simple op) bytes.now ≡ Some (PlainEntry (instruction f.0), f.1.now)) }
 {
     if matches!(op, SimpleOp::MemorySize | SimpleOp::MemoryGrow) {
         return None;

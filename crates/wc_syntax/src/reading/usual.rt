@@ -4,9 +4,9 @@ ghost use Rattle.std.specs.Prelude.{◌≡◌, ◌++◌, ◌∷◌, [], ◌&&◌
 ghost use Rattle.std.specs.Prelude.{OnErr, IfOk};
 ghost use Rattle.wc_syntax.specs.Deriving.{Event};
 ghost use Rattle.wc_syntax.specs.Reading.{IsRead, is_deep, kept_as};
-ghost use Rattle.wc_syntax.specs.Table.{takes_instrs, takes_folded};
-ghost use Rattle.wc_syntax.specs.Usual.{is_free, takes_name, takes_open, behind_name, begun_frame, ends_by_word};
-ghost use Rattle.wc_syntax.specs.Usual.{is_opened, opened_part, is_held, behind_index, is_literal, is_offset, is_align};
+ghost use Rattle.wc_syntax.specs.Inner.Table.{takes_instrs, takes_folded};
+ghost use Rattle.wc_syntax.specs.Inner.Usual.{is_free, takes_name, takes_open, behind_name, begun_frame, ends_by_word};
+ghost use Rattle.wc_syntax.specs.Inner.Usual.{is_opened, opened_part, is_held, behind_index, is_literal, is_offset, is_align};
 ghost use Rattle.wc_syntax.specs.declared.kind.Kind.{Kind as TokenKind};
 ghost use Rattle.wc_syntax.specs.declared.kind.Kind.TheVariants as kinds;
 ghost use Rattle.wc_syntax.specs.declared.role.Role.TheVariants as roles;

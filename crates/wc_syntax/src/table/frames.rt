@@ -1,8 +1,8 @@
 //! What a frame takes, where no part is left in front of its rest.
 
 ghost use Rattle.std.specs.Prelude.{◌≡◌};
-ghost use Rattle.wc_syntax.specs.Table.{frame_rows, open_rows, field_rows, instr_rows, folded_rows, find, or_else};
-ghost use Rattle.wc_syntax.specs.Table.{if_takes, takes_instrs, takes_folded};
+ghost use Rattle.wc_syntax.specs.Inner.Table.{frame_rows, open_rows, field_rows, instr_rows, folded_rows, find, or_else};
+ghost use Rattle.wc_syntax.specs.Inner.Table.{if_takes, takes_instrs, takes_folded};
 
 use crate::kind::Kind;
 use crate::place::{Action, Frame, Move, Place};

@@ -247,9 +247,6 @@ pub record IsPassed (size : ℕ) (text rest : List ℕ) : Type 0 where
   pub lexes : (ts : List Lexeme) → Lexed size rest ts → (us : List Lexeme) × Lexed size text us
   pub stops : (place : ℕ) (why : LexWhy) → Stops size rest place why → Stops size text place why
 
-pub IsPassed-start : (size : ℕ) (text : List ℕ) → IsPassed size text text
-IsPassed-start size text = record { lexes = λ ts l. (ts, l); stops = λ _ _ s. s }
-
 pub IsPassed-token : {size : ℕ} {text rest here behind : List ℕ} (kind : TokenKind) → IsPassed size text rest
     → Gaps rest here → BeginsToken kind here behind → IsPassed size text behind
 IsPassed-token {size} {text} {rest} {here} {behind} kind p g b = record {

@@ -1,6 +1,6 @@
 use Rattle.wc_print.specs.Printed.{word}
 use Rattle.wc_print.specs.Lines.{head_word}
-use Rattle.wc_print.specs.Places.{item_at}
+use Rattle.wc_print.specs.Inner.Places.{item_at}
 use Rattle.wc_print.proofs.Naming.{head-word}
 use Rattle.wc_print.proofs.Putting.{chain-last}
 use Rattle.wc_print.proofs.Instructions.{head-items}

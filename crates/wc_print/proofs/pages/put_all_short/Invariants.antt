@@ -1,5 +1,5 @@
 use Rattle.std.proofs.Common.{◌≡◌, ◌+◌, ◌≤◌, ◌++◌, length, take}
-use Rattle.wc_print.specs.Places.{LeavesLines}
+use Rattle.wc_print.specs.Inner.Places.{LeavesLines}
 use Rattle.wc_print.proofs.pages.put_all_short.Given as goal
 
 abbrev pub invariant-loop-short : goal.invariant-loop-short

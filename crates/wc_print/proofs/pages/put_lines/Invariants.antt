@@ -1,6 +1,6 @@
 use Rattle.std.proofs.Common.{◌≡◌, ◌+◌, ◌≤◌, ◌++◌, length, take}
 use Rattle.wc_body.specs.Standard.Nested.{flatten}
-use Rattle.wc_print.specs.Places.{LeavesLines}
+use Rattle.wc_print.specs.Inner.Places.{LeavesLines}
 use Rattle.wc_print.proofs.pages.put_lines.Given as goal
 
 abbrev pub invariant-loop-entry : goal.invariant-loop-entry

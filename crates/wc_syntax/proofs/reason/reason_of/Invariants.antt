@@ -1,5 +1,5 @@
 use Rattle.std.proofs.Common.{◌≡◌, drop}
-use Rattle.wc_syntax.specs.Table.{first_reason}
+use Rattle.wc_syntax.specs.Inner.Table.{first_reason}
 use Rattle.wc_syntax.specs.Reasons.{wrong}
 use Rattle.wc_syntax.specs.Instead.{wrongs}
 use Rattle.wc_syntax.proofs.reason.reason_of.Given as goal

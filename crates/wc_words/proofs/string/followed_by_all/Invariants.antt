@@ -1,5 +1,5 @@
 use Rattle.std.proofs.Common.{ℕ, List, ◌++◌, take}
-use Rattle.wc_words.specs.Reading.{Tracks}
+use Rattle.wc_words.specs.Inner.Reading.{Tracks}
 use Rattle.wc_words.proofs.string.followed_by_all.Given as goal
 
 -- the bytes so far were read too

@@ -1,7 +1,7 @@
 use Rattle.std.proofs.Common.{◌≡◌, sym, ◌∙◌, Some, refl, subst, true}
 use Rattle.wc_syntax.specs.Reading.{Standing}
-use Rattle.wc_syntax.specs.Table.{takes_instrs}
-use Rattle.wc_syntax.specs.Usual.{takes_name}
+use Rattle.wc_syntax.specs.Inner.Table.{takes_instrs}
+use Rattle.wc_syntax.specs.Inner.Usual.{takes_name}
 use Rattle.wc_syntax.specs.declared.role.Role.TheVariants as role
 use Rattle.wc_syntax.specs.declared.place.Place.TheVariants as place
 use Rattle.wc_syntax.specs.declared.place.Move.TheVariants.{Into}

@@ -1,6 +1,6 @@
 use Rattle.std.proofs.Common.{◌≡◌, sym, ◌∙◌, Some, refl, subst, true}
 use Rattle.wc_syntax.specs.Reading.{Standing}
-use Rattle.wc_syntax.specs.Usual.{takes_name, ends_by_word}
+use Rattle.wc_syntax.specs.Inner.Usual.{takes_name, ends_by_word}
 use Rattle.wc_syntax.specs.declared.kind.Kind.TheVariants as kind
 use Rattle.wc_syntax.specs.declared.role.Role.TheVariants as role
 use Rattle.wc_syntax.specs.declared.place.Place.TheVariants as place

@@ -1,7 +1,7 @@
 use Rattle.std.proofs.Common.{◌≡◌, sym, ◌∙◌, Some, refl, subst, true}
 use Rattle.wc_syntax.specs.Reading.{Standing}
-use Rattle.wc_syntax.specs.Table.{takes_folded}
-use Rattle.wc_syntax.specs.Usual.{is_opened}
+use Rattle.wc_syntax.specs.Inner.Table.{takes_folded}
+use Rattle.wc_syntax.specs.Inner.Usual.{is_opened}
 use Rattle.wc_syntax.specs.declared.role.Role.TheVariants as role
 use Rattle.wc_syntax.specs.declared.place.Frame.TheVariants as frame
 use Rattle.wc_syntax.specs.declared.place.Move.TheVariants.{Into}

@@ -1,6 +1,6 @@
 use Rattle.std.proofs.Common.{◌≡◌, sym, ◌∙◌, Some, refl, subst, true}
 use Rattle.wc_syntax.specs.Reading.{Standing}
-use Rattle.wc_syntax.specs.Usual.{is_free, is_held}
+use Rattle.wc_syntax.specs.Inner.Usual.{is_free, is_held}
 use Rattle.wc_syntax.specs.declared.kind.Kind.TheVariants as kind
 use Rattle.wc_syntax.specs.declared.role.Role.TheVariants as role
 use Rattle.wc_syntax.specs.declared.place.Place.TheVariants as place

@@ -6,7 +6,7 @@ use Rattle.wc_syntax.specs.declared.place.Place.{Place}
 use Rattle.wc_syntax.specs.declared.place.Place.TheVariants as place
 use Rattle.wc_syntax.specs.declared.place.Frame.{Frame}
 use Rattle.wc_syntax.specs.declared.place.Frame.TheVariants as frame
-use Rattle.wc_syntax.specs.Table.{takes_instrs}
+use Rattle.wc_syntax.specs.Inner.Table.{takes_instrs}
 
 -- nothing has to follow in front of the frame's rest, and no name or parenthesis may
 abbrev pub is_free : Place → Bool

@@ -16,7 +16,7 @@ use Rattle.wc_syntax.specs.declared.why.SynWhy.TheVariants as why
 use Rattle.wc_syntax.specs.declared.table.Rest.{Rest}
 use Rattle.wc_syntax.specs.declared.table.Rest.TheVariants as rest
 use Rattle.wc_syntax.specs.Phrases.{Terminal, word, mark}
-use Rattle.wc_syntax.specs.Kinds.{same}
+use Rattle.wc_syntax.specs.Inner.Kinds.{same}
 use Rattle.wc_syntax.specs.Reasons.{wrong}
 
 -- what a token of one kind does
