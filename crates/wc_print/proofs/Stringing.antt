@@ -1,9 +1,9 @@
 -- Strings as they are put.
 use Rattle.std.proofs.Common.{◌≡◌, ℕ, zero, suc, ◌+◌, ◌-◌, ◌<◌, ◌≤◌, ◌/◌, ◌%◌, Bool, true, List, [], ◌∷◌, ◌++◌}
 use Rattle.std.proofs.Common.{length, get_or, take, drop, inl, inr}
-use Rattle.std.proofs.Common.{refl, sym, ap, ◌∙◌, arith, append_assoc, Fits, w8}
+use Rattle.std.proofs.Common.{refl, sym, ap, subst, ◌∙◌, arith, append_assoc, Fits, w8}
 use Rattle.std.specs.Prelude.{if◌then◌else◌}
-use Rattle.std.proofs.lemmas.List.{append-nil, length-drop, take-append-drop, nil_from_length}
+use Rattle.std.proofs.lemmas.List.{append-nil, length-drop, take-append-drop, take_all, nil_from_length}
 use Rattle.std.proofs.lemmas.List.Edits.{length-between, get_or-between}
 use Rattle.std.proofs.lemmas.Bool.{cases_lt}
 use Rattle.std.proofs.lemmas.Grind.{flat_map-append}
@@ -46,6 +46,26 @@ stand-more bs at fits before here = (
         rw same at (here (k - at) within)
   ],
 )
+
+stand-behind : (bs : List ℕ) (at : ℕ) → ((k : ℕ) → k < at → stands (get_or bs k 0) ≡ true)
+    → ((k : ℕ) → k < length (drop at bs) → stands (get_or (drop at bs) k 0) ≡ true)
+    → (k : ℕ) → k < length bs → stands (get_or bs k 0) ≡ true
+stand-behind bs zero before here k lt = here k lt
+stand-behind [] (suc at) before here k lt = absurd (omega (arith, lt))
+stand-behind (b ∷ bs) (suc at) before here zero lt = before zero (omega arith)
+stand-behind (b ∷ bs) (suc at) before here (suc k) lt =
+    stand-behind bs at (λ j l. before (suc j) (omega (arith, l))) here k (omega (arith, lt))
+
+-- those at the front, and all behind
+pub stand-rest : (bs : List ℕ) (at : ℕ) → ((k : ℕ) → k < at → stands (get_or bs k 0) ≡ true)
+    → ((k : ℕ) → k < length (take (length bs - at) (drop at bs))
+    → stands (get_or (take (length bs - at) (drop at bs)) k 0) ≡ true)
+    → (k : ℕ) → k < length bs → stands (get_or bs k 0) ≡ true
+stand-rest bs at before here =
+    let whole : take (length bs - at) (drop at bs) ≡ drop at bs =
+    take_all (length bs - at) (drop at bs) (omega (arith, length-drop at bs)) in
+    stand-behind bs at before
+    (subst (λ (x : List ℕ). (k : ℕ) → k < length x → stands (get_or x k 0) ≡ true) whole here)
 
 -- so many bytes at the front are put
 pub leaves-behind : (all old put out : List ℕ) (n : ℕ) → put ≡ flat_map escaped (take n all) → out ≡ old ++ put

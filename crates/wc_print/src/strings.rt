@@ -39,9 +39,9 @@ fn all_stand(bytes: &[u8]) -> bool
     all
 }
 
-/// How many bytes at the front stand for themselves, found in chunks.
+/// How many bytes at the front stand for themselves, found in whole chunks.
 #[inline(always)]
-fn standing(bytes: &[u8]) -> usize
+fn standing_chunks(bytes: &[u8]) -> usize
     ensures within { result ≤ length bytes.now }
     ensures stand { (k : ℕ) → k < result → stands (slice_index bytes.now k) ≡ true }
 {
@@ -50,6 +50,20 @@ fn standing(bytes: &[u8]) -> usize
         at += CHUNK;
     }
     at
+}
+
+/// How many bytes at the front stand for themselves, found in chunks, of which the last one may be shorter.
+#[inline(always)]
+fn standing(bytes: &[u8]) -> usize
+    ensures within { result ≤ length bytes.now }
+    ensures stand { (k : ℕ) → k < result → stands (slice_index bytes.now k) ≡ true }
+{
+    let end = standing_chunks(bytes);
+    let last = &bytes[end..];
+    if last.len() < CHUNK && all_stand(last) {
+        return bytes.len();
+    }
+    end
 }
 
 /// Writes what stands for a byte, from a place on, and tells where it ends. A whole row is written.
@@ -115,8 +129,10 @@ pub fn put_string(out: &mut Vec<u8>, bytes: &[u8]) -> Result<(), AllocError>
     out.extend_from_slice(b" \"")?;
     let mut rest = bytes;
     while !rest.is_empty() {
-        let others = put_standing(out, rest)?;
-        rest = put_piece(out, others)?;
+        rest = put_standing(out, rest)?;
+        if !rest.is_empty() {
+            rest = put_piece(out, rest)?;
+        }
     }
     out.push(b'"')?;
     Ok(())

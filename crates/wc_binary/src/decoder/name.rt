@@ -40,7 +40,10 @@ fn name_ahead<S: Source>(count: u32, source: &S) -> Option<Name>
     ensures utf8 { IfSome result (λ name. IsUtf8 name) }
     ensures at_hand { OnSome result (count ≤ S.at_hand source.now) }
 {
+    if count as usize > Name::SHORT {
+        return None;
+    }
     let bytes = source.ahead(count as usize)?;
-    let text = simdutf8::basic::from_utf8(bytes).ok()?;
+    let text = str::from_utf8(bytes).ok()?;
     Name::short(text)
 }

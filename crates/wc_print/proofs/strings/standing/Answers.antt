@@ -1,8 +1,7 @@
-use Rattle.std.proofs.Common.{arith}
-use Rattle.wc_print.proofs.Stringing.{stand-more}
+use Rattle.wc_print.proofs.Stringing.{stand-rest}
 use Rattle.wc_print.proofs.strings.standing.Goals as goal
 
-pub loop-at-preserved : goal.loop-at-preserved
-loop-at-preserved c =
-    stand-more c.args.bytes.now c.loop-at.at (omega (arith, c.loop-at.invariant.0)) c.loop-at.invariant.1
+pub returns-then-all_stand-clause-stand : goal.returns-then-all_stand-clause-stand
+returns-then-all_stand-clause-stand c =
+    stand-rest c.args.bytes.now c.standing_chunks-end.result c.standing_chunks-end.ensures.stand
     (c.all_stand.ensures c.if-all_stand.true)

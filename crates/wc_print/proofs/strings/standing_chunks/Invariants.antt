@@ -1,6 +1,6 @@
 use Rattle.std.proofs.Common.{◌≡◌, ℕ, ◌-◌, ◌<◌, ◌≤◌, true, length, get_or}
 use Rattle.wc_print.specs.Printed.{stands}
-use Rattle.wc_print.proofs.strings.standing.Given as goal
+use Rattle.wc_print.proofs.strings.standing_chunks.Given as goal
 
 abbrev pub invariant-loop-at : goal.invariant-loop-at
 invariant-loop-at l = (l.at ≤ length l.bytes) × ((k : ℕ) → k < l.at → stands (get_or l.bytes k 0) ≡ true)
