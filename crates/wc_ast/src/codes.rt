@@ -56,6 +56,7 @@ impl Codes {
     ghost use Rattle.std.specs.Prelude.{[], ◌∷◌, ◌++◌, OnOk, OnErr, length, map};
     ghost use Rattle.wc_body.specs.Standard.Needed.{nothing, with_bodies};
     ghost use Rattle.wc_ast.specs.Standard.Codes.{code, body_of};
+    ghost use Rattle.wc_ast.specs.Standard.Spelled.{AddsSpelled};
 
     /// No codes. It takes no memory.
     pub fn new(alloc: Global) -> Codes
@@ -98,6 +99,26 @@ impl Codes {
         });
         append(&mut self.groups, groups);
         Ok(())
+    }
+
+    /// Adds the code at the end that has no locals, and the body whose canonical bytes these are, with the byte that
+    /// ends it (Core 1.0, 5.4.6), where that has usual instructions alone and no block; answers whether it was added. So
+    /// a small function is kept without a look at each part of it. The error is want of memory; then, and where it
+    /// wasn't added, the row is as it was.
+    #[inline(always)]
+    pub fn push_spelled(&mut self, bytes: &[u8]) -> Result<bool, AllocError>
+        ensures ok { IfOk result (AddsSpelled self.old self.new bytes.now) }
+        ensures err { OnErr result (self.new ≡ self.old) }
+    {
+        self.spans.reserve(1)?;
+        let added = self.bodies.push_spelled(bytes)?;
+        if added {
+            self.spans.push_reserved(Span {
+                groups: 0,
+                total: 0,
+            });
+        }
+        Ok(added)
     }
 
     /// The codes, one by one.

@@ -7,6 +7,7 @@ pub mod UnsignedBytes
 pub mod Feeding
 pub mod Entries
 pub mod FrontEntries
+pub mod FrontCode
 pub mod Times
 pub mod Sized
 pub mod Whole

@@ -2,5 +2,6 @@
 pub mod Reading
 pub mod Source
 pub mod NextMark
+pub mod NextCode
 pub mod Feed
 pub mod Modules

@@ -5,3 +5,4 @@ pub mod NeedsLemmas
 pub mod BuilderLemmas
 pub mod FrontLemmas
 pub mod FrontRun
+pub mod Finished

@@ -10,4 +10,5 @@ pub mod ValueBytes
 pub mod InstructionBytes
 pub mod Needed
 pub mod Short
+pub mod Spelled
 pub mod Grammar

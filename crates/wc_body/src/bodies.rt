@@ -5,6 +5,7 @@ ghost use Rattle.std.specs.Prelude.{◌≡◌, IfOk};
 use crate::body::Body;
 use crate::body_ref::BodyRefs;
 use crate::needs::{Needs, OwnNeeds};
+use crate::spelled::body_spelled;
 use crate::try_clone::TryClone;
 use std::alloc::{AllocError, Global};
 use std::marker::Model;
@@ -51,7 +52,11 @@ impl Model for Bodies {
 
 impl Bodies {
     ghost use Rattle.std.specs.Prelude.{[], ◌∷◌, ◌++◌, OnOk, OnErr, length};
+    ghost use Rattle.wc_body.specs.Standard.Entries.{nested};
     ghost use Rattle.wc_body.specs.Standard.Needed.{nothing, with_bodies};
+    ghost use Rattle.wc_body.specs.Reading.Unpacked.{unpacked};
+    ghost use Rattle.wc_body.specs.Drafting.PackedBody.{IsBody};
+    ghost use Rattle.wc_body.specs.Standard.Spelled.{AddsSpelled};
 
     /// No bodies. It takes no memory.
     pub fn new(alloc: Global) -> Bodies
@@ -78,13 +83,13 @@ impl Bodies {
         self.needs
     }
 
-    /// Adds a copy of the body at the end. The error is want of memory, and then the row is as it was.
-    pub fn push(&mut self, body: &Body) -> Result<(), AllocError>
-        ensures ok { OnOk result (self.new ≡ self.old ++ body.now ∷ []) }
+    /// Adds the body of these bytes at the end, which needs this.
+    #[inline(always)]
+    fn push_row(&mut self, bytes: &[u8], needs: Needs) -> Result<(), AllocError>
+        requires { IsBody bytes.now needs }
+        ensures ok { OnOk result (self.new ≡ self.old ++ nested (unpacked bytes.now) ∷ []) }
         ensures err { OnErr result (self.new ≡ self.old) }
     {
-        let bytes = body.row();
-        let needs = body.needs();
         self.places.reserve(1)?;
         self.bytes.extend_from_slice(bytes)?;
         self.places.push_reserved(Place {
@@ -93,6 +98,29 @@ impl Bodies {
         });
         self.needs = self.needs.joined(needs);
         Ok(())
+    }
+
+    /// Adds a copy of the body at the end. The error is want of memory, and then the row is as it was.
+    pub fn push(&mut self, body: &Body) -> Result<(), AllocError>
+        ensures ok { OnOk result (self.new ≡ self.old ++ body.now ∷ []) }
+        ensures err { OnErr result (self.new ≡ self.old) }
+    {
+        self.push_row(body.row(), body.needs())
+    }
+
+    /// Adds the body at the end whose canonical bytes these are, with the byte that ends it (Core 1.0, 5.4.6), where
+    /// it has usual instructions alone and no block, and answers whether it was added. So a small body is kept without
+    /// a look at each part of it. The error is want of memory; then, and where it wasn't added, the row is as it was.
+    #[inline(always)]
+    pub fn push_spelled(&mut self, bytes: &[u8]) -> Result<bool, AllocError>
+        ensures ok { IfOk result (AddsSpelled self.old self.new bytes.now) }
+        ensures err { OnErr result (self.new ≡ self.old) }
+    {
+        let Some((row, needs)) = body_spelled(*self.bytes.allocator(), bytes) else {
+            return Ok(false);
+        };
+        self.push_row(row, needs)?;
+        Ok(true)
     }
 
     /// The bodies, one by one.

@@ -15,6 +15,7 @@ pub mod instr;
 pub mod labels;
 pub mod needs;
 pub mod short;
+mod spelled;
 pub mod try_clone;
 
 pub use crate::bodies::Bodies;

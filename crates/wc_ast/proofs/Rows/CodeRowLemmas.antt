@@ -1,11 +1,10 @@
 -- Rows of codes.
-use Rattle.std.proofs.Common.{◌≡◌, ◌≤◌, ◌<◌, ℕ, suc, List, [], ◌∷◌, ◌++◌, length, map, take, drop, refl, sym, ap, ◌∙◌, arith}
-use Rattle.std.proofs.lemmas.List.{take-append-le, drop-append-le, length-append, length-replicate}
+use Rattle.std.proofs.Common.{◌≡◌, ◌≤◌, ℕ, suc, List, [], ◌∷◌, ◌++◌, length, map, take, drop, refl, sym, ap, arith}
+use Rattle.std.proofs.lemmas.List.{append-nil, take-append-le, drop-append-le, length-append, length-replicate}
 use Rattle.std.proofs.Math.Seq.{take-length, drop-length}
 use Rattle.wc_body.specs.declared.instr.BlockType.{BlockType}
 use Rattle.wc_body.specs.declared.instr.Instr.{Instr}
 use Rattle.wc_body.specs.Standard.Nested.{Code}
-use Rattle.wc_ops.specs.declared.val_type.ValType.{ValType}
 use Rattle.wc_ast.specs.declared.locals.Group.{Group}
 use Rattle.wc_ast.specs.declared.codes.Span.{Span}
 use Rattle.wc_ast.specs.declared.codes.FuncCode.{FuncCode}
@@ -62,3 +61,13 @@ code-pushed (s ∷ ss) g h total (c ∷ bs) b are is =
       seen = rw (first, behind)
           (ap (λ (cs : List FuncCode). code (written_out (take s.groups g)) c ∷ cs) rest.seen);
     }
+
+-- one more code, without locals
+pub bare-pushed : (ss : List Span) (g : List Group) (bs : List (Code Instr BlockType)) (b : Code Instr BlockType)
+    → AreCodes ss g bs
+    → AreCodes (ss ++ span [] 0 ∷ []) g (bs ++ b ∷ [])
+    × (codes_at (ss ++ span [] 0 ∷ []) g (bs ++ b ∷ []) ≡ codes_at ss g bs ++ code [] b ∷ [])
+bare-pushed ss g bs b are =
+    let none : IsLocals [] 0 = record { grouped = tt; counted = refl; within = omega arith } in
+    let it = code-pushed ss g [] 0 bs b are none in
+    (rw append-nil at it.kept, rw append-nil at it.seen)

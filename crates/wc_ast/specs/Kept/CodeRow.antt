@@ -1,5 +1,5 @@
 -- What a row of codes keeps: the groups of all locals, and of each code how many they are; and the bodies.
-use Rattle.std.specs.Prelude.{ℕ, ◌≡◌, ◌≤◌, List, [], ◌∷◌, length, take, drop}
+use Rattle.std.specs.Prelude.{◌≡◌, ◌≤◌, List, [], ◌∷◌, length, take, drop}
 use Rattle.wc_body.specs.declared.instr.BlockType.{BlockType}
 use Rattle.wc_body.specs.declared.instr.Instr.{Instr}
 use Rattle.wc_body.specs.Standard.Nested.{Code}

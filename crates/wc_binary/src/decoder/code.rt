@@ -1,16 +1,18 @@
 //! Codes of functions (Core 1.0, 5.5.13).
 
+ghost use Rattle.std.specs.Prelude.{◌≡◌, IfOk, OnErr, IfSome};
 ghost use Rattle.wc_binary.specs.Standard.Contents.{code as code_phrase, func as func_phrase};
 ghost use Rattle.wc_binary.specs.Standard.Values.{times as times_phrase, vector as vector_phrase};
 ghost use Rattle.wc_binary.specs.Reading.Source.{Gives};
+ghost use Rattle.wc_binary.specs.Reading.NextCode.{BeginsBare, AddsCode, TakesCode};
 
 use crate::decoder::expression::body_from;
 use crate::decoder::from_source::FromSource;
 use crate::decoder::integer::u32;
 use crate::decoder::locals::locals_from;
 use crate::fault::{BinFault, BinWhy, bad};
-use crate::source::Source;
-use std::alloc::Global;
+use crate::source::{BUFFER_SIZE, Source};
+use std::alloc::{AllocError, Global};
 use wc_ast::{Body, BodyBuilder, Codes, FuncCode, Locals};
 
 /// What stands behind the size of a code, in the memory of one that is wanted no longer.
@@ -39,7 +41,51 @@ fn code<S: Source>(alloc: Global, spare: FuncCode, source: &mut S) -> Result<Fun
     Ok(found)
 }
 
-/// So many codes. Each is read into the same memory, and then put behind the others.
+/// The bytes of the body of the code that these begin with (Core 1.0, 5.5.13), where the size of the code has one byte
+/// and it has no locals.
+#[inline(always)]
+fn bare_body(bytes: &[u8]) -> Option<&[u8]>
+    ensures { IfSome result (λ body. BeginsBare bytes.now body.now) }
+{
+    let (size, rest) = bytes.split_first()?;
+    let (groups, rest) = rest.split_first()?;
+    if *size == 0 || *size >= 128 || *groups != 0 {
+        return None;
+    }
+    rest.get(..*size as usize - 1)
+}
+
+/// Adds the code that these bytes begin with, where they are its canonical ones, it has no locals, and its body is small
+/// and usual. Answers how many bytes it has, or none where it wasn't added.
+#[inline(always)]
+fn push_front(codes: &mut Codes, bytes: &[u8]) -> Result<Option<usize>, AllocError>
+    ensures ok { IfOk result (AddsCode codes.old codes.new bytes.now) }
+    ensures err { OnErr result (codes.new ≡ codes.old) }
+{
+    let Some(body) = bare_body(bytes) else {
+        return Ok(None);
+    };
+    if !codes.push_spelled(body)? {
+        return Ok(None);
+    }
+    Ok(Some(body.len() + 2))
+}
+
+/// Adds the code that lies ahead whole, where that can be done at once, and answers whether it was: as it can of most
+/// small functions. Else nothing was taken.
+#[inline(always)]
+fn code_ahead<S: Source>(codes: &mut Codes, source: &mut S) -> Result<bool, BinFault>
+    ensures { TakesCode codes.old codes.new (S.input source.old) (S.input source.new) result }
+{
+    let Some(count) = push_front(codes, source.front(BUFFER_SIZE))? else {
+        return Ok(false);
+    };
+    source.pass(count as u64);
+    Ok(true)
+}
+
+/// So many codes. One that can't be added at once is read into the same memory as others before it, and then put behind
+/// the others.
 fn codes<S: Source>(alloc: Global, count: u32, source: &mut S) -> Result<Codes, BinFault>
     ensures { Gives (times_phrase count code_phrase) (S.input source.old) (S.input source.new) result }
 {
@@ -49,6 +95,9 @@ fn codes<S: Source>(alloc: Global, count: u32, source: &mut S) -> Result<Codes, 
         body: Body::new(alloc),
     };
     for _ in 0..count {
+        if code_ahead(&mut codes, source)? {
+            continue;
+        }
         spare = code(alloc, spare, source)?;
         codes.push(&spare.locals, &spare.body)?;
     }

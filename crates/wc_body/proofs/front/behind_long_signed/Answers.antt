@@ -1,4 +1,3 @@
-use Rattle.std.specs.Prelude.{Some, None}
 use Rattle.std.proofs.Common.{◌<◌, rules}
 use Rattle.wc_body.proofs.Drafts.FrontLemmas.{two-found, three-found, four-found}
 use Rattle.wc_body.proofs.front.behind_long_signed.Goals as goal

@@ -1,7 +1,5 @@
-use Rattle.std.proofs.Common.{◌≡◌, length, sym, ap, ◌∙◌, arith}
-use Rattle.wc_ops.specs.declared.val_type.ValType.{ValType}
+use Rattle.std.proofs.Common.{arith}
 use Rattle.wc_ast.specs.Kept.Locals.{IsLocals}
-use Rattle.wc_ast.specs.Standard.LocalGroups.{written_out}
 use Rattle.wc_ast.proofs.Rows.CodeRowLemmas.{few-groups, code-pushed}
 use Rattle.wc_ast.proofs.codes.Codes.push.Goals as goal
 

@@ -1,4 +1,3 @@
-use Rattle.std.proofs.Common.{sym, ap, ◌∙◌}
 use Rattle.wc_ast.specs.Standard.Codes.{code}
 use Rattle.wc_ast.proofs.Rows.FuncLemmas.{func-pushed}
 use Rattle.wc_ast.proofs.funcs.Funcs.push.Goals as goal

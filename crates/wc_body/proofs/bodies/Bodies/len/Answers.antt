@@ -1,4 +1,4 @@
-use Rattle.std.proofs.Common.{◌≡◌, length, sym, ap, ◌∙◌, arith}
+use Rattle.std.proofs.Common.{sym, ◌∙◌}
 use Rattle.wc_body.proofs.Packing.BodyRowLemmas.{bodies-count}
 use Rattle.wc_body.proofs.bodies.Bodies.len.Goals as goal
 

@@ -1,4 +1,4 @@
-use Rattle.std.proofs.Common.{ℕ, List, sym, ap, ◌∙◌}
+use Rattle.std.proofs.Common.{sym, ap, ◌∙◌}
 use Rattle.wc_body.specs.Standard.Nested.{flatten}
 use Rattle.wc_body.proofs.body_ref.BodyRef.entries.Goals as goal
 

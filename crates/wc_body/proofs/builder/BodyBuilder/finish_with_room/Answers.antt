@@ -1,25 +1,15 @@
-use Rattle.std.proofs.Common.{◌≡◌, length, sym, ap, ◌∙◌, arith}
-use Rattle.wc_body.specs.Standard.Entries.{nested, drafted}
-use Rattle.wc_body.specs.Standard.Needed.{nothing}
-use Rattle.wc_body.specs.Drafting.NeededAlong.{needs_along}
+use Rattle.std.proofs.Common.{◌≡◌, length, arith}
+use Rattle.wc_body.specs.Standard.Entries.{drafted}
 use Rattle.wc_body.specs.Drafting.OpenParts.{part_in}
 use Rattle.wc_body.specs.Reading.Unpacked.{unpacked}
 use Rattle.wc_body.proofs.Drafts.BuildingLemmas.{building-whole}
-use Rattle.wc_body.proofs.Drafts.NeedsLemmas.{needs-flatten}
+use Rattle.wc_body.proofs.Drafts.Finished.{started-body}
 use Rattle.wc_body.proofs.builder.BodyBuilder.finish_with_room.Goals as goal
 
 pub from_bytes-requires : goal.from_bytes-requires
 from_bytes-requires c =
     let z : length (drafted (unpacked c.self.inside.bytes.items)).around ≡ 0 = rw c.self.view_is (omega arith) in
-    record {
-      packed = c.self.invariant.packed;
-      whole = (building-whole part_in _ _ c.self.invariant.building z).0;
-      needed =
-          c.self.invariant.needed
-          ∙ ap (λ ms. needs_along nothing 0 ms)
-          (sym (building-whole part_in _ _ c.self.invariant.building z).0.whole)
-          ∙ needs-flatten (nested (unpacked c.self.inside.bytes.items));
-    }
+    started-body _ _ _ _ c.self.invariant z
 
 pub returns-clause-ok : goal.returns-clause-ok
 returns-clause-ok c =

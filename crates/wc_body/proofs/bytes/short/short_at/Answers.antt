@@ -1,9 +1,6 @@
-use Rattle.std.proofs.Common.{◌≡◌, sym, subst}
-use Rattle.std.specs.Prelude.{Option, Some, IfSome}
+use Rattle.std.proofs.Common.{◌≡◌}
 use Rattle.wc_ops.specs.declared.op.OpByte.TheVariants.{Known}
-use Rattle.wc_body.specs.declared.entry.Entry.TheVariants.{Plain}
 use Rattle.wc_body.specs.Reading.Fronts.{known_front, entry_front}
-use Rattle.wc_body.specs.Standard.Short.{instruction}
 use Rattle.wc_body.proofs.Packing.Unpacking.{meant-first}
 use Rattle.wc_body.proofs.bytes.short.short_at.Goals as goal
 

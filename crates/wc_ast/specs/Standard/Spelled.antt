@@ -1,0 +1,15 @@
+-- A code that is added to others by the bytes that its body is spelled by.
+use Rattle.std.specs.Prelude.{◌≡◌, ℕ, Bool, true, false, List, [], ◌∷◌, ◌++◌}
+use Rattle.wc_body.specs.declared.instr.BlockType.{BlockType}
+use Rattle.wc_body.specs.declared.instr.Instr.{Instr}
+use Rattle.wc_body.specs.Standard.Nested.{Code}
+use Rattle.wc_body.specs.Standard.InstructionBytes.{expr_bytes, FitsExpr}
+use Rattle.wc_ast.specs.declared.codes.FuncCode.{FuncCode}
+use Rattle.wc_ast.specs.Standard.Codes.{code}
+
+-- the code without locals was put behind the others whose body has these canonical bytes, those of its end too (Core
+-- 1.0, 5.4.6); or none was
+abbrev pub AddsSpelled : List FuncCode → List FuncCode → List ℕ → Bool → Type 0
+AddsSpelled row after x false = after ≡ row
+AddsSpelled row after x true =
+    (c : Code Instr BlockType) × (x ≡ expr_bytes c) × FitsExpr c × (after ≡ row ++ code [] c ∷ [])

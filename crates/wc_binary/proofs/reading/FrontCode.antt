@@ -1,0 +1,52 @@
+-- Codes that lie ahead, in their canonical bytes, are those that reading gives.
+use Rattle.std.proofs.Common.{◌≡◌, ℕ, suc, ◌+◌, ◌<◌, ◌≤◌, List, [], ◌∷◌, ◌++◌, length, take, drop, refl, sym, ap, ◌∙◌}
+use Rattle.std.proofs.Common.{arith, Ok}
+use Rattle.std.proofs.lemmas.List.{length-append, length-take, take-take, take-append-drop}
+use Rattle.std.specs.Prelude.{IsTrue, Some}
+use Rattle.wc_leb128.specs.Writing.Bytes.{unsigned_bytes}
+use Rattle.wc_body.specs.declared.instr.BlockType.{BlockType}
+use Rattle.wc_body.specs.declared.instr.Instr.{Instr}
+use Rattle.wc_body.specs.Standard.Nested.{Code}
+use Rattle.wc_body.specs.Standard.InstructionBytes.{expr_bytes, FitsExpr}
+use Rattle.wc_ast.specs.declared.codes.FuncCode.{FuncCode}
+use Rattle.wc_ast.specs.Standard.Codes.{code as code_of}
+use Rattle.wc_binary.specs.Standard.Phrase.{Phrase, Spells}
+use Rattle.wc_binary.specs.Standard.Contents.{code}
+use Rattle.wc_binary.specs.Reading.Source.{Input, AreAhead, Passes, Gives}
+use Rattle.wc_binary.specs.Reading.NextCode.{BeginsBare, AddsCode}
+use Rattle.wc_binary.specs.Writing.Contents.{code_bytes, FitsCode}
+use Rattle.wc_binary.proofs.phrases.Laws.{spells-read}
+use Rattle.wc_binary.proofs.phrases.Freed.{freed}
+use Rattle.wc_binary.proofs.spelling.Contents.{code-writes}
+
+-- what was passed is what the first bytes ahead spell
+module _ {A : Type 0} (p : Phrase A) (old new : Input) (bytes x : List ℕ) (n : ℕ) (v : A)
+    (ahead : AreAhead old (length bytes) bytes) (few : n ≤ length bytes) (are : take n bytes ≡ x) (spelled : Spells p x v)
+    (passes : Passes n old new n)
+  where
+    long : length x ≡ n
+    long = omega (arith, ap length are, length-take n bytes, few)
+
+    next : IsTrue old.known → old.left ≡ x ++ new.left
+    next k =
+        let q = passes.3 k in
+        let same : take n old.left ≡ x =
+        sym (take-take n (length bytes) old.left few) ∙ ap (take n) (sym (ahead.1 k)) ∙ are in
+        sym (take-append-drop n old.left) ∙ ap (λ (y : List ℕ). y ++ drop n old.left) same
+        ∙ ap (λ (y : List ℕ). x ++ y) (sym q.2)
+
+    place : old.place + length x ≡ new.place
+    place = omega (arith, passes.2, long)
+
+    pub passed-gives : Gives p old new (Ok v)
+    passed-gives = (
+      passes.0,
+      λ k. ((passes.3 k).0, rw (next k, spells-read p old.place x new.left v spelled, place) refl),
+    )
+
+pub code-passed : (row after : List FuncCode) (old new : Input) (bytes : List ℕ) (n : ℕ) → AreAhead old (length bytes) bytes
+    → (h : AddsCode row after bytes (Some n)) → Passes n old new n → Gives code old new (Ok h.0)
+code-passed row after old new bytes n ahead h passes =
+    let f = h.0 in
+    let spelled = freed code (code_bytes f) f (code-writes.written f h.3) in
+    passed-gives code old new bytes (code_bytes f) n f ahead h.1 h.2 spelled passes
