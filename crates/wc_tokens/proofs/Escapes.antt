@@ -1,3 +1,4 @@
 pub mod ElementLaws
 pub mod StringLaws
 pub mod SimpleLaws
+pub mod ChunkLaws

@@ -15,6 +15,7 @@ mod stream;
 mod strings;
 mod token;
 mod tokens;
+mod values;
 mod whole;
 
 pub use elements::{Element, Meaning, read_element};

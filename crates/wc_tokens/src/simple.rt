@@ -4,9 +4,9 @@ ghost use Rattle.std.specs.Prelude.{◌≡◌, ◌+◌, ◌<◌, ◌≤◌, ℕ,
 ghost use Rattle.std.specs.Prelude.{IsTrue, IfSome, length, take, drop, slice_index};
 ghost use Rattle.wc_tokens.specs.Standard.Digits.{IsDigit};
 ghost use Rattle.wc_tokens.specs.Standard.Strings.{IsPlain, Element, Elements, EndsElements};
-ghost use Rattle.wc_tokens.specs.Reading.Simple.{IsSimple, IsSimpleAt};
+ghost use Rattle.wc_tokens.specs.Reading.Simple.{IsSimple, IsSimpleAt, IsLinked, IsLinkedAt, IsBegunAt};
 
-use crate::digits::digit_of;
+use crate::values::{hexadecimal_digit, plain_byte};
 
 /// How many bytes are looked at together.
 const CHUNK: usize = 16;
@@ -41,18 +41,37 @@ fn is_simple(byte: u8, next: u8, last: u8) -> bool
     is_plain(byte) || (byte == b'\\' && is_hexadecimal(next) && is_hexadecimal(last))
 }
 
-/// Whether so many bytes from a place on are each plain or a backslash before two digits.
+/// A byte that is plain or a backslash, before others of which the last is a digit where one before it is a backslash.
+// No test hangs on another one, so that a processor can do it to many bytes at once.
+#[inline(always)]
+fn is_linked(byte: u8, next: u8, last: u8) -> bool
+    ensures { IsTrue result → IsLinked byte next last }
+{
+    let apart = (byte != b'\\') & (next != b'\\');
+    (is_plain(byte) | (byte == b'\\')) & (apart | is_hexadecimal(last))
+}
+
+/// Whether so many bytes from a place on are each linked to the two behind them.
 // All are looked at, whatever the first ones are, so that a processor can do it to many at once.
 #[inline(always)]
-fn is_simple_chunk(text: &[u8], from: usize) -> bool
+fn is_linked_chunk(text: &[u8], from: usize) -> bool
     requires { from + 18 ≤ length text.now }
-    ensures { IsTrue result → (k : ℕ) → from ≤ k → k < from + 16 → IsSimpleAt text.now k }
+    ensures { IsTrue result → (k : ℕ) → k < 16 → IsLinkedAt text.now (from + k) }
 {
     let mut all = true;
-    for at in from..from + CHUNK {
-        all &= is_simple(text[at], text[at + 1], text[at + 2]);
+    for k in 0..CHUNK {
+        let at = from + k;
+        all &= is_linked(text[at], text[at + 1], text[at + 2]);
     }
     all
+}
+
+/// Whether the first byte isn't a backslash, or a digit stands behind it.
+#[inline(always)]
+fn begins_linked(text: &[u8]) -> bool
+    ensures { IsTrue result → IsBegunAt text.now 0 }
+{
+    text.len() >= 2 && (text[0] != b'\\' || is_hexadecimal(text[1]))
 }
 
 /// How many bytes at the front are plain or a backslash before two digits, found in chunks.
@@ -61,8 +80,11 @@ fn simple_chunks(text: &[u8]) -> usize
     ensures within { result ≤ length text.now }
     ensures simple { (k : ℕ) → k < result → IsSimpleAt text.now k }
 {
+    if !begins_linked(text) {
+        return 0;
+    }
     let mut at = 0;
-    while at + CHUNK + 2 <= text.len() && is_simple_chunk(text, at) {
+    while at + CHUNK + 2 <= text.len() && is_linked_chunk(text, at) {
         at += CHUNK;
     }
     at
@@ -97,40 +119,16 @@ fn simple_of(first: u8, next: u8, last: u8) -> Option<Simple>
         → Element (take s.len (first ∷ next ∷ last ∷ rest)) (s.value ∷ [])) }
 {
     let escape = first == b'\\';
-    let other = !(escape | is_plain(first));
-    let high = digit_of(next);
-    let low = digit_of(last);
-    if escape as u64 * (high / 16 + low / 16) + other as u64 != 0 {
+    let pair = 16 * hexadecimal_digit(next) + hexadecimal_digit(last);
+    let itself = plain_byte(first);
+    let value = if escape { pair } else { itself };
+    if value >= 256 {
         return None;
     }
-    let value = if escape {
-        (16 * high + low) as u8
-    } else {
-        first
-    };
     Some(Simple {
-        value,
+        value: value as u8,
         len: 1 + 2 * escape as usize,
     })
-}
-
-/// The simple element at the front of a text. Of one or two bytes it is the plain one alone.
-#[inline(always)]
-fn simple_at(text: &[u8]) -> Option<Simple>
-    ensures within { IfSome result (λ s. s.len ≤ length text.now) }
-    ensures element { IfSome result (λ s. Element (take s.len text.now) (s.value ∷ [])) }
-{
-    if text.len() >= 3 {
-        return simple_of(text[0], text[1], text[2]);
-    }
-    let (first, rest) = text.split_first()?;
-    if is_plain(*first) {
-        return Some(Simple {
-            value: *first,
-            len: 1,
-        });
-    }
-    None
 }
 
 /// Whether all these bytes stand for themselves.
@@ -165,19 +163,24 @@ pub struct Run {
     pub made: usize,
 }
 
-/// Reads simple elements at the front of a text, and writes the bytes that they stand for.
+/// Reads simple elements at the front of a text, and writes the bytes that they stand for. It stops before the last two
+/// bytes at the latest.
 pub fn read_simple(text: &[u8], bytes: &mut [u8; ROOM]) -> Run
     ensures within { result.len ≤ length text.now }
     ensures room { result.made ≤ 128 }
     ensures elements { Elements (take result.len text.now) (take result.made bytes.new) }
 {
+    // The last two bytes are left, since behind neither of them stand two.
+    let limit = text.len().saturating_sub(2);
     let mut len = 0;
-    for made in 0..ROOM {
-        let Some(simple) = simple_at(&text[len..]) else {
+    let mut made = 0;
+    while made < ROOM && len < limit {
+        let Some(simple) = simple_of(text[len], text[len + 1], text[len + 2]) else {
             return Run { len, made };
         };
         bytes[made] = simple.value;
         len += simple.len;
+        made += 1;
     }
-    Run { len, made: ROOM }
+    Run { len, made }
 }

@@ -1,14 +1,11 @@
 -- Simple elements, and where the elements of a string end.
 use Rattle.std.proofs.Common.{◌≡◌, ◌≢◌, ℕ, zero, suc, ◌+◌, ◌-◌, ◌*◌, ◌<◌, ◌≤◌, List, [], ◌∷◌, ◌++◌, length, take, drop, get_or, set}
 use Rattle.std.proofs.Common.{Some, None, refl, sym, ap, subst, ◌∙◌, append_assoc, length-drop, inl, inr, lit≤, arith}
-use Rattle.std.proofs.Common.{◌/◌, Bool, true, false, not, ◌||◌, IsTrue}
-use mir.Val.{bool_byte}
-use Rattle.std.proofs.Math.Dec.{eqb}
 use Rattle.std.specs.List.{between}
 use Rattle.std.proofs.lemmas.List.Edits.{length-between, get_or-between}
-use Rattle.std.proofs.lemmas.Bool.{cases_lt, ne_eqb}
+use Rattle.std.proofs.lemmas.Bool.{cases_lt}
 use Rattle.std.proofs.lemmas.Bool.Decides.{nat_tests}
-use Rattle.std.proofs.lemmas.List.{take_rest}
+use Rattle.std.proofs.lemmas.List.{take_rest, drop_more}
 use Rattle.std.proofs.lemmas.Grind.{take-set_at}
 use Rattle.std.proofs.Math.Seq.{take-add}
 use Rattle.wc_tokens.specs.Standard.Digits.{digit_of, IsDigit}
@@ -117,30 +114,20 @@ EndsElements-simple (c ∷ text) (suc n) h rest e =
 
 -- ---- a simple element that is read
 
-pub Element-plain : (text rest : List ℕ) (c : ℕ) → text ≡ c ∷ rest → IsPlain c → Element (take 1 text) (c ∷ [])
-Element-plain text rest c e p = subst (λ (t : List ℕ). Element (take 1 t) (c ∷ [])) (sym e) (plain c p)
-
--- what is computed of the three bytes: where the first one is a backslash, the others are digits, and else it is plain
-pub escape-digits : (first x : ℕ) (p : Bool) → first ≡ 92
-    → bool_byte (eqb first 92) * x + bool_byte (not (eqb first 92 || p)) ≡ 0 → x ≡ 0
-escape-digits first x p e h =
-    let same : bool_byte (eqb 92 92) * x + bool_byte (not (eqb 92 92 || p)) ≡ 0 =
-    subst (λ (c : ℕ). bool_byte (eqb c 92) * x + bool_byte (not (eqb c 92 || p)) ≡ 0) e h in
-    omega (arith, same)
-
-pub other-plain : (first x : ℕ) (p : Bool) → (first ≡ 92 → ⊥)
-    → bool_byte (eqb first 92) * x + bool_byte (not (eqb first 92 || p)) ≡ 0 → IsTrue p
-other-plain first x true differs h = refl
-other-plain first x false differs h =
-    let same : bool_byte false * x + bool_byte (not (false || false)) ≡ 0 = rw (ne_eqb first 92 differs) at h in
-    absurd (omega (arith, same))
-
-pub Element-digits : (high low h l : ℕ) → h ≡ digit_of high → l ≡ digit_of low → h / 16 + l / 16 ≡ 0
+-- the byte that two digits spell, where what is told of them is below 256
+pub Element-digits : (high low h l : ℕ) → (h < 256 → IsDigit 16 high × (h ≡ digit_of high))
+    → (l < 256 → IsDigit 16 low × (l ≡ digit_of low)) → 16 * h + l < 256
     → Element (92 ∷ high ∷ low ∷ []) ((16 * h + l) ∷ [])
-Element-digits high low h l e f zeros =
-    let a : digit_of high < 16 = omega (arith, e, zeros) in
-    let b : digit_of low < 16 = omega (arith, f, zeros) in
-    rw (e, f) (byte high low a b)
+Element-digits high low h l first second lt =
+    let a = first (omega (arith, lt)) in
+    let b = second (omega (arith, lt)) in
+    rw (a.1, b.1) (byte high low a.0 b.0)
+
+-- the byte that stands for itself, likewise
+pub Element-plain : (c value : ℕ) → (value < 256 → IsPlain c × (value ≡ c)) → value < 256 → Element (c ∷ []) (value ∷ [])
+Element-plain c value told lt =
+    let p = told lt in
+    rw p.1 (plain c p.0)
 
 -- the first bytes are plain, and so are these many more
 pub plain-more : (text : List ℕ) (at : ℕ) → at + 16 ≤ length text → ((k : ℕ) → k < at → IsPlain (get_or text k 0))
@@ -171,11 +158,24 @@ Elements-plain (c ∷ text) (suc n) le h =
 
 -- one more behind those that were read
 pub Elements-simple : (text bytes : List ℕ) (len one made value : ℕ) → Elements (take len text) (take made bytes)
-    → Element (take one (take (length text - len) (drop len text))) (value ∷ []) → made < length bytes
+    → ((rest : List ℕ) → Element (take one (get_or text len 0 ∷ get_or text (len + 1) 0 ∷ get_or text (len + 2) 0 ∷ rest)) (value ∷ []))
+    → len + 2 < length text → made < length bytes
     → Elements (take (len + one) text) (take (made + 1) (set bytes made value))
-Elements-simple text bytes len one made value es e l =
-    let read : Element (take one (drop len text)) (value ∷ []) = rw (take_rest text len) at e in
+Elements-simple text bytes len one made value es e within l =
+    let front : drop len text ≡ get_or text len 0 ∷ get_or text (len + 1) 0 ∷ get_or text (len + 2) 0 ∷ drop (len + 3) text =
+    three text len within in
+    let read : Element (take one (drop len text)) (value ∷ []) = rw front (e (drop (len + 3) text)) in
     rw (take-add len one text, take-set_at bytes made (made + 1) value refl l) (Elements-append es (Elements-one read))
+  where
+    three : (text : List ℕ) (at : ℕ) → at + 2 < length text
+        → drop at text ≡ get_or text at 0 ∷ get_or text (at + 1) 0 ∷ get_or text (at + 2) 0 ∷ drop (at + 3) text
+    three text at within =
+        let a = drop_more text at 0 (omega (arith, within)) in
+        let b = drop_more text (at + 1) 0 (omega (arith, within)) in
+        let c = drop_more text (at + 2) 0 within in
+        let same : at + 1 + 1 ≡ at + 2 = omega arith in
+        let last : at + 2 + 1 ≡ at + 3 = omega arith in
+        a ∙ ap (λ (t : List ℕ). get_or text at 0 ∷ t) (rw same at b ∙ ap (λ (t : List ℕ). get_or text (at + 1) 0 ∷ t) (rw last at c))
 
 -- a text is as long behind a place as it is without the front
 pub length-take_rest : (text : List ℕ) (at : ℕ) → length (take (length text - at) (drop at text)) ≡ length text - at

@@ -10,3 +10,18 @@ IsSimple c high low = IsPlain c ⊎ ((c ≡ 92) × IsDigit 16 high × IsDigit 16
 -- the same of a place in a text
 abbrev pub IsSimpleAt : List ℕ → ℕ → Type 0
 IsSimpleAt text k = IsSimple (slice_index text k) (slice_index text (k + 1)) (slice_index text (k + 2))
+
+-- The byte is plain or a backslash, and the last of the two behind it is a digit where the byte, or the next one, is a
+-- backslash.
+pub record IsLinked (c next last : ℕ) : Type 0 where
+  pub simple : IsPlain c ⊎ (c ≡ 92)
+  pub first_digit : next ≡ 92 → IsDigit 16 last
+  pub last_digit : c ≡ 92 → IsDigit 16 last
+
+-- the same of a place in a text
+abbrev pub IsLinkedAt : List ℕ → ℕ → Type 0
+IsLinkedAt text k = IsLinked (slice_index text k) (slice_index text (k + 1)) (slice_index text (k + 2))
+
+-- a digit stands behind the place where a backslash stands at it
+abbrev pub IsBegunAt : List ℕ → ℕ → Type 0
+IsBegunAt text k = slice_index text k ≡ 92 → IsDigit 16 (slice_index text (k + 1))
