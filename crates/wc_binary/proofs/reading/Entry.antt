@@ -1,6 +1,6 @@
 -- From a source to the whole input.
 use Rattle.std.proofs.Common.{◌≡◌, ℕ, ◌+◌, ◌≤◌, ◌||◌, List, [], ◌∷◌, ◌++◌, length, Option, Some, None, Result, Ok, Err}
-use Rattle.std.proofs.Common.{IfSome, IfErr, OnOk, Bool, true, false, refl, ap, subst, sym, ◌∙◌}
+use Rattle.std.proofs.Common.{IfSome, IfErr, OnOk, Bool, false, refl, ap, subst, sym, ◌∙◌}
 use Rattle.std.specs.Prelude.{IsTrue}
 use Rattle.std.specs.Option.{is_some, unwrap_or}
 use Rattle.std.specs.Io.KnownBytes.{IsAtEnd}

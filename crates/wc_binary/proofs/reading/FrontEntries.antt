@@ -1,6 +1,6 @@
 -- Entries that lie ahead, spelled as a body keeps them, are those that reading one by one gives.
-use Rattle.std.proofs.Common.{◌≡◌, ℕ, zero, suc, ◌+◌, ◌-◌, ◌<◌, ◌≤◌, Bool, true, false, nat_lt, List, [], ◌∷◌, ◌++◌}
-use Rattle.std.proofs.Common.{length, take, drop, Option, Result, Ok, refl, sym, ap, ◌∙◌, append_assoc, arith}
+use Rattle.std.proofs.Common.{◌≡◌, ℕ, zero, suc, ◌+◌, ◌<◌, ◌≤◌, true, false, nat_lt, List, [], ◌∷◌, ◌++◌}
+use Rattle.std.proofs.Common.{length, take, drop, Ok, refl, sym, ap, ◌∙◌, append_assoc, arith}
 use Rattle.std.proofs.lemmas.Bool.{lt-ltb}
 use Rattle.std.proofs.lemmas.List.{length-append, length-take, take-take, take-append-drop}
 use Rattle.std.specs.Prelude.{IsTrue}
@@ -13,7 +13,7 @@ use Rattle.wc_body.specs.declared.entry.Entry.{Entry}
 use Rattle.wc_body.specs.declared.entry.Entry.TheVariants.{Plain, Begin, Else, End}
 use Rattle.wc_body.specs.declared.instr.Instr.{Instr}
 use Rattle.wc_body.specs.declared.instr.BlockType.{BlockType}
-use Rattle.wc_body.specs.Standard.Nested.{Region, block, loop, nesting_limit}
+use Rattle.wc_body.specs.Standard.Nested.{block, loop, nesting_limit}
 use Rattle.wc_body.specs.Standard.Draft.{Draft, step, steps, may_come, begins}
 use Rattle.wc_body.specs.Standard.Entries.{mark, marks}
 use Rattle.wc_body.specs.Standard.InstructionBytes.{op_of, rest_bytes, block_type_bytes, FitsBlockType}
@@ -31,7 +31,7 @@ use Rattle.wc_binary.proofs.spelling.Expressions.{plain-begins}
 use Rattle.wc_binary.proofs.spelling.Opcodes.{row-begins}
 use Rattle.wc_binary.proofs.spelling.Instructions.{follows-writes}
 use Rattle.wc_binary.proofs.spelling.BlockTypes.{block_type-writes}
-use Rattle.wc_binary.proofs.reading.Fronts.{bytes_to, IsWithin, within-before, bytes-split}
+use Rattle.wc_binary.proofs.reading.Fronts.{bytes_to, within-before, bytes-split}
 use Rattle.wc_binary.proofs.reading.Going.{GoesOn-refl, GoesOn-trans}
 use Rattle.wc_binary.proofs.reading.Entries.{Reading, all_marks, Draws}
 

@@ -1,6 +1,6 @@
 -- The bytes to come, all of them or those up to a place, which are read alike as far as that.
 use Rattle.std.proofs.Common.{◌≡◌, ℕ, suc, ◌+◌, ◌-◌, ◌≤◌, List, [], ◌∷◌, ◌++◌, length, take, Option, Some, None}
-use Rattle.std.proofs.Common.{refl, sym, ap, ◌∙◌, arith}
+use Rattle.std.proofs.Common.{sym, ap, ◌∙◌, arith}
 use Rattle.std.specs.Prelude.{⊤}
 use Rattle.wc_binary.specs.Standard.Phrase.{Phrase}
 use Rattle.wc_binary.specs.Reading.Reading.{got, read}

@@ -1,12 +1,12 @@
 -- Reading goes on from place to place of one device.
-use Rattle.std.proofs.Common.{◌≡◌, ℕ, List, [], Option, Some, None, Result, Ok, Err, refl, sym, ap, ◌∙◌, arith}
+use Rattle.std.proofs.Common.{◌≡◌, ℕ, List, [], Option, Some, None, Result, Err, refl, sym, ap, ◌∙◌, arith}
 use Rattle.std.specs.Prelude.{IsTrue}
 use Rattle.wc_binary.specs.declared.fault.BinFault.{BinFault}
 use Rattle.wc_binary.specs.declared.fault.BinFault.TheVariants.{Bad, Read, Memory}
 use Rattle.wc_binary.specs.declared.fault.BinWhy.TheVariants.{End}
 use Rattle.wc_binary.specs.Standard.Phrase.{Halt, halt}
 use Rattle.wc_binary.specs.Reading.Reading.{Got}
-use Rattle.wc_binary.specs.Reading.Source.{Input, GoesOn, Stopped, ReadFailed, NextGives, ByteGives, Fails}
+use Rattle.wc_binary.specs.Reading.Source.{Input, GoesOn, Stopped, ReadFailed, ByteGives, Fails}
 use Rattle.wc_binary.proofs.reading.Fronts.{bytes_to, IsWithin}
 
 pub GoesOn-refl : (i : Input) → GoesOn i i

@@ -1,6 +1,6 @@
 -- Reading items one after the other, as a loop does.
-use Rattle.std.proofs.Common.{◌≡◌, ℕ, zero, suc, ◌-◌, ◌+◌, ◌≤◌, ◌<◌, List, [], ◌∷◌, ◌++◌, length, take, drop, get_or, Option}
-use Rattle.std.proofs.Common.{Some, None, Result, Ok, Err, refl, ap, subst, sym, ◌∙◌, append_assoc, add-one, drop-cons, arith}
+use Rattle.std.proofs.Common.{◌≡◌, ℕ, zero, suc, ◌-◌, ◌+◌, ◌≤◌, ◌<◌, List, [], ◌∷◌, ◌++◌, length, take, drop, get_or}
+use Rattle.std.proofs.Common.{Some, Result, Ok, Err, refl, ap, subst, sym, ◌∙◌, append_assoc, add-one, drop-cons, arith}
 use Rattle.std.specs.List.{AllByRecursion}
 use Rattle.std.specs.Prelude.{IsTrue}
 use native.Mathlib.Numerals.{unary_clauses}
@@ -8,14 +8,14 @@ use Rattle.std.proofs.lemmas.List.{length-append, length-take-le, take-append-dr
 use Rattle.std.proofs.lemmas.List.{append-nil}
 use Rattle.wc_binary.specs.declared.fault.BinFault.{BinFault}
 use Rattle.wc_binary.specs.declared.fault.BinWhy.TheVariants.{End}
-use Rattle.wc_binary.specs.Standard.Phrase.{Halt, halt, Phrase, byte, ◌>>=◌}
+use Rattle.wc_binary.specs.Standard.Phrase.{Halt, halt, Phrase, byte}
 use Rattle.wc_binary.specs.Reading.Reading.{Got, got, fault, ◌and_then◌, read}
 use Rattle.wc_binary.specs.Reading.Source.{Input, NextGives, Takes, Passes, AreAhead, Fails, Gave}
 use Rattle.wc_binary.specs.Standard.Values.{times, any_byte, exactly, only, IsByte}
 use Rattle.wc_binary.specs.declared.fault.BinWhy.{BinWhy}
 use Rattle.wc_binary.specs.Standard.Sections.{skip}
 use Rattle.wc_binary.proofs.phrases.AnyByte.{byte-stands}
-use Rattle.wc_binary.proofs.reading.Fronts.{bytes_to, IsWithin, within-before, bytes-split, phrase-to}
+use Rattle.wc_binary.proofs.reading.Fronts.{bytes_to, within-before, bytes-split, phrase-to}
 use Rattle.wc_binary.proofs.reading.Going.{EndsAt, GoesOn-trans}
 use Rattle.wc_binary.proofs.reading.Behind.{Leads, leads-trans, leads-fail, leads-done, first-fails, behind-leads}
 

@@ -1,6 +1,6 @@
 -- From the readers' answers to the relations of whole modules.
 use Rattle.std.proofs.Common.{◌≡◌, ◌≢◌, ℕ, ◌+◌, ◌-◌, ◌≤◌, List, [], ◌∷◌, ◌++◌, length, take, Some, None, Ok, Err, inl, inr, sym, ap, subst, ◌∙◌}
-use Rattle.std.proofs.Common.{refl, arith}
+use Rattle.std.proofs.Common.{arith}
 use Rattle.std.specs.Prelude.{IsTrue}
 use Rattle.std.proofs.lemmas.List.{length-append}
 use Rattle.wc_ast.specs.declared.module.Module.{Module}
@@ -14,7 +14,7 @@ use Rattle.wc_binary.specs.declared.fault.BinWhy.TheVariants.{End, Counts}
 use Rattle.wc_binary.specs.Standard.Style.{free}
 use Rattle.wc_binary.specs.Standard.Phrase.{halt, Spells}
 use Rattle.wc_binary.specs.Reading.Reading.{read}
-use Rattle.wc_binary.specs.Reading.Source.{Input, up_to, GoesOn, Stopped, NextGives, Fails, Gave}
+use Rattle.wc_binary.specs.Reading.Source.{Input, up_to, GoesOn, NextGives, Fails, Gave}
 use Rattle.wc_binary.specs.Standard.Sections.{id_of, content, after, put}
 use Rattle.wc_binary.specs.Standard.Module.{preamble, parts_of, FirstFault}
 use Rattle.wc_binary.specs.Standard.Decoding.{IsCutShort}

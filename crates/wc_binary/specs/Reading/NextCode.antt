@@ -22,3 +22,8 @@ abbrev pub TakesCode : List FuncCode → List FuncCode → Input → Input → R
 TakesCode row after old new (Ok true) = (f : FuncCode) × Gives code old new (Ok f) × (after ≡ row ++ f ∷ [])
 TakesCode row after old new (Ok false) = (after ≡ row) × (new ≡ old)
 TakesCode row after old new (Err e) = Gives code old new (Err e)
+
+-- a code was read and put behind the others, or its fault is told
+abbrev pub AddsNextCode : {V : Type 0} → List FuncCode → List FuncCode → Input → Input → Result V BinFault → Type 0
+AddsNextCode row after old new (Ok v) = (f : FuncCode) × Gives code old new (Ok f) × (after ≡ row ++ f ∷ [])
+AddsNextCode row after old new (Err e) = Gives code old new (Err e)

@@ -4,7 +4,7 @@ ghost use Rattle.std.specs.Prelude.{◌≡◌, IfOk, OnErr, IfSome};
 ghost use Rattle.wc_binary.specs.Standard.Contents.{code as code_phrase, func as func_phrase};
 ghost use Rattle.wc_binary.specs.Standard.Values.{times as times_phrase, vector as vector_phrase};
 ghost use Rattle.wc_binary.specs.Reading.Source.{Gives};
-ghost use Rattle.wc_binary.specs.Reading.NextCode.{BeginsBare, AddsCode, TakesCode};
+ghost use Rattle.wc_binary.specs.Reading.NextCode.{BeginsBare, AddsCode, TakesCode, AddsNextCode};
 
 use crate::decoder::expression::body_from;
 use crate::decoder::from_source::FromSource;
@@ -52,7 +52,11 @@ fn bare_body(bytes: &[u8]) -> Option<&[u8]>
     if *size == 0 || *size >= 128 || *groups != 0 {
         return None;
     }
-    rest.get(..*size as usize - 1)
+    let count = *size as usize - 1;
+    if rest.len() < count {
+        return None;
+    }
+    Some(&rest[..count])
 }
 
 /// Adds the code that these bytes begin with, where they are its canonical ones, it has no locals, and its body is small
@@ -84,8 +88,25 @@ fn code_ahead<S: Source>(codes: &mut Codes, source: &mut S) -> Result<bool, BinF
     Ok(true)
 }
 
-/// So many codes. One that can't be added at once is read into the same memory as others before it, and then put behind
-/// the others.
+/// Reads a code, and puts it behind the others. Where that can't be done at once, it is read into the memory of one that
+/// is wanted no longer; such memory is answered.
+fn next_code<S: Source>(
+    alloc: Global,
+    codes: &mut Codes,
+    spare: FuncCode,
+    source: &mut S,
+) -> Result<FuncCode, BinFault>
+    ensures { AddsNextCode codes.old codes.new (S.input source.old) (S.input source.new) result }
+{
+    if code_ahead(codes, source)? {
+        return Ok(spare);
+    }
+    let found = code(alloc, spare, source)?;
+    codes.push(&found.locals, &found.body)?;
+    Ok(found)
+}
+
+/// So many codes, one behind the other.
 fn codes<S: Source>(alloc: Global, count: u32, source: &mut S) -> Result<Codes, BinFault>
     ensures { Gives (times_phrase count code_phrase) (S.input source.old) (S.input source.new) result }
 {
@@ -95,11 +116,7 @@ fn codes<S: Source>(alloc: Global, count: u32, source: &mut S) -> Result<Codes, 
         body: Body::new(alloc),
     };
     for _ in 0..count {
-        if code_ahead(&mut codes, source)? {
-            continue;
-        }
-        spare = code(alloc, spare, source)?;
-        codes.push(&spare.locals, &spare.body)?;
+        spare = next_code(alloc, &mut codes, spare, source)?;
     }
     Ok(codes)
 }

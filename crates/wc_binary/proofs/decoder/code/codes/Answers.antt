@@ -5,9 +5,9 @@ use Rattle.wc_binary.proofs.decoder.code.codes.Goals as goal
 
 pub loop-preserved : goal.loop-preserved
 loop-preserved g c =
-    rw c.in_ok-push.ensures.ok
-    (times-more code c.loop.codes c.args.count c.loop.counter _ _ _ c.loop.invariant c.loop-test.true
-    c.in_ok-spare.spare _ c.in_ok-spare.ensures)
+    let adds = c.in_ok-spare.ensures in
+    rw adds.2
+    (times-more code c.loop.codes c.args.count c.loop.counter _ _ _ c.loop.invariant c.loop-test.true adds.0 _ adds.1)
 
 pub returns-in_err-spare : goal.returns-in_err-spare
 returns-in_err-spare g c =

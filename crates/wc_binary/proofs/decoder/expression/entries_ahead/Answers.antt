@@ -1,4 +1,4 @@
-use Rattle.std.proofs.Common.{◌≡◌, [], arith, refl}
+use Rattle.std.proofs.Common.{◌≡◌, arith}
 use Rattle.wc_binary.proofs.reading.FrontEntries.{none-ahead}
 use Rattle.wc_binary.proofs.decoder.expression.entries_ahead.Goals as goal
 

@@ -1,4 +1,3 @@
-use Rattle.std.proofs.Common.{◌∷◌}
 use Rattle.wc_binary.specs.Reading.Reading.{unsigned_at}
 use Rattle.wc_binary.proofs.reading.Behind.{byte-then-gives}
 use Rattle.wc_binary.specs.Standard.Values.{u32}

@@ -1,4 +1,4 @@
-use Rattle.std.proofs.Common.{◌∷◌, Err}
+use Rattle.std.proofs.Common.{Err}
 use Rattle.std.proofs.lemmas.Result.{err_from_is_err_and}
 use Rattle.wc_binary.specs.Reading.Reading.{signed_at}
 use Rattle.wc_binary.specs.Standard.Instructions.{s32}

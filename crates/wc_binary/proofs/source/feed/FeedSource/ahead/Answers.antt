@@ -1,4 +1,4 @@
-use Rattle.std.proofs.Common.{arith, ◌≤◌, ◌-◌, length, rules}
+use Rattle.std.proofs.Common.{◌≤◌, ◌-◌, length, rules}
 use Rattle.wc_binary.proofs.reading.Feeding.{pending-ahead}
 use Rattle.wc_binary.proofs.source.feed.FeedSource.ahead.Goals as goal
 
