@@ -1,6 +1,6 @@
 -- Lines as they are written on a page.
 use Rattle.std.proofs.Common.{◌≡◌, ◌≢◌, ℕ, suc, ◌+◌, ◌/◌, ◌%◌, ◌<◌, ◌≤◌, ◌^◌, List, [], ◌∷◌, ◌++◌, length, set, take, drop}
-use Rattle.std.proofs.Common.{sym, ap, ◌∙◌, arith, append_assoc}
+use Rattle.std.proofs.Common.{refl, sym, ap, ◌∙◌, arith, append_assoc}
 use Rattle.std.proofs.Common.{codes}
 use Rattle.std.specs.Prelude.{Ok}
 use Rattle.std.specs.Fmt.{decimal}
@@ -39,14 +39,14 @@ pub one-digit : (page : List ℕ) (at n : ℕ) → at + 1 ≤ length page → n 
 one-digit page at n fits lt =
     one-written page at (48 + n) fits ∙ ap (λ (x : List ℕ). take at page ++ x) (sym (decimal_digit n lt))
 
-pub two-digits : (page : List ℕ) (at n : ℕ) → at + 2 ≤ length page → 10 ≤ n → n / 10 < 10 → n < 256
+pub two-digits : (page : List ℕ) (at n : ℕ) → at + 2 ≤ length page → 10 ≤ n → n / 10 < 10 → n < 1000
     → take (at + 2) (set (set page at (48 + n / 10)) (at + 1) (48 + n % 10)) ≡ take at page ++ decimal n
 two-digits page at n fits ge lt low =
     let is : decimal n ≡ (48 + n / 10) ∷ (48 + n % 10) ∷ [] =
     decimal_step n ge (omega (arith, low)) ∙ ap (λ (x : List ℕ). x ++ (48 + n % 10) ∷ []) (decimal_digit (n / 10) lt) in
     two-written page at (at + 1) _ _ (omega arith) fits ∙ ap (λ (x : List ℕ). take at page ++ x) (sym is)
 
-pub three-digits : (page : List ℕ) (at n : ℕ) → at + 3 ≤ length page → 10 ≤ n / 10 → n < 256
+pub three-digits : (page : List ℕ) (at n : ℕ) → at + 3 ≤ length page → 10 ≤ n / 10 → n < 1000
     → take (at + 3) (set (set (set page at (48 + n / 10 / 10)) (at + 1) (48 + n / 10 % 10)) (at + 2) (48 + n % 10))
     ≡ take at page ++ decimal n
 three-digits page at n fits ge low =
@@ -57,6 +57,26 @@ three-digits page at n fits ge low =
     decimal_step n (omega (arith, ge)) (omega (arith, low)) ∙ ap (λ (x : List ℕ). x ++ (48 + n % 10) ∷ []) first in
     three-written page at (at + 1) (at + 2) _ _ _ (omega arith) (omega arith) fits
     ∙ ap (λ (x : List ℕ). take at page ++ x) (sym is)
+
+hundreds : (n : ℕ) → n / 10 / 10 ≡ n / 100
+hundreds n = omega arith
+
+thousands : (n : ℕ) → n / 100 / 10 ≡ n / 1000
+thousands n = omega arith
+
+-- three more digits, behind those that are written
+pub three-more : (page front : List ℕ) (at n : ℕ) → at + 3 ≤ length page → 1000 ≤ n → n < 1000000
+    → take at page ≡ front ++ decimal (n / 1000)
+    → take (at + 3) (set (set (set page at (48 + n / 100 % 10)) (at + 1) (48 + n / 10 % 10)) (at + 2) (48 + n % 10))
+    ≡ front ++ decimal n
+three-more page front at n fits ge low written =
+    let first : decimal (n / 100) ≡ decimal (n / 1000) ++ (48 + n / 100 % 10) ∷ [] =
+    rw (thousands n) at (decimal_step (n / 100) (omega (arith, ge)) (omega (arith, low))) in
+    let second : decimal (n / 10) ≡ decimal (n / 100) ++ (48 + n / 10 % 10) ∷ [] =
+    rw (hundreds n) at (decimal_step (n / 10) (omega (arith, ge)) (omega (arith, low))) in
+    let third : decimal n ≡ decimal (n / 10) ++ (48 + n % 10) ∷ [] = decimal_step n (omega (arith, ge)) (omega (arith, low)) in
+    three-written page at (at + 1) (at + 2) _ _ _ (omega arith) (omega arith) fits
+    ∙ rw (written, third, second, first) (simp append_assoc)
 
 -- what is behind a space
 pub behind-space : (page new ds : List ℕ) (at end : ℕ) → at + 1 ≤ length page
@@ -72,6 +92,15 @@ row-kept page row copied rest at n fits long short same =
     let cut : take (at + n) (take at page ++ (row ++ rest)) ≡ take at page ++ take n (row ++ rest) =
     rw front at (take-append-add (take at page) (row ++ rest) n) in
     rw same cut ∙ ap (λ (x : List ℕ). take at page ++ x) (take-append-le n row rest (omega (arith, long, short)))
+
+-- bytes are copied to a place
+pub all-kept : (page bytes copied rest : List ℕ) (at n : ℕ) → n ≡ at + length bytes → at ≤ length page → copied ≡ bytes
+    → take n (take at page ++ (copied ++ rest)) ≡ take at page ++ bytes
+all-kept page bytes copied rest at n is fits same =
+    let front : length (take at page) ≡ at = length-take-le at page fits in
+    let cut : take (at + length bytes) (take at page ++ (bytes ++ rest)) ≡ take at page ++ take (length bytes) (bytes ++ rest) =
+    rw front at (take-append-add (take at page) (bytes ++ rest) (length bytes)) in
+    rw (is, same) cut ∙ ap (λ (x : List ℕ). take at page ++ x) (take_at bytes rest (length bytes) refl)
 
 -- a line that is written
 pub line-put : (p : Printed) {old new line : List ℕ} → IsSpelled p → line ≡ printed (below 4 p ∷ []) → new ≡ old ++ line

@@ -63,6 +63,11 @@ pub text-last : {R E : Type 0} (items : List Item) (old new bytes : List ℕ) (r
 text-last items old new bytes (Ok v) h is e = record { spelled = h; bytes = rw (← is) e }
 text-last items old new bytes (Err f) h is e = tt
 
+-- items that were put together elsewhere are put, where the call didn't fail
+pub written-last : {R E : Type 0} (items : List Item) (old new bytes : List ℕ) (r : Result R E) → Put items [] bytes
+    → new ≡ (if is_ok r then old ++ bytes else old) → OnOk r (Put items old new)
+written-last items old new bytes r h e = text-last items old new bytes r h.spelled h.bytes e
+
 -- ---- loops
 
 pub leaves-less : {first left all : List Item} {out mid old : List ℕ} → Put first out mid → Leaves (first ++ left) all out old

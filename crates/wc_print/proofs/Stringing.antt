@@ -3,7 +3,7 @@ use Rattle.std.proofs.Common.{◌≡◌, ℕ, zero, suc, ◌+◌, ◌-◌, ◌<�
 use Rattle.std.proofs.Common.{length, get_or, take, drop, inl, inr}
 use Rattle.std.proofs.Common.{refl, sym, ap, subst, ◌∙◌, arith, append_assoc, Fits, w8}
 use Rattle.std.specs.Prelude.{if◌then◌else◌}
-use Rattle.std.proofs.lemmas.List.{append-nil, length-drop, take-append-drop, take_all, nil_from_length}
+use Rattle.std.proofs.lemmas.List.{append-nil, length-drop, length-take-le, get_or-take, take-append-drop, take_all, nil_from_length}
 use Rattle.std.proofs.lemmas.List.Edits.{length-between, get_or-between}
 use Rattle.std.proofs.lemmas.Bool.{cases_lt}
 use Rattle.std.proofs.lemmas.Grind.{flat_map-append}
@@ -88,3 +88,29 @@ string-put bs rest old mid out new fits none start left end =
       spelled = (bytes-fit bs fits, tt);
       bytes = end ∙ rw (done, start) (simp (append_assoc, append-nil));
     }
+
+-- bytes that stand for themselves
+pub plain-put : (bs old mid out new : List ℕ) → ((k : ℕ) → Fits w8 (get_or bs k 0))
+    → ((k : ℕ) → k < length bs → stands (get_or bs k 0) ≡ true) → mid ≡ old ++ (32 ∷ 34 ∷ []) → out ≡ mid ++ bs
+    → new ≡ out ++ (34 ∷ []) → Put (after (quoted bs) ∷ []) old new
+plain-put bs old mid out new fits plain start middle end =
+    let whole : flat_map escaped bs ≡ bs =
+    subst (λ (x : List ℕ). flat_map escaped x ≡ x) (take_all (length bs) bs (omega arith))
+    (as-themselves bs (length bs) (omega arith) plain) in
+    let left : LeavesEscaped [] bs out mid = record {
+      bytes = append-nil out ∙ middle ∙ ap (λ (x : List ℕ). mid ++ x) (sym whole);
+      fewer = omega arith;
+    } in
+    string-put bs [] old mid out new fits refl start left end
+
+-- so many at each end, which are all
+pub ends-stand : (bs : List ℕ) (size : ℕ) → size ≤ length bs → length bs ≤ size + size
+    → ((k : ℕ) → k < length (take size bs) → stands (get_or (take size bs) k 0) ≡ true)
+    → ((k : ℕ) → k < length (take (length bs - (length bs - size)) (drop (length bs - size) bs))
+    → stands (get_or (take (length bs - (length bs - size)) (drop (length bs - size) bs)) k 0) ≡ true)
+    → (k : ℕ) → k < length bs → stands (get_or bs k 0) ≡ true
+ends-stand bs size enough few front back =
+    let before : (k : ℕ) → k < length bs - size → stands (get_or bs k 0) ≡ true = λ k lt.
+    let here : k < size = omega (arith, few, lt) in
+    rw (get_or-take size bs k 0 here) at (front k (omega (arith, length-take-le size bs enough, here))) in
+    stand-rest bs (length bs - size) before back

@@ -7,6 +7,7 @@ ghost use Rattle.wc_print.specs.Layout.{desc_items, import_items, kind_word, exp
 
 use crate::field::Field;
 use crate::numbers::put_number;
+use crate::short::{is_short_export, is_short_import, put_short_export, put_short_import};
 use crate::strings::put_string;
 use crate::types::{put_global_type, put_limits, put_type_use};
 use std::alloc::AllocError;
@@ -44,9 +45,16 @@ impl Field for Import {
     ghost items = { import_items };
 
     fn put(&self, out: &mut Vec<u8>) -> Result<(), AllocError> {
+        let module = self.module.as_str().as_bytes();
+        let name = self.name.as_str().as_bytes();
+        if let Desc::Func(index) = self.desc {
+            if is_short_import(module, name, index) {
+                return put_short_import(out, module, name, index);
+            }
+        }
         out.extend_from_slice(b"\n  (import")?;
-        put_string(out, self.module.as_str().as_bytes())?;
-        put_string(out, self.name.as_str().as_bytes())?;
+        put_string(out, module)?;
+        put_string(out, name)?;
         put_desc(out, self.desc)?;
         out.extend_from_slice(b")")
     }
@@ -67,8 +75,14 @@ impl Field for Export {
     ghost items = { export_items };
 
     fn put(&self, out: &mut Vec<u8>) -> Result<(), AllocError> {
+        let name = self.name.as_str().as_bytes();
+        if let ExportKind::Func = self.kind {
+            if is_short_export(name, self.index) {
+                return put_short_export(out, name, self.index);
+            }
+        }
         out.extend_from_slice(b"\n  (export")?;
-        put_string(out, self.name.as_str().as_bytes())?;
+        put_string(out, name)?;
         out.extend_from_slice(kind_text(self.kind).as_bytes())?;
         put_number(out, self.index)?;
         out.extend_from_slice(b"))")

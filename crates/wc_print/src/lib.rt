@@ -12,6 +12,7 @@ mod numbers;
 mod pages;
 mod printing;
 mod segments;
+mod short;
 mod strings;
 mod types;
 

@@ -5,6 +5,7 @@ ghost use Rattle.std.specs.Prelude.{length, take, slice_index};
 ghost use Rattle.std.specs.List.{flat_map};
 ghost use Rattle.wc_print.specs.Printed.{stands, escaped, quoted, after};
 ghost use Rattle.wc_print.specs.Printable.{Put, LeavesEscaped};
+ghost use Rattle.wc_print.specs.Inner.Short.{AllStand};
 
 use crate::escapes::ESCAPES;
 use std::alloc::AllocError;
@@ -64,6 +65,41 @@ fn standing(bytes: &[u8]) -> usize
         return bytes.len();
     }
     end
+}
+
+/// Whether all of some bytes stand for themselves that are at least so many, and at most twice so many.
+// Those of both ends are looked at, and some twice: so many at once are cheaper than one by one.
+#[inline(always)]
+fn ends_stand(bytes: &[u8], size: usize) -> bool
+    requires enough { size ≤ length bytes.now }
+    requires few { length bytes.now ≤ size + size }
+    ensures { IsTrue result → AllStand bytes.now }
+{
+    all_stand(&bytes[..size]) && all_stand(&bytes[bytes.len() - size..])
+}
+
+/// Whether all these bytes stand for themselves.
+#[inline(always)]
+pub fn is_plain(bytes: &[u8]) -> bool
+    ensures { IsTrue result → AllStand bytes.now }
+{
+    let count = bytes.len();
+    if count > 32 {
+        return standing(bytes) == count;
+    }
+    if count >= 16 {
+        return ends_stand(bytes, 16);
+    }
+    if count >= 8 {
+        return ends_stand(bytes, 8);
+    }
+    if count >= 4 {
+        return ends_stand(bytes, 4);
+    }
+    if count >= 2 {
+        return ends_stand(bytes, 2);
+    }
+    all_stand(bytes)
 }
 
 /// Writes what stands for a byte, from a place on, and tells where it ends. A whole row is written.

@@ -7,8 +7,8 @@ returns-then-n-lt10-clause-bytes c = one-digit c.args.page.now c.args.at c.args.
 
 pub returns-then-tens-lt10-clause-bytes : goal.returns-then-tens-lt10-clause-bytes
 returns-then-tens-lt10-clause-bytes c =
-    two-digits c.args.page.now c.args.at c.args.n (omega arith) (omega arith) c.if-tens-lt10.true c.ranges.n.fits
+    two-digits c.args.page.now c.args.at c.args.n (omega arith) (omega arith) c.if-tens-lt10.true (omega (arith, c.ranges.n.fits))
 
 pub returns-clause-bytes : goal.returns-clause-bytes
 returns-clause-bytes c =
-    three-digits c.args.page.now c.args.at c.args.n (omega arith) (omega arith) c.ranges.n.fits
+    three-digits c.args.page.now c.args.at c.args.n (omega arith) (omega arith) (omega (arith, c.ranges.n.fits))

@@ -12,9 +12,13 @@ returns c =
     let kind = c.args.self.now.kind in
     chain-last _ _ _
     (literal (below 2 opening ∷ next (word (codes "export")) ∷ []) (tt, (refl, tt)) c.in_ok-extend_from_slice.ensures.items)
-    (chain-last _ _ _ (rw (c.as_bytes.ensures.value ∙ c.as_str.ensures.bytes) at c.in_ok-put_string.ensures)
+    (chain-last _ _ _ (rw (c.as_bytes-name.ensures.value ∙ c.as_str.ensures.bytes) at c.in_ok-put_string.ensures)
     (chain-last _ _ _
     (text (after opening ∷ next (word (kind_word kind)) ∷ []) (tt, (kind-word kind, tt))
-    (c.as_bytes-2.ensures.value ∙ c.kind_text.ensures) c.in_ok-extend_from_slice-2.ensures.items)
+    (c.as_bytes.ensures.value ∙ c.kind_text.ensures) c.in_ok-extend_from_slice-2.ensures.items)
     (chain-last _ _ _ c.in_ok-put_number.ensures
     (literal-last (next closing ∷ next closing ∷ []) _ _ _ (tt, (tt, tt)) c.extend_from_slice-3.ensures.items))))
+
+pub returns-then-is_short_export : goal.returns-then-is_short_export
+returns-then-is_short_export c =
+    rw c.in-Func.is (rw (c.as_bytes-name.ensures.value ∙ c.as_str.ensures.bytes) at c.put_short_export.ensures)

@@ -9,7 +9,13 @@ unfolding is_idchar
 returns c =
     chain-last _ _ _
     (literal (below 2 opening ∷ next (word (codes "import")) ∷ []) (tt, (refl, tt)) c.in_ok-extend_from_slice.ensures.items)
-    (chain-last _ _ _ (rw (c.as_bytes.ensures.value ∙ c.as_str.ensures.bytes) at c.in_ok-put_string.ensures)
-    (chain-last _ _ _ (rw (c.as_bytes-2.ensures.value ∙ c.as_str-2.ensures.bytes) at c.in_ok-put_string-2.ensures)
+    (chain-last _ _ _ (rw (c.as_bytes-module.ensures.value ∙ c.as_str.ensures.bytes) at c.in_ok-put_string.ensures)
+    (chain-last _ _ _ (rw (c.as_bytes-name.ensures.value ∙ c.as_str-2.ensures.bytes) at c.in_ok-put_string-2.ensures)
     (chain-last _ _ _ c.in_ok-put_desc.ensures
     (literal-last (next closing ∷ []) _ _ _ (tt, tt) c.extend_from_slice-2.ensures.items))))
+
+pub returns-then-is_short_import : goal.returns-then-is_short_import
+returns-then-is_short_import c =
+    rw c.in-Func.is
+    (rw (c.as_bytes-module.ensures.value ∙ c.as_str.ensures.bytes, c.as_bytes-name.ensures.value ∙ c.as_str-2.ensures.bytes)
+    at c.put_short_import.ensures)

@@ -1,0 +1,17 @@
+use Rattle.std.proofs.Common.{[], ◌∷◌, codes, refl}
+use Rattle.wc_tokens.specs.Standard.Lexemes.{is_idchar}
+use Rattle.wc_print.specs.Printed.{opening, closing, word, next, after, below}
+use Rattle.wc_print.proofs.Putting.{chain, literal}
+use Rattle.wc_print.proofs.short.write_import.Goals as goal
+
+pub returns-clause-put : goal.returns-clause-put
+unfolding is_idchar
+returns-clause-put c =
+    chain (literal (below 2 opening ∷ next (word (codes "import")) ∷ []) (tt, (refl, tt)) c.write-head.ensures.bytes)
+    (chain c.write_name-first.ensures.put
+    (chain c.write_name-second.ensures.put
+    (chain
+    (literal (after opening ∷ next (word (codes "func")) ∷ after opening ∷ next (word (codes "type")) ∷ [])
+    (tt, (refl, (tt, (refl, tt)))) c.write-desc.ensures.bytes)
+    (chain c.write_index-number.ensures.put
+    (literal (next closing ∷ next closing ∷ next closing ∷ []) (tt, (tt, (tt, tt))) c.write.ensures.bytes)))))

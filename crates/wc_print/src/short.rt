@@ -1,0 +1,185 @@
+//! Imports and exports of functions whose names are short and stand for themselves. Most are such, so they are put
+//! together in a small room before they are put behind the others.
+
+ghost use Rattle.std.specs.Prelude.{◌≡◌, ◌≤◌, ◌<◌, ◌+◌, ◌∷◌, [], ◌++◌, IsTrue, OnOk, length, take};
+ghost use Rattle.std.specs.Fmt.{decimal};
+ghost use Rattle.wc_print.specs.Printed.{number, quoted, after};
+ghost use Rattle.wc_print.specs.Printable.{Put};
+ghost use Rattle.wc_print.specs.Inner.Short.{AllStand, IsShort, function_import, function_export};
+
+use crate::strings::is_plain;
+use std::alloc::AllocError;
+
+/// How many bytes have room.
+const ROOM: usize = 128;
+
+/// The most bytes of a short name, of a module or in it.
+const NAME: usize = 40;
+
+/// The first index that isn't short.
+const LIMIT: u32 = 1_000_000;
+
+/// Whether a name is short, and stands for itself.
+#[inline(always)]
+fn is_short(name: &[u8]) -> bool
+    ensures { IsTrue result → IsShort name.now }
+{
+    name.len() <= NAME && is_plain(name)
+}
+
+/// Whether an import of a function is short.
+#[inline(always)]
+pub fn is_short_import(module: &[u8], name: &[u8], index: u32) -> bool
+    ensures names { IsTrue result → IsShort module.now × IsShort name.now }
+    ensures index { IsTrue result → index < 1000000 }
+{
+    index < LIMIT && is_short(module) && is_short(name)
+}
+
+/// Whether an export of a function is short.
+#[inline(always)]
+pub fn is_short_export(name: &[u8], index: u32) -> bool
+    ensures name { IsTrue result → IsShort name.now }
+    ensures index { IsTrue result → index < 1000000 }
+{
+    index < LIMIT && is_short(name)
+}
+
+/// Writes bytes from a place on, and says where they end.
+#[inline(always)]
+fn write(room: &mut [u8; ROOM], at: usize, bytes: &[u8]) -> usize
+    requires { at + length bytes.now ≤ 128 }
+    ensures end { result ≡ at + length bytes.now }
+    ensures bytes { take result room.new ≡ take at room.old ++ bytes.now }
+{
+    let end = at + bytes.len();
+    room[at..end].copy_from_slice(bytes);
+    end
+}
+
+/// Writes a string that stands for a short name, behind a space.
+#[inline(always)]
+fn write_name(room: &mut [u8; ROOM], at: usize, name: &[u8]) -> usize
+    requires room { at + 43 ≤ 128 }
+    requires short { IsShort name.now }
+    ensures end { result ≤ at + 43 }
+    ensures put { Put (after (quoted name.now) ∷ []) (take at room.old) (take result room.new) }
+{
+    let begin = write(room, at, b" \"");
+    let end = write(room, begin, name);
+    write(room, end, b"\"")
+}
+
+/// Writes the digits of a number of at most three.
+#[inline(always)]
+fn write_few_digits(room: &mut [u8; ROOM], at: usize, n: u32) -> usize
+    requires room { at + 3 ≤ 128 }
+    requires few { n < 1000 }
+    ensures end { result ≤ at + 3 }
+    ensures bytes { take result room.new ≡ take at room.old ++ decimal n }
+{
+    if n < 10 {
+        room[at] = b'0' + n as u8;
+        return at + 1;
+    }
+    let tens = n / 10;
+    if tens < 10 {
+        room[at] = b'0' + tens as u8;
+        room[at + 1] = b'0' + (n % 10) as u8;
+        return at + 2;
+    }
+    room[at] = b'0' + (tens / 10) as u8;
+    room[at + 1] = b'0' + (tens % 10) as u8;
+    room[at + 2] = b'0' + (n % 10) as u8;
+    at + 3
+}
+
+/// Writes the digits of a number of at most six.
+#[inline(always)]
+fn write_digits(room: &mut [u8; ROOM], at: usize, n: u32) -> usize
+    requires room { at + 6 ≤ 128 }
+    requires few { n < 1000000 }
+    ensures end { result ≤ at + 6 }
+    ensures bytes { take result room.new ≡ take at room.old ++ decimal n }
+{
+    if n < 1000 {
+        return write_few_digits(room, at, n);
+    }
+    let end = write_few_digits(room, at, n / 1000);
+    room[end] = b'0' + (n / 100 % 10) as u8;
+    room[end + 1] = b'0' + (n / 10 % 10) as u8;
+    room[end + 2] = b'0' + (n % 10) as u8;
+    end + 3
+}
+
+/// Writes an index that is short, behind a space.
+#[inline(always)]
+fn write_index(room: &mut [u8; ROOM], at: usize, index: u32) -> usize
+    requires room { at + 7 ≤ 128 }
+    requires few { index < 1000000 }
+    ensures end { result ≤ at + 7 }
+    ensures put { Put (after (number index) ∷ []) (take at room.old) (take result room.new) }
+{
+    room[at] = b' ';
+    write_digits(room, at + 1, index)
+}
+
+/// Writes an import of a function, and says where it ends.
+#[inline(always)]
+fn write_import(room: &mut [u8; ROOM], module: &[u8], name: &[u8], index: u32) -> usize
+    requires names { IsShort module.now × IsShort name.now }
+    requires index { index < 1000000 }
+    ensures end { result ≤ 128 }
+    ensures put { Put (function_import module.now name.now index) [] (take result room.new) }
+{
+    let head = write(room, 0, b"\n  (import");
+    let first = write_name(room, head, module);
+    let second = write_name(room, first, name);
+    let desc = write(room, second, b" (func (type");
+    let number = write_index(room, desc, index);
+    write(room, number, b")))")
+}
+
+/// Writes an export of a function, and says where it ends.
+#[inline(always)]
+fn write_export(room: &mut [u8; ROOM], name: &[u8], index: u32) -> usize
+    requires name { IsShort name.now }
+    requires index { index < 1000000 }
+    ensures end { result ≤ 128 }
+    ensures put { Put (function_export name.now index) [] (take result room.new) }
+{
+    let head = write(room, 0, b"\n  (export");
+    let first = write_name(room, head, name);
+    let desc = write(room, first, b" (func");
+    let number = write_index(room, desc, index);
+    write(room, number, b"))")
+}
+
+/// A short import of a function.
+#[inline(always)]
+pub fn put_short_import(
+    out: &mut Vec<u8>,
+    module: &[u8],
+    name: &[u8],
+    index: u32,
+) -> Result<(), AllocError>
+    requires names { IsShort module.now × IsShort name.now }
+    requires index { index < 1000000 }
+    ensures { OnOk result (Put (function_import module.now name.now index) out.old.items out.new.items) }
+{
+    let mut room = [0; ROOM];
+    let end = write_import(&mut room, module, name, index);
+    out.extend_from_slice(&room[..end])
+}
+
+/// A short export of a function.
+#[inline(always)]
+pub fn put_short_export(out: &mut Vec<u8>, name: &[u8], index: u32) -> Result<(), AllocError>
+    requires name { IsShort name.now }
+    requires index { index < 1000000 }
+    ensures { OnOk result (Put (function_export name.now index) out.old.items out.new.items) }
+{
+    let mut room = [0; ROOM];
+    let end = write_export(&mut room, name, index);
+    out.extend_from_slice(&room[..end])
+}
