@@ -3,6 +3,7 @@
 
 mod bodies;
 mod definitions;
+mod digits;
 mod escapes;
 mod externals;
 mod field;

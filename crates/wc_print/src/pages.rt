@@ -2,7 +2,6 @@
 //! most are short.
 
 ghost use Rattle.std.specs.Prelude.{◌≡◌, ◌≤◌, ◌+◌, ◌∷◌, [], ◌++◌, IsTrue, IfOk, OnOk, length, take, slice_index};
-ghost use Rattle.std.specs.Fmt.{decimal};
 ghost use Rattle.std.specs.List.{flat_map};
 ghost use Rattle.wc_ops.specs.Standard.Opcodes.{memory};
 ghost use Rattle.wc_body.specs.declared.instr.BlockType.TheVariants.{Empty};
@@ -15,6 +14,7 @@ ghost use Rattle.wc_print.specs.Lines.{told, offset_items, body_items};
 ghost use Rattle.wc_print.specs.Inner.Places.{line_items, LeavesLines};
 
 use crate::bodies::{Place, put_entry};
+use crate::digits::write_few_digits;
 use crate::lines::{Row, head_line, index_line, memory_line, simple_line};
 use std::alloc::AllocError;
 use wc_ast::{BlockType, BodyRef, Entries, Entry, Instr, MemOp, Short};
@@ -37,29 +37,6 @@ fn write_row(page: &mut [u8; PAGE], at: usize, row: &'static Row) -> usize
     at + row[23] as usize
 }
 
-/// Writes the digits of a number, from a place on, and says where they end.
-#[inline(always)]
-fn write_digits(page: &mut [u8; PAGE], at: usize, n: u8) -> usize
-    requires { at + 3 ≤ 512 }
-    ensures within { result ≤ at + 3 }
-    ensures bytes { take result page.new ≡ take at page.old ++ decimal n }
-{
-    if n < 10 {
-        page[at] = b'0' + n;
-        return at + 1;
-    }
-    let tens = n / 10;
-    if tens < 10 {
-        page[at] = b'0' + tens;
-        page[at + 1] = b'0' + n % 10;
-        return at + 2;
-    }
-    page[at] = b'0' + tens / 10;
-    page[at + 1] = b'0' + tens % 10;
-    page[at + 2] = b'0' + n % 10;
-    at + 3
-}
-
 /// Writes a natural number, behind a space.
 #[inline(always)]
 fn write_number(page: &mut [u8; PAGE], at: usize, n: u8) -> usize
@@ -68,7 +45,7 @@ fn write_number(page: &mut [u8; PAGE], at: usize, n: u8) -> usize
     ensures put { Put (after (number n) ∷ []) (take at page.old) (take result page.new) }
 {
     page[at] = b' ';
-    write_digits(page, at + 1, n)
+    write_few_digits(page, at + 1, u32::from(n))
 }
 
 /// Writes a signed number, behind a space.
@@ -80,10 +57,10 @@ fn write_integer(page: &mut [u8; PAGE], at: usize, n: i8) -> usize
 {
     page[at] = b' ';
     if n >= 0 {
-        return write_digits(page, at + 1, n as u8);
+        return write_few_digits(page, at + 1, n as u32);
     }
     page[at + 1] = b'-';
-    write_digits(page, at + 2, n.unsigned_abs())
+    write_few_digits(page, at + 2, u32::from(n.unsigned_abs()))
 }
 
 /// Writes the line of a short instruction.
@@ -123,7 +100,7 @@ fn write_memory(page: &mut [u8; PAGE], at: usize, op: MemOp, offset: u8) -> usiz
         return end;
     }
     let behind = write_row(page, end, b" offset=               \x08");
-    write_digits(page, behind, offset)
+    write_few_digits(page, behind, u32::from(offset))
 }
 
 /// Puts what is written on the page if there is no room for another line, and says where the next one begins.

@@ -2,11 +2,11 @@
 //! together in a small room before they are put behind the others.
 
 ghost use Rattle.std.specs.Prelude.{◌≡◌, ◌≤◌, ◌<◌, ◌+◌, ◌∷◌, [], ◌++◌, IsTrue, OnOk, length, take};
-ghost use Rattle.std.specs.Fmt.{decimal};
 ghost use Rattle.wc_print.specs.Printed.{number, quoted, after};
 ghost use Rattle.wc_print.specs.Printable.{Put};
 ghost use Rattle.wc_print.specs.Inner.Short.{AllStand, IsShort, function_import, function_export};
 
+use crate::digits::write_digits;
 use crate::strings::is_plain;
 use std::alloc::AllocError;
 
@@ -29,11 +29,11 @@ fn is_short(name: &[u8]) -> bool
 
 /// Whether an import of a function is short.
 #[inline(always)]
-pub fn is_short_import(module: &[u8], name: &[u8], index: u32) -> bool
-    ensures names { IsTrue result → IsShort module.now × IsShort name.now }
+pub fn is_short_import(module_name: &[u8], name: &[u8], index: u32) -> bool
+    ensures names { IsTrue result → IsShort module_name.now × IsShort name.now }
     ensures index { IsTrue result → index < 1000000 }
 {
-    index < LIMIT && is_short(module) && is_short(name)
+    index < LIMIT && is_short(module_name) && is_short(name)
 }
 
 /// Whether an export of a function is short.
@@ -70,48 +70,6 @@ fn write_name(room: &mut [u8; ROOM], at: usize, name: &[u8]) -> usize
     write(room, end, b"\"")
 }
 
-/// Writes the digits of a number of at most three.
-#[inline(always)]
-fn write_few_digits(room: &mut [u8; ROOM], at: usize, n: u32) -> usize
-    requires room { at + 3 ≤ 128 }
-    requires few { n < 1000 }
-    ensures end { result ≤ at + 3 }
-    ensures bytes { take result room.new ≡ take at room.old ++ decimal n }
-{
-    if n < 10 {
-        room[at] = b'0' + n as u8;
-        return at + 1;
-    }
-    let tens = n / 10;
-    if tens < 10 {
-        room[at] = b'0' + tens as u8;
-        room[at + 1] = b'0' + (n % 10) as u8;
-        return at + 2;
-    }
-    room[at] = b'0' + (tens / 10) as u8;
-    room[at + 1] = b'0' + (tens % 10) as u8;
-    room[at + 2] = b'0' + (n % 10) as u8;
-    at + 3
-}
-
-/// Writes the digits of a number of at most six.
-#[inline(always)]
-fn write_digits(room: &mut [u8; ROOM], at: usize, n: u32) -> usize
-    requires room { at + 6 ≤ 128 }
-    requires few { n < 1000000 }
-    ensures end { result ≤ at + 6 }
-    ensures bytes { take result room.new ≡ take at room.old ++ decimal n }
-{
-    if n < 1000 {
-        return write_few_digits(room, at, n);
-    }
-    let end = write_few_digits(room, at, n / 1000);
-    room[end] = b'0' + (n / 100 % 10) as u8;
-    room[end + 1] = b'0' + (n / 10 % 10) as u8;
-    room[end + 2] = b'0' + (n % 10) as u8;
-    end + 3
-}
-
 /// Writes an index that is short, behind a space.
 #[inline(always)]
 fn write_index(room: &mut [u8; ROOM], at: usize, index: u32) -> usize
@@ -126,14 +84,14 @@ fn write_index(room: &mut [u8; ROOM], at: usize, index: u32) -> usize
 
 /// Writes an import of a function, and says where it ends.
 #[inline(always)]
-fn write_import(room: &mut [u8; ROOM], module: &[u8], name: &[u8], index: u32) -> usize
-    requires names { IsShort module.now × IsShort name.now }
+fn write_import(room: &mut [u8; ROOM], module_name: &[u8], name: &[u8], index: u32) -> usize
+    requires names { IsShort module_name.now × IsShort name.now }
     requires index { index < 1000000 }
     ensures end { result ≤ 128 }
-    ensures put { Put (function_import module.now name.now index) [] (take result room.new) }
+    ensures put { Put (function_import module_name.now name.now index) [] (take result room.new) }
 {
     let head = write(room, 0, b"\n  (import");
-    let first = write_name(room, head, module);
+    let first = write_name(room, head, module_name);
     let second = write_name(room, first, name);
     let desc = write(room, second, b" (func (type");
     let number = write_index(room, desc, index);
@@ -159,16 +117,16 @@ fn write_export(room: &mut [u8; ROOM], name: &[u8], index: u32) -> usize
 #[inline(always)]
 pub fn put_short_import(
     out: &mut Vec<u8>,
-    module: &[u8],
+    module_name: &[u8],
     name: &[u8],
     index: u32,
 ) -> Result<(), AllocError>
-    requires names { IsShort module.now × IsShort name.now }
+    requires names { IsShort module_name.now × IsShort name.now }
     requires index { index < 1000000 }
-    ensures { OnOk result (Put (function_import module.now name.now index) out.old.items out.new.items) }
+    ensures { OnOk result (Put (function_import module_name.now name.now index) out.old.items out.new.items) }
 {
     let mut room = [0; ROOM];
-    let end = write_import(&mut room, module, name, index);
+    let end = write_import(&mut room, module_name, name, index);
     out.extend_from_slice(&room[..end])
 }
 

@@ -1,6 +1,6 @@
 use Rattle.std.proofs.Common.{arith}
 use Rattle.wc_print.proofs.Paging.{three-more}
-use Rattle.wc_print.proofs.short.write_digits.Goals as goal
+use Rattle.wc_print.proofs.digits.write_digits.Goals as goal
 
 pub returns-clause-bytes : goal.returns-clause-bytes
 returns-clause-bytes c =

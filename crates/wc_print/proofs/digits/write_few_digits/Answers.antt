@@ -1,6 +1,6 @@
 use Rattle.std.proofs.Common.{arith}
 use Rattle.wc_print.proofs.Paging.{one-digit, two-digits, three-digits}
-use Rattle.wc_print.proofs.short.write_few_digits.Goals as goal
+use Rattle.wc_print.proofs.digits.write_few_digits.Goals as goal
 
 pub returns-then-n-lt10-clause-bytes : goal.returns-then-n-lt10-clause-bytes
 returns-then-n-lt10-clause-bytes c = one-digit c.args.room.now c.args.at c.args.n (omega arith) c.if-n-lt10.true
