@@ -4,7 +4,7 @@
 ghost use Rattle.std.specs.Prelude.{◌≡◌, ◌≤◌, ◌<◌, ◌+◌, ◌∷◌, [], ◌++◌, IsTrue, OnOk, length, take};
 ghost use Rattle.wc_print.specs.Printed.{number, quoted, after};
 ghost use Rattle.wc_print.specs.Printable.{Put};
-ghost use Rattle.wc_print.specs.Inner.Short.{AllStand, IsShort, function_import, function_export};
+ghost use Rattle.wc_print.specs.Inner.Short.{IsShort, function_import, function_export};
 
 use crate::digits::write_digits;
 use crate::strings::is_plain;
