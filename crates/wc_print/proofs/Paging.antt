@@ -74,7 +74,8 @@ three-more page front at n fits ge low written =
     rw (thousands n) at (decimal_step (n / 100) (omega (arith, ge)) (omega (arith, low))) in
     let second : decimal (n / 10) ≡ decimal (n / 100) ++ (48 + n / 10 % 10) ∷ [] =
     rw (hundreds n) at (decimal_step (n / 10) (omega (arith, ge)) (omega (arith, low))) in
-    let third : decimal n ≡ decimal (n / 10) ++ (48 + n % 10) ∷ [] = decimal_step n (omega (arith, ge)) (omega (arith, low)) in
+    let third : decimal n ≡ decimal (n / 10) ++ (48 + n % 10) ∷ [] =
+    decimal_step n (omega (arith, ge)) (omega (arith, low)) in
     three-written page at (at + 1) (at + 2) _ _ _ (omega arith) (omega arith) fits
     ∙ rw (written, third, second, first) (simp append_assoc)
 
@@ -98,8 +99,9 @@ pub all-kept : (page bytes copied rest : List ℕ) (at n : ℕ) → n ≡ at + l
     → take n (take at page ++ (copied ++ rest)) ≡ take at page ++ bytes
 all-kept page bytes copied rest at n is fits same =
     let front : length (take at page) ≡ at = length-take-le at page fits in
-    let cut : take (at + length bytes) (take at page ++ (bytes ++ rest)) ≡ take at page ++ take (length bytes) (bytes ++ rest) =
-    rw front at (take-append-add (take at page) (bytes ++ rest) (length bytes)) in
+    let all : List ℕ = bytes ++ rest in
+    let cut : take (at + length bytes) (take at page ++ all) ≡ take at page ++ take (length bytes) all =
+    rw front at (take-append-add (take at page) all (length bytes)) in
     rw (is, same) cut ∙ ap (λ (x : List ℕ). take at page ++ x) (take_at bytes rest (length bytes) refl)
 
 -- a line that is written

@@ -17,7 +17,7 @@ pub trait Field: Sized {
 }
 
 /// Puts all fields of a kind.
-// Each kind's loop stays apart, so that the loops over instructions have the registers for themselves.
+// Each kind's loop stays apart, so that no other takes registers from it.
 #[inline(never)]
 pub fn put_all<F: Field>(out: &mut Vec<u8>, fields: &[F]) -> Result<(), AllocError>
     ensures { OnOk result (Put (flat_map F.items fields.now) out.old.items out.new.items) }

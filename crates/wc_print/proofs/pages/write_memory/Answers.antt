@@ -16,4 +16,5 @@ pub returns-clause-put : goal.returns-clause-put
 returns-clause-put c =
     let op = c.args.op in
     chain (line-put (word (memory op).name) (memory-word op) c.memory_line.ensures.line c.write_row-end.ensures.bytes)
-    (offset-some _ _ _ _ c.if-offset-eq0.false (omega arith) c.write_row-behind.ensures.bytes (rw c.from.ensures at c.write_few_digits.ensures.bytes))
+    (offset-some _ _ _ _ c.if-offset-eq0.false (omega arith) c.write_row-behind.ensures.bytes
+    (rw c.from.ensures at c.write_few_digits.ensures.bytes))

@@ -5,4 +5,5 @@ use Rattle.wc_print.proofs.short.write_index.Goals as goal
 
 pub returns-clause-put : goal.returns-clause-put
 returns-clause-put c =
-    number-put c.args.index _ _ (omega arith) (behind-space c.args.room.now _ _ c.args.at _ (omega arith) c.write_digits.ensures.bytes)
+    number-put c.args.index _ _ (omega arith)
+    (behind-space c.args.room.now _ _ c.args.at _ (omega arith) c.write_digits.ensures.bytes)

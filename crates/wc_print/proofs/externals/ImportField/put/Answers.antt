@@ -17,5 +17,7 @@ returns c =
 pub returns-then-is_short_import : goal.returns-then-is_short_import
 returns-then-is_short_import c =
     rw c.in-Func.is
-    (rw (c.as_bytes-module.ensures.value ∙ c.as_str.ensures.bytes, c.as_bytes-name.ensures.value ∙ c.as_str-2.ensures.bytes)
-    at c.put_short_import.ensures)
+    (rw (
+      c.as_bytes-module.ensures.value ∙ c.as_str.ensures.bytes,
+      c.as_bytes-name.ensures.value ∙ c.as_str-2.ensures.bytes,
+    ) at c.put_short_import.ensures)
