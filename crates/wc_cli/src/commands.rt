@@ -116,7 +116,8 @@ fn top<'a>(alloc: Global) -> Command<'a>
         .about("Gives WebAssembly modules one canonical binary form")
         .after_help(
             "Examples:\n  wcanon binary in.wat -o out.wasm\n  wcanon text in.wasm -o out.wat\n  \
-            wcanon check in.wasm\n  wcanon compare a.wasm b.wat\n  wcanon canonical in.wasm\n  wcanon hash a.wasm b.wasm",
+            wcanon check in.wasm\n  wcanon compare a.wasm b.wat\n  wcanon canonical in.wasm\n  \
+            wcanon hash a.wasm b.wasm",
         )
         .subcommand_required(true)
 }
