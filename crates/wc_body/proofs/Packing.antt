@@ -5,4 +5,5 @@ pub mod PutBytes
 pub mod PackedLemmas
 pub mod EntryLemmas
 pub mod EntryBytes
+pub mod PlaceLemmas
 pub mod BodyRowLemmas

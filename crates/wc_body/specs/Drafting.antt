@@ -4,6 +4,7 @@ pub mod Kept
 pub mod OpenParts
 pub mod NeededAlong
 pub mod PackedBody
+pub mod Places
 pub mod BodyRow
 pub mod AtFront
 pub mod FrontEntries

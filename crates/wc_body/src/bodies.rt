@@ -1,30 +1,25 @@
 //! Many bodies in one row of bytes.
 
-ghost use Rattle.std.specs.Prelude.{◌≡◌, IfOk};
+ghost use Rattle.std.specs.Prelude.{◌≡◌, [], ◌∷◌, ◌++◌, IfOk, OnOk, OnErr};
 
 use crate::body::Body;
 use crate::body_ref::BodyRefs;
-use crate::needs::{Needs, OwnNeeds};
+use crate::needs::Needs;
+use crate::place::{Place, ShortPlace};
 use crate::spelled::body_spelled;
 use crate::try_clone::TryClone;
 use std::alloc::{AllocError, Global};
 use std::marker::Model;
-
-/// What a row knows of one of its bodies.
-#[derive(Clone, Copy, Debug)]
-pub struct Place {
-    /// How many bytes it has.
-    pub(crate) size: usize,
-    pub(crate) own: OwnNeeds,
-}
 
 /// Bodies, in order. A contract sees each. Their canonical bytes stand in one row, so that a great many small bodies
 /// take little memory and time.
 #[derive(Debug, Drop)]
 pub struct Bodies {
     bytes: Vec<u8>,
-    // Of each body.
-    places: Vec<Place>,
+    // Of each body, in short where that has room.
+    places: Vec<ShortPlace>,
+    // Of those that have no room there, in order.
+    others: Vec<Place>,
     // What all of them need.
     needs: Needs,
 }
@@ -43,15 +38,17 @@ impl Model for Bodies {
 
     ghost coded = { coded_list (code_code instr_code block_type.the_row.coded) };
 
+    ghost use Rattle.wc_body.specs.Drafting.Places.{places_of, AreOthers};
     ghost use Rattle.wc_body.specs.Drafting.BodyRow.{bodies_at, IsRow};
 
-    ghost view = { λ row. bodies_at row.places.items row.bytes.items };
+    ghost view = { λ row. bodies_at (places_of row.places.items row.others.items) row.bytes.items };
 
-    ghost invariant = { λ row. IsRow row.places.items row.bytes.items row.needs };
+    ghost invariant = { λ row. AreOthers row.places.items row.others.items
+        × IsRow (places_of row.places.items row.others.items) row.bytes.items row.needs };
 }
 
 impl Bodies {
-    ghost use Rattle.std.specs.Prelude.{[], ◌∷◌, ◌++◌, OnOk, OnErr, length};
+    ghost use Rattle.std.specs.Prelude.{length};
     ghost use Rattle.wc_body.specs.Standard.Entries.{nested};
     ghost use Rattle.wc_body.specs.Standard.Needed.{nothing, with_bodies};
     ghost use Rattle.wc_body.specs.Reading.Unpacked.{unpacked};
@@ -65,6 +62,7 @@ impl Bodies {
         Bodies {
             bytes: Vec::new(alloc),
             places: Vec::new(alloc),
+            others: Vec::new(alloc),
             needs: Needs::nothing(),
         }
     }
@@ -90,12 +88,23 @@ impl Bodies {
         ensures ok { OnOk result (self.new ≡ self.old ++ nested (unpacked bytes.now) ∷ []) }
         ensures err { OnErr result (self.new ≡ self.old) }
     {
-        self.places.reserve(1)?;
-        self.bytes.extend_from_slice(bytes)?;
-        self.places.push_reserved(Place {
+        let place = Place {
             size: bytes.len(),
             own: needs.own(),
-        });
+        };
+        let short = ShortPlace::of(place);
+        self.places.reserve(1)?;
+        if short.is_none() {
+            self.others.reserve(1)?;
+        }
+        self.bytes.extend_from_slice(bytes)?;
+        match short {
+            Some(short) => self.places.push_reserved(short),
+            None => {
+                self.others.push_reserved(place);
+                self.places.push_reserved(ShortPlace::elsewhere());
+            }
+        }
         self.needs = self.needs.joined(needs);
         Ok(())
     }
@@ -127,7 +136,11 @@ impl Bodies {
     pub fn iter(&self) -> BodyRefs<'_>
         ensures { result ≡ self.now }
     {
-        BodyRefs::of_places(self.places.as_slice(), self.bytes.as_slice())
+        BodyRefs::of_places(
+            self.places.as_slice(),
+            self.others.as_slice(),
+            self.bytes.as_slice(),
+        )
     }
 }
 
@@ -137,6 +150,7 @@ impl TryClone for Bodies {
         Ok(Bodies {
             bytes: Vec::from_slice(alloc, self.bytes.as_slice())?,
             places: Vec::from_slice(alloc, self.places.as_slice())?,
+            others: Vec::from_slice(alloc, self.others.as_slice())?,
             needs: self.needs,
         })
     }

@@ -4,9 +4,9 @@ ghost use Rattle.std.specs.Prelude.{◌≡◌};
 ghost use Rattle.std.specs.Iterator.{YieldsFirst, item_count};
 ghost use Rattle.wc_body.specs.Standard.Needed.{needs_of, own_of};
 
-use crate::bodies::Place;
 use crate::entries::Entries;
 use crate::needs::OwnNeeds;
+use crate::place::{Place, ShortPlace};
 use std::marker::Model;
 
 /// An expression (Core 1.0, 2.4.6) that stands elsewhere. A contract sees the instructions nested in one another.
@@ -80,7 +80,9 @@ impl<'a> BodyRef<'a> {
 /// The bodies of a row that are left, in order. Taking one takes no memory.
 #[derive(Debug, Drop)]
 pub struct BodyRefs<'a> {
-    places: &'a [Place],
+    places: &'a [ShortPlace],
+    // Of those that the short places don't tell.
+    others: &'a [Place],
     bytes: &'a [u8],
 }
 
@@ -98,21 +100,33 @@ impl<'a> Model for BodyRefs<'a> {
 
     ghost coded = { coded_list (code_code instr_code block_type.the_row.coded) };
 
+    ghost use Rattle.wc_body.specs.Drafting.Places.{places_of, AreOthers};
     ghost use Rattle.wc_body.specs.Drafting.BodyRow.{bodies_at, AreBodies};
 
-    ghost view = { λ row. bodies_at row.places.now row.bytes.now };
+    ghost view = { λ row. bodies_at (places_of row.places.now row.others.now) row.bytes.now };
 
-    ghost invariant = { λ row. AreBodies row.places.now row.bytes.now };
+    ghost invariant = { λ row. AreOthers row.places.now row.others.now
+        × AreBodies (places_of row.places.now row.others.now) row.bytes.now };
 }
 
 impl<'a> BodyRefs<'a> {
+    ghost use Rattle.wc_body.specs.Drafting.Places.{places_of, AreOthers};
     ghost use Rattle.wc_body.specs.Drafting.BodyRow.{bodies_at, AreBodies};
 
-    pub(crate) fn of_places(places: &'a [Place], bytes: &'a [u8]) -> BodyRefs<'a>
-        requires { AreBodies places.now bytes.now }
-        ensures { result ≡ bodies_at places.now bytes.now }
+    pub(crate) fn of_places(
+        places: &'a [ShortPlace],
+        others: &'a [Place],
+        bytes: &'a [u8],
+    ) -> BodyRefs<'a>
+        requires others { AreOthers places.now others.now }
+        requires bodies { AreBodies (places_of places.now others.now) bytes.now }
+        ensures { result ≡ bodies_at (places_of places.now others.now) bytes.now }
     {
-        BodyRefs { places, bytes }
+        BodyRefs {
+            places,
+            others,
+            bytes,
+        }
     }
 }
 
@@ -124,7 +138,15 @@ impl<'a> Iterator for BodyRefs<'a> {
     ghost remaining = { item_count (λ bodies. bodies) };
 
     fn next(&mut self) -> Option<BodyRef<'a>> {
-        let (place, places) = self.places.split_first()?;
+        let (short, places) = self.places.split_first()?;
+        let place = match short.told() {
+            Some(place) => place,
+            None => {
+                let (place, others) = self.others.split_first()?;
+                self.others = others;
+                *place
+            }
+        };
         let (bytes, rest) = self.bytes.split_at(place.size);
         self.places = places;
         self.bytes = rest;

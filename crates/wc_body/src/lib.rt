@@ -14,6 +14,7 @@ mod front;
 pub mod instr;
 pub mod labels;
 pub mod needs;
+mod place;
 pub mod short;
 mod spelled;
 pub mod try_clone;

@@ -2,7 +2,7 @@
 use Rattle.std.proofs.Common.{◌≡◌, ℕ, suc, List, [], ◌∷◌, ◌++◌, length, take, drop, refl, sym, ap, ◌∙◌, arith}
 use Rattle.std.proofs.lemmas.List.{take-append-le, drop-append-le, length-append}
 use Rattle.std.proofs.Math.Seq.{take-length, drop-length}
-use Rattle.wc_body.specs.declared.bodies.Place.{Place}
+use Rattle.wc_body.specs.declared.place.Place.{Place}
 use Rattle.wc_body.specs.declared.needs.Needs.{Needs}
 use Rattle.wc_body.specs.declared.instr.BlockType.{BlockType}
 use Rattle.wc_body.specs.declared.instr.Instr.{Instr}
@@ -12,7 +12,10 @@ use Rattle.wc_body.specs.Reading.Unpacked.{unpacked}
 use Rattle.wc_body.specs.Drafting.PackedBody.{IsBody}
 use Rattle.wc_body.specs.declared.needs.OwnNeeds.{OwnNeeds}
 use Rattle.wc_body.specs.Standard.Needed.{nothing, needs_of, own_of, joined, with_bodies}
+use Rattle.wc_body.specs.declared.place.ShortPlace.{ShortPlace}
+use Rattle.wc_body.specs.Drafting.Places.{places_of, AreOthers}
 use Rattle.wc_body.specs.Drafting.BodyRow.{bodies_at, IsBodyOf, AreBodies, IsRow}
+use Rattle.wc_body.proofs.Packing.PlaceLemmas.{Placed}
 
 -- there are as many bodies as places
 pub bodies-count : (ps : List Place) (x : List ℕ) → length (bodies_at ps x) ≡ length ps
@@ -71,3 +74,15 @@ body-pushed ps x y all needs row is =
       };
       seen = it.seen;
     }
+
+-- the row has grown by a body, whose place is kept behind the others
+pub record Added (ps qs : List ShortPlace) (os more : List Place) (x y : List ℕ) (all needs : Needs) : Type 0 where
+  pub kept : AreOthers qs more × IsRow (places_of qs more) (x ++ y) (joined all needs)
+  pub seen : bodies_at (places_of qs more) (x ++ y) ≡ bodies_at (places_of ps os) x ++ nested (unpacked y) ∷ []
+
+pub body-added : (ps qs : List ShortPlace) (os more : List Place) (x y : List ℕ) (all needs : Needs)
+    → IsRow (places_of ps os) x all → IsBody y needs → Placed ps qs os more (place y (own_of needs))
+    → Added ps qs os more x y all needs
+body-added ps qs os more x y all needs row is at =
+    let it = body-pushed (places_of ps os) x y all needs row is in
+    record { kept = (at.others, rw at.seen it.kept); seen = rw at.seen it.seen }
