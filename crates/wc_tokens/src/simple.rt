@@ -1,10 +1,10 @@
 //! The elements of strings that most strings are made of: a byte that stands for itself, and a byte by two digits.
 
 ghost use Rattle.std.specs.Prelude.{◌≡◌, ◌+◌, ◌<◌, ◌≤◌, ℕ, List, [], ◌∷◌};
-ghost use Rattle.std.specs.Prelude.{IsTrue, IfSome, length, take, drop, slice_index};
+ghost use Rattle.std.specs.Prelude.{◌==◌, if◌then◌else◌, IsTrue, IfSome, length, take, drop, slice_index};
 ghost use Rattle.wc_tokens.specs.Standard.Digits.{IsDigit};
 ghost use Rattle.wc_tokens.specs.Standard.Strings.{IsPlain, Element, Elements, EndsElements};
-ghost use Rattle.wc_tokens.specs.Reading.Simple.{IsSimple, IsSimpleAt, IsLinked, IsLinkedAt, IsBegunAt};
+ghost use Rattle.wc_tokens.specs.Reading.Simple.{IsSimple, IsSimpleAt, IsLinked, IsLinkedAt, IsBegunAt, simple_len};
 
 use crate::values::{hexadecimal_digit, plain_byte};
 
@@ -115,6 +115,7 @@ struct Simple {
 #[inline(always)]
 fn simple_of(first: u8, next: u8, last: u8) -> Option<Simple>
     ensures within { IfSome result (λ s. s.len ≤ 3) }
+    ensures len { IfSome result (λ s. s.len ≡ simple_len first) }
     ensures element { IfSome result (λ s. (rest : List ℕ)
         → Element (take s.len (first ∷ next ∷ last ∷ rest)) (s.value ∷ [])) }
 {
@@ -163,6 +164,46 @@ pub struct Run {
     pub made: usize,
 }
 
+/// The byte behind a simple element: of its first byte, the one next to it, and the third from it.
+// It is computed of both that it may be, so that what comes next needn't wait for which of them it is.
+#[inline(always)]
+fn behind_simple(byte: u8, next: u8, far: u8) -> u8
+    ensures { result ≡ (if byte == 92 then far else next) }
+{
+    let escape = byte == b'\\';
+    let other = byte != b'\\';
+    escape as u8 * far + other as u8 * next
+}
+
+/// Reads simple elements at the front of a text, two a round, and writes the bytes that they stand for.
+#[inline(always)]
+fn read_pairs(text: &[u8], bytes: &mut [u8; ROOM]) -> Run
+    ensures within { result.len ≤ length text.now }
+    ensures room { result.made ≤ 128 }
+    ensures elements { Elements (take result.len text.now) (take result.made bytes.new) }
+{
+    // Two elements have six bytes at most.
+    let limit = text.len().saturating_sub(5);
+    let mut len = 0;
+    let mut made = 0;
+    while made + 1 < ROOM && len < limit {
+        let (byte, next, last, far) = (text[len], text[len + 1], text[len + 2], text[len + 3]);
+        let behind = behind_simple(byte, next, far);
+        let Some(first) = simple_of(byte, next, last) else {
+            return Run { len, made };
+        };
+        let at = len + first.len;
+        let Some(second) = simple_of(behind, text[at + 1], text[at + 2]) else {
+            return Run { len, made };
+        };
+        bytes[made] = first.value;
+        bytes[made + 1] = second.value;
+        len = at + second.len;
+        made += 2;
+    }
+    Run { len, made }
+}
+
 /// Reads simple elements at the front of a text, and writes the bytes that they stand for. It stops before the last two
 /// bytes at the latest.
 pub fn read_simple(text: &[u8], bytes: &mut [u8; ROOM]) -> Run
@@ -172,8 +213,7 @@ pub fn read_simple(text: &[u8], bytes: &mut [u8; ROOM]) -> Run
 {
     // The last two bytes are left, since behind neither of them stand two.
     let limit = text.len().saturating_sub(2);
-    let mut len = 0;
-    let mut made = 0;
+    let Run { mut len, mut made } = read_pairs(text, bytes);
     while made < ROOM && len < limit {
         let Some(simple) = simple_of(text[len], text[len + 1], text[len + 2]) else {
             return Run { len, made };

@@ -1,7 +1,8 @@
 //! What a frame takes, where no part is left in front of its rest.
 
 ghost use Rattle.std.specs.Prelude.{◌≡◌};
-ghost use Rattle.wc_syntax.specs.Inner.Table.{frame_rows, open_rows, field_rows, instr_rows, folded_rows, find, or_else};
+ghost use Rattle.wc_syntax.specs.Inner.Table.{frame_rows, open_rows, field_rows, instr_rows, folded_rows};
+ghost use Rattle.wc_syntax.specs.Inner.Table.{find, or_else};
 ghost use Rattle.wc_syntax.specs.Inner.Table.{if_takes, takes_instrs, takes_folded};
 
 use crate::kind::Kind;

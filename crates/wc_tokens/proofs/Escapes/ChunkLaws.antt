@@ -38,5 +38,6 @@ linked-simple text at before begun linked k lt = elim (cases_lt k at) [
   | inr above ↦
       let same : at + (k - at) ≡ k = omega (arith, above) in
       let within : k - at < 16 = omega (arith, above, lt) in
-      rw same at (linked-one text (at + (k - at)) (begun-at text at (k - at) begun linked (omega (arith, within))) (linked (k - at) within))
+      let begins : IsBegunAt text (at + (k - at)) = begun-at text at (k - at) begun linked (omega (arith, within)) in
+      rw same at (linked-one text (at + (k - at)) begins (linked (k - at) within))
 ]

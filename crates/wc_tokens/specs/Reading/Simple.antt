@@ -1,5 +1,5 @@
 -- Bytes that begin a simple element of a string.
-use Rattle.std.specs.Prelude.{◌≡◌, ℕ, ◌+◌, ◌⊎◌, List, slice_index}
+use Rattle.std.specs.Prelude.{◌≡◌, ℕ, ◌+◌, ◌==◌, ◌⊎◌, List, slice_index, if◌then◌else◌}
 use Rattle.wc_tokens.specs.Standard.Digits.{IsDigit}
 use Rattle.wc_tokens.specs.Standard.Strings.{IsPlain}
 
@@ -25,3 +25,7 @@ IsLinkedAt text k = IsLinked (slice_index text k) (slice_index text (k + 1)) (sl
 -- a digit stands behind the place where a backslash stands at it
 abbrev pub IsBegunAt : List ℕ → ℕ → Type 0
 IsBegunAt text k = slice_index text k ≡ 92 → IsDigit 16 (slice_index text (k + 1))
+
+-- how many bytes a simple element has that begins with this byte
+abbrev pub simple_len : ℕ → ℕ
+simple_len c = if c == 92 then 3 else 1

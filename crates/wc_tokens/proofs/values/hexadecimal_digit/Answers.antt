@@ -22,7 +22,8 @@ unfolding digit_of
 returns-clause-digit c = λ lt.
     let byte = c.args.byte in
     let test = agree_below_at
-    (λ k. nat_le 256 (get_or HEXADECIMAL k 0) || (nat_eq (get_or HEXADECIMAL k 0) (digit_of k) && nat_lt (digit_of k) 16))
+    (λ k. nat_le 256 (get_or HEXADECIMAL k 0)
+    || (nat_eq (get_or HEXADECIMAL k 0) (digit_of k) && nat_lt (digit_of k) 16))
     (λ _. true) 256 byte refl (omega arith) in
     let same = c.from.ensures in
     rw same (told (get_or HEXADECIMAL byte 0) (digit_of byte) test (rw same at lt))

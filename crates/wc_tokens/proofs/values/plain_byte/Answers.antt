@@ -8,7 +8,8 @@ use Rattle.wc_tokens.specs.Reading.Elements.{is_plain}
 use Rattle.wc_tokens.proofs.values.plain_byte.Goals as goal
 
 -- what the test of an entry tells
-told : (entry byte : ℕ) → (nat_le 256 entry || (nat_eq entry byte && is_plain byte && not (nat_eq byte 92))) ≡ true → entry < 256
+told : (entry byte : ℕ)
+    → (nat_le 256 entry || (nat_eq entry byte && is_plain byte && not (nat_eq byte 92))) ≡ true → entry < 256
     → IsPlain byte × (entry ≡ byte)
 told entry byte test lt = (
   (grind (arith, nat_tests), grind (arith, nat_tests), grind (arith, nat_tests), grind (arith, nat_tests)),
