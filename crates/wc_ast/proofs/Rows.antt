@@ -1,3 +1,6 @@
--- Rows of codes and of functions.
+-- Rows of codes, of functions, of sizes, of names, and of imports and exports.
 pub mod CodeRowLemmas
 pub mod FuncLemmas
+pub mod SizeLemmas
+pub mod NameLemmas
+pub mod ExternalLemmas

@@ -2,3 +2,6 @@
 pub mod Locals
 pub mod CodeRow
 pub mod Name
+pub mod SizeRow
+pub mod NameRow
+pub mod ExternalRow

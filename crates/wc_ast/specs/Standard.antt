@@ -2,3 +2,4 @@
 pub mod LocalGroups
 pub mod Codes
 pub mod Spelled
+pub mod Externals

@@ -118,6 +118,7 @@ impl<'a> Iterator for CodeRefs<'a> {
         let (groups, rest) = self.groups.split_at(span.groups as usize);
         self.spans = spans;
         self.groups = rest;
-        Some(CodeRef::of(LocalsRef::of_groups(groups, span.total), body))
+        let locals = LocalsRef::of_groups(groups, span.total as u32);
+        Some(CodeRef::of(locals, body))
     }
 }

@@ -16,13 +16,13 @@ pub struct FuncCode {
     pub body: Body,
 }
 
-/// What a row knows of the locals of one of its codes.
+/// What a row knows of the locals of one of its codes. These are at most `LOCALS_LIMIT`, so the numbers are short ones.
 #[derive(Clone, Copy, Debug)]
 pub struct Span {
     /// How many groups they have.
-    pub(crate) groups: u32,
+    pub(crate) groups: u16,
     /// How many locals these are.
-    pub(crate) total: u32,
+    pub(crate) total: u16,
 }
 
 /// The codes of functions, in order. A contract sees each. The groups of their locals stand in one row, and so do the
@@ -94,16 +94,16 @@ impl Codes {
         self.groups.reserve(groups.len())?;
         self.bodies.push(body)?;
         self.spans.push_reserved(Span {
-            groups: groups.len() as u32,
-            total: locals.len(),
+            groups: groups.len() as u16,
+            total: locals.len() as u16,
         });
         append(&mut self.groups, groups);
         Ok(())
     }
 
     /// Adds the code at the end that has no locals, and the body whose canonical bytes these are, with the byte that
-    /// ends it (Core 1.0, 5.4.6), where that has usual instructions alone and no block; answers whether it was added. So
-    /// a small function is kept without a look at each part of it. The error is want of memory; then, and where it
+    /// ends it (Core 1.0, 5.4.6), where that has usual instructions alone and no block; answers whether it was added.
+    /// So a small function is kept without a look at each part of it. The error is want of memory; then, and where it
     /// wasn't added, the row is as it was.
     #[inline(always)]
     pub fn push_spelled(&mut self, bytes: &[u8]) -> Result<bool, AllocError>

@@ -2,11 +2,11 @@
 
 ghost use Rattle.std.specs.Prelude.{◌≡◌, [], IfOk};
 
-use crate::export::Export;
+use crate::exports::Exports;
 use crate::func::Global;
 use crate::func_type::FuncType;
 use crate::funcs::Funcs;
-use crate::import::Import;
+use crate::imports::Imports;
 use crate::limits::Limits;
 use crate::list::List;
 use crate::segment::{Data, Elem};
@@ -17,7 +17,7 @@ use wc_body::TryClone;
 #[derive(Debug, Drop)]
 pub struct Module {
     pub types: List<FuncType>,
-    pub imports: List<Import>,
+    pub imports: Imports,
     /// The functions that the module defines.
     pub funcs: Funcs,
     /// Tables, by their limits: a table holds references to functions.
@@ -25,7 +25,7 @@ pub struct Module {
     /// Memories, by their limits.
     pub mems: List<Limits>,
     pub globals: List<Global>,
-    pub exports: List<Export>,
+    pub exports: Exports,
     /// The index of the start function, where there is one.
     pub start: Option<u32>,
     pub elems: List<Elem>,
@@ -48,12 +48,12 @@ impl Module {
     {
         Module {
             types: List::new(alloc),
-            imports: List::new(alloc),
+            imports: Imports::new(alloc),
             funcs: Funcs::new(alloc),
             tables: List::new(alloc),
             mems: List::new(alloc),
             globals: List::new(alloc),
-            exports: List::new(alloc),
+            exports: Exports::new(alloc),
             start: None,
             elems: List::new(alloc),
             datas: List::new(alloc),

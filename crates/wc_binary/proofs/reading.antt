@@ -8,6 +8,7 @@ pub mod Feeding
 pub mod Entries
 pub mod FrontEntries
 pub mod FrontCode
+pub mod FrontItems
 pub mod Times
 pub mod Sized
 pub mod Whole

@@ -2,6 +2,7 @@
 pub mod Reading
 pub mod Source
 pub mod NextMark
+pub mod NextItem
 pub mod NextCode
 pub mod Feed
 pub mod Modules

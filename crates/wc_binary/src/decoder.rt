@@ -6,6 +6,7 @@ mod contents;
 mod expression;
 mod externals;
 mod from_source;
+mod front;
 mod immediates;
 mod integer;
 mod locals;

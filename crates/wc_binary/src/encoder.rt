@@ -1,9 +1,11 @@
 //! Canonical bytes of modules.
 
 mod contents;
+mod exports;
 mod expression;
 mod externals;
 mod funcs;
+mod imports;
 mod index;
 mod locals;
 mod measured;

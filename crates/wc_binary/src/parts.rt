@@ -4,18 +4,18 @@ ghost use Rattle.std.specs.Prelude.{◌≡◌, length};
 ghost use Rattle.wc_binary.specs.Standard.Module.{parts_of};
 
 use std::alloc;
-use wc_ast::{Codes, Data, Elem, Export, FuncType, Funcs, Global, Import, Limits, List, Module};
+use wc_ast::{Codes, Data, Elem, Exports, FuncType, Funcs, Global, Imports, Limits, List, Module};
 
 /// What each section tells. Functions are told by two: by the indices of their types, and by their codes.
 #[derive(Drop)]
 pub struct Parts {
     pub types: List<FuncType>,
-    pub imports: List<Import>,
+    pub imports: Imports,
     pub func_types: List<u32>,
     pub tables: List<Limits>,
     pub mems: List<Limits>,
     pub globals: List<Global>,
-    pub exports: List<Export>,
+    pub exports: Exports,
     pub start: Option<u32>,
     pub elems: List<Elem>,
     pub codes: Codes,
@@ -31,12 +31,12 @@ impl Parts {
     {
         Parts {
             types: List::new(alloc),
-            imports: List::new(alloc),
+            imports: Imports::new(alloc),
             func_types: List::new(alloc),
             tables: List::new(alloc),
             mems: List::new(alloc),
             globals: List::new(alloc),
-            exports: List::new(alloc),
+            exports: Exports::new(alloc),
             start: None,
             elems: List::new(alloc),
             codes: Codes::new(alloc),

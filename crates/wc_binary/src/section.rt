@@ -1,7 +1,7 @@
 //! Sections (Core 1.0, 5.5.2).
 
 use crate::tables::Tables;
-use wc_ast::{Codes, Data, Elem, Export, FuncType, Global, Import, Limits, List};
+use wc_ast::{Codes, Data, Elem, Exports, FuncType, Global, Imports, Limits, List};
 
 /// Which section an id names.
 #[derive(Clone, Copy, Debug, PartialEq, Eq)]
@@ -72,13 +72,13 @@ pub enum Section {
     /// A custom section, whose content is dropped.
     Custom,
     Types(List<FuncType>),
-    Imports(List<Import>),
+    Imports(Imports),
     /// The indices of the types of functions.
     FuncTypes(List<u32>),
     Tables(Tables),
     Mems(List<Limits>),
     Globals(List<Global>),
-    Exports(List<Export>),
+    Exports(Exports),
     /// The index of the start function. Where the section stands, there is one.
     Start(Option<u32>),
     Elems(List<Elem>),

@@ -5,7 +5,7 @@ ghost use Rattle.wc_check.specs.Standard.Spaces.{module_context};
 ghost use Rattle.wc_check.specs.Judging.Imports.{IsImported};
 
 use std::alloc::{self, AllocError};
-use wc_ast::{Desc, Global, GlobalType, Import, Limits, List, Module};
+use wc_ast::{Desc, Global, GlobalType, Imports, Limits, List, Module};
 
 /// The sizes of a module's index spaces, and what its globals are (Core 1.0, 3.1.1).
 #[derive(Debug, Drop)]
@@ -36,7 +36,7 @@ pub(crate) struct Imported {
 pub(crate) fn context_of(alloc: alloc::Global, module: &Module) -> Result<Context, AllocError>
     ensures { IfOk result (λ found. found ≡ module_context «module».now) }
 {
-    let imports = module.imports.as_slice();
+    let imports = &module.imports;
     let Imported {
         funcs,
         tables,
@@ -54,30 +54,35 @@ pub(crate) fn context_of(alloc: alloc::Global, module: &Module) -> Result<Contex
 }
 
 /// How many functions there are, where so many are imported and those that the module defines have these types.
-fn func_count(imports: &[Import], imported: usize, types: &[u32]) -> usize
+fn func_count(imports: &Imports, imported: usize, types: &[u32]) -> usize
     requires { imported ≤ length imports.now }
     ensures { result ≡ imported + length types.now }
 {
+    // As many as lie in memory, so the sum has room.
+    let _ = imports.descs();
     imported + types.len()
 }
 
 /// How many tables or memories there are, where so many are imported.
-fn limits_count(imports: &[Import], imported: usize, limits: &[Limits]) -> usize
+fn limits_count(imports: &Imports, imported: usize, limits: &[Limits]) -> usize
     requires { imported ≤ length imports.now }
     ensures { result ≡ imported + length limits.now }
 {
+    let _ = imports.descs();
     imported + limits.len()
 }
 
-fn count_imports(alloc: alloc::Global, imports: &[Import]) -> Result<Imported, AllocError>
+fn count_imports(alloc: alloc::Global, imports: &Imports) -> Result<Imported, AllocError>
     ensures { IfOk result (IsImported imports.now) }
 {
+    // All of them can be counted, so no count overflows.
+    let _ = imports.len();
     let mut funcs: usize = 0;
     let mut tables: usize = 0;
     let mut mems: usize = 0;
     let mut globals = Vec::new(alloc);
-    for import in imports {
-        match import.desc {
+    for import in imports.iter() {
+        match import.desc() {
             Desc::Func(_) => funcs += 1,
             Desc::Table(_) => tables += 1,
             Desc::Memory(_) => mems += 1,

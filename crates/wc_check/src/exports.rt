@@ -16,7 +16,7 @@ use crate::fault::{CheckFault, CheckWhy, Item, broken_if, judge};
 use crate::names::have_distinct_hashes;
 use std::alloc::Global;
 use std::collections::BTreeSet;
-use wc_ast::{Export, ExportKind, Module};
+use wc_ast::{ExportKind, ExportRef, Module};
 
 /// How many there are of what is exported.
 fn size_of_space(context: &Context, kind: ExportKind) -> usize
@@ -43,11 +43,11 @@ fn add_name<'a>(names: &mut BTreeSet<&'a str>, name: &'a str) -> Result<bool, Ch
 }
 
 /// The rule on the index of an export.
-fn space_rule(context: &Context, export: &Export) -> Option<CheckWhy>
+fn space_rule(context: &Context, export: &ExportRef<'_>) -> Option<CheckWhy>
     ensures { result ≡ first (rule whys.Index (nat_le (space_size context.now export.now.kind) export.now.index)) }
 {
-    let size = size_of_space(context, export.kind);
-    broken_if(CheckWhy::Index, size <= export.index as usize)
+    let size = size_of_space(context, export.kind());
+    broken_if(CheckWhy::Index, size <= export.index() as usize)
 }
 
 /// The exports, whose names differ.
@@ -56,8 +56,12 @@ fn check_distinct_exports(module: &Module, context: &Context) -> Result<(), Chec
     requires distinct { AreDistinct «module».now.exports }
     ensures { result ≡ verdict (each (broken_export «module».now) 0 «module».now.exports) }
 {
-    for (place, export) in module.exports.as_slice().iter().enumerate() {
-        judge(Item::Export(place), space_rule(context, export))?;
+    // All of them can be counted, so the count doesn't overflow.
+    let _ = module.exports.len();
+    let mut place: usize = 0;
+    for export in module.exports.iter() {
+        judge(Item::Export(place), space_rule(context, &export))?;
+        place += 1;
     }
     Ok(())
 }
@@ -69,11 +73,15 @@ fn check_any_exports(alloc: Global, module: &Module, context: &Context) -> Resul
     ensures err { IfErr result (IsFirstOf (each (broken_export «module».now) 0 «module».now.exports)) }
 {
     let mut names = BTreeSet::new(alloc);
-    for (place, export) in module.exports.as_slice().iter().enumerate() {
-        let is_taken = add_name(&mut names, export.name.as_str())?;
-        let space = space_rule(context, export);
+    // All of them can be counted, so the count doesn't overflow.
+    let _ = module.exports.len();
+    let mut place: usize = 0;
+    for export in module.exports.iter() {
+        let is_taken = add_name(&mut names, export.name())?;
+        let space = space_rule(context, &export);
         let why = space.or(broken_if(CheckWhy::ExportName, is_taken));
         judge(Item::Export(place), why)?;
+        place += 1;
     }
     Ok(())
 }
@@ -89,7 +97,7 @@ pub(crate) fn check_exports(
     ensures ok { OnOk result (each (broken_export «module».now) 0 «module».now.exports ≡ []) }
     ensures err { IfErr result (IsFirstOf (each (broken_export «module».now) 0 «module».now.exports)) }
 {
-    match have_distinct_hashes(alloc, module.exports.as_slice()) {
+    match have_distinct_hashes(alloc, &module.exports) {
         Ok(true) => check_distinct_exports(module, context),
         Ok(false) => check_any_exports(alloc, module, context),
         Err(_) => Err(CheckFault::Memory),

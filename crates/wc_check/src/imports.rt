@@ -27,14 +27,16 @@ pub(crate) fn check_imports(module: &Module) -> Result<(), CheckFault>
     ensures { result ≡ verdict (each (broken_import «module».now) 0 «module».now.imports) }
 {
     let types = module.types.len();
+    // All of them can be counted, so no count overflows.
+    let _ = module.imports.len();
+    let mut place: usize = 0;
     let mut tables: usize = 0;
     let mut mems: usize = 0;
-    for (place, import) in module.imports.as_slice().iter().enumerate() {
-        judge(
-            Item::Import(place),
-            import_rule(types, tables, mems, import.desc),
-        )?;
-        match import.desc {
+    for import in module.imports.iter() {
+        let desc = import.desc();
+        judge(Item::Import(place), import_rule(types, tables, mems, desc))?;
+        place += 1;
+        match desc {
             Desc::Table(_) => tables += 1,
             Desc::Memory(_) => mems += 1,
             Desc::Func(_) | Desc::Global(_) => {}

@@ -8,7 +8,7 @@ ghost use Rattle.wc_check.specs.Standard.Broken.{start_rules, has_values};
 
 use crate::context::Context;
 use crate::fault::{CheckWhy, broken_if};
-use wc_ast::{Desc, FuncType, Import, Module};
+use wc_ast::{Desc, FuncType, Imports, Module};
 
 /// The first rule that the start function breaks.
 pub(crate) fn start_rule(module: &Module, context: &Context) -> Option<CheckWhy>
@@ -54,7 +54,7 @@ fn type_of_func(module: &Module, context: &Context, index: usize) -> Option<u32>
 {
     let start = context.funcs - module.funcs.len();
     if index < start {
-        return type_of_import(module.imports.as_slice(), index);
+        return type_of_import(&module.imports, index);
     }
     type_at(module.funcs.types(), index - start)
 }
@@ -70,12 +70,12 @@ fn type_at(types: &[u32], place: usize) -> Option<u32>
 }
 
 /// The index of the type of the imported function of this index.
-fn type_of_import(imports: &[Import], index: usize) -> Option<u32>
+fn type_of_import(imports: &Imports, index: usize) -> Option<u32>
     ensures { result ≡ slice_get (imported_funcs imports.now) index }
 {
     let mut left = index;
-    for import in imports {
-        if let Desc::Func(ty) = import.desc {
+    for import in imports.iter() {
+        if let Desc::Func(ty) = import.desc() {
             if left == 0 {
                 return Some(ty);
             }

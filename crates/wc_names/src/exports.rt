@@ -9,8 +9,7 @@ ghost use Rattle.wc_names.specs.Standard.Exports.{exported_as, field_exports, ex
 use crate::counts::Counts;
 use crate::indices::{resolve_index, space_of};
 use std::alloc::AllocError;
-use wc_ast::{Export, ExportKind, List as AstList, Name};
-use wc_body::TryClone;
+use wc_ast::{ExportKind, Exports, Name};
 use wc_declared::declared::Spaces;
 use wc_spaces::Noted;
 use wc_surface::Field;
@@ -18,7 +17,7 @@ use wc_targets::NameWhy;
 
 /// Exports the same under each of these names.
 fn put_names(
-    out: &mut AstList<Export>,
+    out: &mut Exports,
     kind: ExportKind,
     index: u32,
     names: &[Name],
@@ -26,18 +25,14 @@ fn put_names(
     ensures { OnOk result (out.new ≡ out.old ++ exported_as kind index names.now) }
 {
     for name in names {
-        out.push(Export {
-            name: name.try_clone()?,
-            kind,
-            index,
-        })?;
+        out.push(name.as_str(), kind, index)?;
     }
     Ok(())
 }
 
 /// Adds the exports of a field. An identifier that nothing has is noted.
 pub(crate) fn put_field(
-    out: &mut AstList<Export>,
+    out: &mut Exports,
     spaces: &Spaces<'_>,
     counts: Counts,
     field: &Field<'_>,
@@ -75,12 +70,7 @@ pub(crate) fn put_field(
         ),
         Field::Export(export) => {
             let index = resolve_index(space_of(spaces, export.kind), &export.index, noted);
-            out.push(Export {
-                name: export.name.try_clone()?,
-                kind: export.kind,
-                index,
-            })?;
-            Ok(())
+            out.push(export.name.as_str(), export.kind, index)
         }
         _ => Ok(()),
     }

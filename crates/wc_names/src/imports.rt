@@ -7,21 +7,17 @@ ghost use Rattle.wc_names.specs.Standard.Imports.{import, desc_of as brought, fu
 ghost use Rattle.wc_names.specs.Standard.Imports.{memory_imports, global_imports, field_imports};
 
 use std::alloc::AllocError;
-use wc_ast::{Desc, GlobalType, Import, List as AstList};
-use wc_body::TryClone;
+use wc_ast::{Desc, GlobalType, Imports};
 use wc_declared::Declared;
 use wc_surface::{
     Field, FuncDesc, GlobalDesc, ImportDesc, ImportNames, MemoryDesc, TableDesc, TypeUse,
 };
 
 /// Adds an import.
-fn put(out: &mut AstList<Import>, names: &ImportNames, desc: Desc) -> Result<(), AllocError>
+fn put(out: &mut Imports, names: &ImportNames, desc: Desc) -> Result<(), AllocError>
     ensures { OnOk result (out.new ≡ out.old ++ import names.now desc ∷ []) }
 {
-    let module = names.module.try_clone()?;
-    let name = names.item.try_clone()?;
-    out.push(Import { module, name, desc })?;
-    Ok(())
+    out.push(names.module.as_str(), names.item.as_str(), desc)
 }
 
 /// What an import brings.
@@ -37,7 +33,7 @@ fn desc_of(declared: &Declared<'_>, desc: &ImportDesc<'_>) -> Desc
 }
 
 fn put_func(
-    out: &mut AstList<Import>,
+    out: &mut Imports,
     declared: &Declared<'_>,
     used: &TypeUse<'_>,
     desc: &FuncDesc<'_>,
@@ -51,7 +47,7 @@ fn put_func(
     }
 }
 
-fn put_table(out: &mut AstList<Import>, desc: &TableDesc<'_>) -> Result<(), AllocError>
+fn put_table(out: &mut Imports, desc: &TableDesc<'_>) -> Result<(), AllocError>
     ensures { OnOk result (out.new ≡ out.old ++ table_imports desc.now) }
 {
     match desc {
@@ -60,7 +56,7 @@ fn put_table(out: &mut AstList<Import>, desc: &TableDesc<'_>) -> Result<(), Allo
     }
 }
 
-fn put_memory(out: &mut AstList<Import>, desc: &MemoryDesc) -> Result<(), AllocError>
+fn put_memory(out: &mut Imports, desc: &MemoryDesc) -> Result<(), AllocError>
     ensures { OnOk result (out.new ≡ out.old ++ memory_imports desc.now) }
 {
     match desc {
@@ -69,11 +65,7 @@ fn put_memory(out: &mut AstList<Import>, desc: &MemoryDesc) -> Result<(), AllocE
     }
 }
 
-fn put_global(
-    out: &mut AstList<Import>,
-    ty: GlobalType,
-    desc: &GlobalDesc<'_>,
-) -> Result<(), AllocError>
+fn put_global(out: &mut Imports, ty: GlobalType, desc: &GlobalDesc<'_>) -> Result<(), AllocError>
     ensures { OnOk result (out.new ≡ out.old ++ global_imports ty desc.now) }
 {
     match desc {
@@ -84,7 +76,7 @@ fn put_global(
 
 /// Adds the import of a field, where it is one.
 pub(crate) fn put_field(
-    out: &mut AstList<Import>,
+    out: &mut Imports,
     declared: &Declared<'_>,
     field: &Field<'_>,
 ) -> Result<(), AllocError>

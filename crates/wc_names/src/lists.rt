@@ -12,7 +12,7 @@ ghost use Rattle.wc_names.specs.Kept.Listed.{NoLists, NoNotes, Grows, Tells, Are
 use crate::counts::{Counts, count_field, nothing};
 use crate::{datas, elems, exports, globals, imports, ranges, start};
 use std::alloc::{self, AllocError};
-use wc_ast::{Data, Elem, Export, Global, Import, Limits, List as AstList};
+use wc_ast::{Data, Elem, Exports, Global, Imports, Limits, List as AstList};
 use wc_declared::Declared;
 use wc_spaces::Noted;
 use wc_surface::Field;
@@ -21,11 +21,11 @@ use wc_targets::NameWhy;
 /// Lists of a module, as far as the fields were gone through.
 #[derive(Drop)]
 pub struct Lists {
-    pub imports: AstList<Import>,
+    pub imports: Imports,
     pub tables: AstList<Limits>,
     pub memories: AstList<Limits>,
     pub globals: AstList<Global>,
-    pub exports: AstList<Export>,
+    pub exports: Exports,
     pub start: Option<u32>,
     pub elems: AstList<Elem>,
     pub datas: AstList<Data>,
@@ -98,11 +98,11 @@ fn no_lists(alloc: alloc::Global) -> Lists
     ensures { NoLists result }
 {
     Lists {
-        imports: AstList::new(alloc),
+        imports: Imports::new(alloc),
         tables: AstList::new(alloc),
         memories: AstList::new(alloc),
         globals: AstList::new(alloc),
-        exports: AstList::new(alloc),
+        exports: Exports::new(alloc),
         start: None,
         elems: AstList::new(alloc),
         datas: AstList::new(alloc),

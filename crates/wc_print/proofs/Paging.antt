@@ -2,7 +2,7 @@
 use Rattle.std.proofs.Common.{◌≡◌, ◌≢◌, ℕ, suc, ◌+◌, ◌/◌, ◌%◌, ◌<◌, ◌≤◌, ◌^◌, List, [], ◌∷◌, ◌++◌, length, set, take, drop}
 use Rattle.std.proofs.Common.{refl, sym, ap, ◌∙◌, arith, append_assoc}
 use Rattle.std.proofs.Common.{codes}
-use Rattle.std.specs.Prelude.{Ok}
+use Rattle.std.specs.Prelude.{Result, Ok, Err, OnOk, is_ok, if◌then◌else◌}
 use Rattle.std.specs.Fmt.{decimal}
 use Rattle.std.proofs.lemmas.Fmt.{decimal_digit, decimal_step}
 use Rattle.std.proofs.lemmas.List.{length-append, length-take-le, take_at, take-append-le}
@@ -23,7 +23,7 @@ sets-kept page vs at n is fits =
     ap (λ (x : List ℕ). take n x) (sets-eq vs page at within)
     ∙ take_at (take at page ++ vs) (drop (at + length vs) page) n all
 
-one-written : (page : List ℕ) (at a : ℕ) → at + 1 ≤ length page → take (at + 1) (set page at a) ≡ take at page ++ a ∷ []
+pub one-written : (page : List ℕ) (at a : ℕ) → at + 1 ≤ length page → take (at + 1) (set page at a) ≡ take at page ++ a ∷ []
 one-written page at a fits = sets-kept page (a ∷ []) at (at + 1) (omega arith) fits
 
 two-written : (page : List ℕ) (at i a b : ℕ) → i ≡ suc at → at + 2 ≤ length page
@@ -115,6 +115,12 @@ behind-out {items = items} out {old = old} h = record {
   spelled = h.spelled;
   bytes = ap (λ (x : List ℕ). out ++ x) h.bytes ∙ sym (append_assoc out old (printed items));
 }
+
+-- what is on the page is put, where the call didn't fail
+pub page-last : {R E : Type 0} {items : List Item} {old : List ℕ} (out page new : List ℕ) (r : Result R E)
+    → Put items old (out ++ page) → new ≡ (if is_ok r then out ++ page else out) → OnOk r (Put items old new)
+page-last out page new (Ok v) h e = rw e h
+page-last out page new (Err f) h e = tt
 
 -- an offset of zero isn't printed
 pub offset-none : (n : ℕ) (p : Printed) {old new : List ℕ} → n ≡ 0 → Put (below 4 p ∷ []) old new

@@ -7,19 +7,18 @@ ghost use Rattle.wc_print.specs.Layout.{func_items, table_items, memory_items, g
 
 use crate::bodies::put_inline;
 use crate::field::Field;
+use crate::heads::{begin_func, put_locals_behind};
 use crate::pages::{PAGE, put_lines};
-use crate::types::{put_global_type, put_limits, put_locals, put_type_use};
+use crate::types::{put_global_type, put_limits};
 use std::alloc::AllocError;
 use wc_ast::{FuncRef, Funcs, Global, Limits};
 
 fn put_func(out: &mut Vec<u8>, page: &mut [u8; PAGE], func: &FuncRef<'_>) -> Result<(), AllocError>
     ensures { OnOk result (Put (func_items func.now) out.old.items out.new.items) }
 {
-    out.extend_from_slice(b"\n  (func")?;
-    put_type_use(out, func.ty())?;
-    put_locals(out, func.locals())?;
-    put_lines(out, page, func.body())?;
-    out.extend_from_slice(b"\n  )")
+    let head = begin_func(out, page, func.ty())?;
+    let begin = put_locals_behind(out, page, head, func.locals())?;
+    put_lines(out, page, begin, func.body())
 }
 
 /// The functions.

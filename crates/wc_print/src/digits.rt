@@ -1,7 +1,12 @@
 //! Digits of numbers of few, written where there is room for them.
 
-ghost use Rattle.std.specs.Prelude.{◌≡◌, ◌≤◌, ◌<◌, ◌+◌, ◌++◌, length, take};
+ghost use Rattle.std.specs.Prelude.{◌≡◌, ◌≤◌, ◌<◌, ◌+◌, ◌∷◌, [], ◌++◌, length, take};
 ghost use Rattle.std.specs.Fmt.{decimal};
+ghost use Rattle.wc_print.specs.Printed.{number, after};
+ghost use Rattle.wc_print.specs.Printable.{Put};
+
+/// The first index that isn't short: one of more than six digits.
+pub const LIMIT: u32 = 1_000_000;
 
 /// Writes the digits of a number of at most three, from a place on, and says where they end.
 #[inline(always)]
@@ -43,4 +48,16 @@ pub fn write_digits(room: &mut [u8], at: usize, n: u32) -> usize
     room[end + 1] = b'0' + (n / 10 % 10) as u8;
     room[end + 2] = b'0' + (n % 10) as u8;
     end + 3
+}
+
+/// Writes an index that is short, behind a space.
+#[inline(always)]
+pub fn write_index(room: &mut [u8], at: usize, index: u32) -> usize
+    requires room { at + 7 ≤ length room.old }
+    requires few { index < 1000000 }
+    ensures end { result ≤ at + 7 }
+    ensures put { Put (after (number index) ∷ []) (take at room.old) (take result room.new) }
+{
+    room[at] = b' ';
+    write_digits(room, at + 1, index)
 }

@@ -1,17 +1,17 @@
 //! Imports and exports (Core 1.0, 6.6.4 and 6.6.9).
 
 ghost use Rattle.std.specs.Prelude.{◌≡◌, ◌∷◌, [], OnOk};
+ghost use Rattle.std.specs.List.{flat_map};
 ghost use Rattle.wc_print.specs.Printed.{next, opening, after, word, printed};
 ghost use Rattle.wc_print.specs.Printable.{Put};
 ghost use Rattle.wc_print.specs.Layout.{desc_items, import_items, kind_word, export_items};
 
-use crate::field::Field;
 use crate::numbers::put_number;
 use crate::short::{is_short_export, is_short_import, put_short_export, put_short_import};
 use crate::strings::put_string;
 use crate::types::{put_global_type, put_limits, put_type_use};
 use std::alloc::AllocError;
-use wc_ast::{Desc, Export, ExportKind, Import};
+use wc_ast::{Desc, ExportKind, ExportRef, Exports, ImportRef, Imports};
 
 /// What is imported.
 fn put_desc(out: &mut Vec<u8>, desc: Desc) -> Result<(), AllocError>
@@ -41,23 +41,34 @@ fn put_desc(out: &mut Vec<u8>, desc: Desc) -> Result<(), AllocError>
     }
 }
 
-impl Field for Import {
-    ghost items = { import_items };
-
-    fn put(&self, out: &mut Vec<u8>) -> Result<(), AllocError> {
-        let module = self.module.as_str().as_bytes();
-        let name = self.name.as_str().as_bytes();
-        if let Desc::Func(index) = self.desc {
-            if is_short_import(module, name, index) {
-                return put_short_import(out, module, name, index);
-            }
+fn put_import(out: &mut Vec<u8>, import: &ImportRef<'_>) -> Result<(), AllocError>
+    ensures { OnOk result (Put (import_items import.now) out.old.items out.new.items) }
+{
+    let module = import.module().as_bytes();
+    let name = import.name().as_bytes();
+    if let Desc::Func(index) = import.desc() {
+        if is_short_import(module, name, index) {
+            return put_short_import(out, module, name, index);
         }
-        out.extend_from_slice(b"\n  (import")?;
-        put_string(out, module)?;
-        put_string(out, name)?;
-        put_desc(out, self.desc)?;
-        out.extend_from_slice(b")")
     }
+    out.extend_from_slice(b"\n  (import")?;
+    put_string(out, module)?;
+    put_string(out, name)?;
+    put_desc(out, import.desc())?;
+    out.extend_from_slice(b")")
+}
+
+/// The imports.
+// The loop stays apart, so that no other takes registers from it.
+#[inline(never)]
+pub fn put_imports(out: &mut Vec<u8>, imports: &Imports) -> Result<(), AllocError>
+    ensures { OnOk result (Put (flat_map import_items imports.now) out.old.items out.new.items) }
+{
+    let mut left = imports.iter();
+    while let Some(import) = left.next() {
+        put_import(out, &import)?;
+    }
+    Ok(())
 }
 
 fn kind_text(kind: ExportKind) -> &'static str
@@ -71,20 +82,33 @@ fn kind_text(kind: ExportKind) -> &'static str
     }
 }
 
-impl Field for Export {
-    ghost items = { export_items };
-
-    fn put(&self, out: &mut Vec<u8>) -> Result<(), AllocError> {
-        let name = self.name.as_str().as_bytes();
-        if let ExportKind::Func = self.kind {
-            if is_short_export(name, self.index) {
-                return put_short_export(out, name, self.index);
-            }
+fn put_export(out: &mut Vec<u8>, export: &ExportRef<'_>) -> Result<(), AllocError>
+    ensures { OnOk result (Put (export_items export.now) out.old.items out.new.items) }
+{
+    let name = export.name().as_bytes();
+    let kind = export.kind();
+    let index = export.index();
+    if let ExportKind::Func = kind {
+        if is_short_export(name, index) {
+            return put_short_export(out, name, index);
         }
-        out.extend_from_slice(b"\n  (export")?;
-        put_string(out, name)?;
-        out.extend_from_slice(kind_text(self.kind).as_bytes())?;
-        put_number(out, self.index)?;
-        out.extend_from_slice(b"))")
     }
+    out.extend_from_slice(b"\n  (export")?;
+    put_string(out, name)?;
+    out.extend_from_slice(kind_text(kind).as_bytes())?;
+    put_number(out, index)?;
+    out.extend_from_slice(b"))")
+}
+
+/// The exports.
+// The loop stays apart, so that no other takes registers from it.
+#[inline(never)]
+pub fn put_exports(out: &mut Vec<u8>, exports: &Exports) -> Result<(), AllocError>
+    ensures { OnOk result (Put (flat_map export_items exports.now) out.old.items out.new.items) }
+{
+    let mut left = exports.iter();
+    while let Some(export) = left.next() {
+        put_export(out, &export)?;
+    }
+    Ok(())
 }

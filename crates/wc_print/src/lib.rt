@@ -7,6 +7,7 @@ mod digits;
 mod escapes;
 mod externals;
 mod field;
+mod heads;
 mod laws;
 mod lines;
 mod numbers;

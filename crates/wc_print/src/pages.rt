@@ -8,7 +8,7 @@ ghost use Rattle.wc_body.specs.declared.instr.BlockType.TheVariants.{Empty};
 ghost use Rattle.wc_body.specs.Standard.Entries.{mark};
 ghost use Rattle.wc_body.specs.Standard.Nested.{plain};
 ghost use Rattle.wc_body.specs.Standard.Short.{instruction};
-ghost use Rattle.wc_print.specs.Printed.{below, word, number, integer, after};
+ghost use Rattle.wc_print.specs.Printed.{below, closing, word, number, integer, after};
 ghost use Rattle.wc_print.specs.Printable.{Put};
 ghost use Rattle.wc_print.specs.Lines.{told, offset_items, body_items};
 ghost use Rattle.wc_print.specs.Inner.Places.{line_items, LeavesLines};
@@ -27,7 +27,7 @@ const LINE: usize = 48;
 
 /// Writes what a row tells, from a place on, and says where it ends. The whole row is written.
 #[inline(always)]
-fn write_row(page: &mut [u8; PAGE], at: usize, row: &'static Row) -> usize
+pub fn write_row(page: &mut [u8; PAGE], at: usize, row: &'static Row) -> usize
     requires room { at + 24 ≤ 512 }
     requires short { slice_index row.now 23 ≤ 23 }
     ensures end { result ≡ at + slice_index row.now 23 }
@@ -193,20 +193,24 @@ fn put_line(
     }
 }
 
-/// The instructions of a function, each on a line. The page is for use meanwhile.
+/// The instructions of a function, each on a line, and its end, behind what is written on the page.
 pub fn put_lines(
     out: &mut Vec<u8>,
     page: &mut [u8; PAGE],
+    from: usize,
     body: &BodyRef<'_>,
 ) -> Result<(), AllocError>
-    ensures { OnOk result (Put (body_items body.now) out.old.items out.new.items) }
+    requires { from + 48 ≤ 512 }
+    ensures { OnOk result (Put (body_items body.now ++ below 2 closing ∷ [])
+        (out.old.items ++ take from page.old) out.new.items) }
 {
     let mut entries = body.entries();
-    let mut at = put_all_short(out, page, 0, &mut entries)?;
+    let mut at = put_all_short(out, page, from, &mut entries)?;
     while let Some(entry) = entries.next() {
         let end = put_line(out, page, at, entry)?;
         let next = turn(out, page, end)?;
         at = put_all_short(out, page, next, &mut entries)?;
     }
-    out.extend_from_slice(&page[..at])
+    let end = write_row(page, at, b"\n  )                   \x04");
+    out.extend_from_slice(&page[..end])
 }

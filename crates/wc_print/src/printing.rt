@@ -7,6 +7,7 @@ ghost use Rattle.wc_print.specs.Printable.{IsPrintable, Put};
 ghost use Rattle.wc_print.specs.Layout.{field_items, layout};
 
 use crate::definitions::{put_funcs, put_memories, put_tables};
+use crate::externals::{put_exports, put_imports};
 use crate::field::put_all;
 use crate::segments::put_start;
 use std::alloc::{AllocError, Global};
@@ -17,12 +18,12 @@ fn put_fields(out: &mut Vec<u8>, module: &Module) -> Result<(), AllocError>
     ensures { OnOk result (Put (field_items module.now) out.old.items out.new.items) }
 {
     put_all(out, module.types.as_slice())?;
-    put_all(out, module.imports.as_slice())?;
+    put_imports(out, &module.imports)?;
     put_funcs(out, &module.funcs)?;
     put_tables(out, module.tables.as_slice())?;
     put_memories(out, module.mems.as_slice())?;
     put_all(out, module.globals.as_slice())?;
-    put_all(out, module.exports.as_slice())?;
+    put_exports(out, &module.exports)?;
     put_start(out, module.start)?;
     put_all(out, module.elems.as_slice())?;
     put_all(out, module.datas.as_slice())

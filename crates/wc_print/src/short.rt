@@ -2,11 +2,11 @@
 //! together in a small room before they are put behind the others.
 
 ghost use Rattle.std.specs.Prelude.{◌≡◌, ◌≤◌, ◌<◌, ◌+◌, ◌∷◌, [], ◌++◌, IsTrue, OnOk, length, take};
-ghost use Rattle.wc_print.specs.Printed.{number, quoted, after};
+ghost use Rattle.wc_print.specs.Printed.{quoted, after};
 ghost use Rattle.wc_print.specs.Printable.{Put};
 ghost use Rattle.wc_print.specs.Inner.Short.{IsShort, function_import, function_export};
 
-use crate::digits::write_digits;
+use crate::digits::{LIMIT, write_index};
 use crate::strings::is_plain;
 use std::alloc::AllocError;
 
@@ -15,9 +15,6 @@ const ROOM: usize = 128;
 
 /// The most bytes of a short name, of a module or in it.
 const NAME: usize = 40;
-
-/// The first index that isn't short.
-const LIMIT: u32 = 1_000_000;
 
 /// Whether a name is short, and stands for itself.
 #[inline(always)]
@@ -68,18 +65,6 @@ fn write_name(room: &mut [u8; ROOM], at: usize, name: &[u8]) -> usize
     let begin = write(room, at, b" \"");
     let end = write(room, begin, name);
     write(room, end, b"\"")
-}
-
-/// Writes an index that is short, behind a space.
-#[inline(always)]
-fn write_index(room: &mut [u8; ROOM], at: usize, index: u32) -> usize
-    requires room { at + 7 ≤ 128 }
-    requires few { index < 1000000 }
-    ensures end { result ≤ at + 7 }
-    ensures put { Put (after (number index) ∷ []) (take at room.old) (take result room.new) }
-{
-    room[at] = b' ';
-    write_digits(room, at + 1, index)
 }
 
 /// Writes an import of a function, and says where it ends.

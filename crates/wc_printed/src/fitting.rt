@@ -6,7 +6,10 @@ ghost use Rattle.wc_print.specs.Printable.{IsByte};
 ghost use Rattle.wc_printed.specs.Fitting.{FitsOptional, FitsLimits, FitsDesc, FitsImport, FitsFunc, FitsGlobal};
 ghost use Rattle.wc_printed.specs.Fitting.{FitsExport, FitsElem, FitsData, Fits};
 
-use wc_ast::{Data, Desc, Elem, Export, FuncRef, Funcs, Global, Import, Limits, Module};
+use wc_ast::{
+    Data, Desc, Elem, ExportRef, Exports, FuncRef, Funcs, Global, ImportRef, Imports, Limits,
+    Module,
+};
 
 /// A part of a module that fits.
 trait Part: Sized {
@@ -76,6 +79,43 @@ fn funcs_fit(funcs: &Funcs)
     }
 }
 
+/// An import fits.
+fn import_fits(import: &ImportRef<'_>)
+    ensures { FitsImport import.now }
+{
+    let _module = import.module();
+    let _name = import.name();
+    desc_fits(import.desc());
+}
+
+/// Each import fits.
+fn imports_fit(imports: &Imports)
+    ensures { AllByRecursion FitsImport imports.now }
+{
+    let mut left = imports.iter();
+    while let Some(import) = left.next() {
+        import_fits(&import);
+    }
+}
+
+/// An export fits.
+fn export_fits(export: &ExportRef<'_>)
+    ensures { FitsExport export.now }
+{
+    let _name = export.name();
+    let _index = export.index();
+}
+
+/// Each export fits.
+fn exports_fit(exports: &Exports)
+    ensures { AllByRecursion FitsExport exports.now }
+{
+    let mut left = exports.iter();
+    while let Some(export) = left.next() {
+        export_fits(&export);
+    }
+}
+
 impl Part for Limits {
     ghost fits = { FitsLimits };
 
@@ -84,30 +124,11 @@ impl Part for Limits {
     }
 }
 
-impl Part for Import {
-    ghost fits = { FitsImport };
-
-    fn part_fits(&self) {
-        let _module = self.module.as_str();
-        let _name = self.name.as_str();
-        desc_fits(self.desc);
-    }
-}
-
 impl Part for Global {
     ghost fits = { FitsGlobal };
 
     fn part_fits(&self) {
         let _bytes = self.init.bytes();
-    }
-}
-
-impl Part for Export {
-    ghost fits = { FitsExport };
-
-    fn part_fits(&self) {
-        let _name = self.name.as_str();
-        let _index = self.index;
     }
 }
 
@@ -136,12 +157,12 @@ impl Part for Data {
 pub fn module_fits(module: &Module)
     ensures { Fits module.now }
 {
-    all_fit(module.imports.as_slice());
+    imports_fit(&module.imports);
     funcs_fit(&module.funcs);
     all_fit(module.tables.as_slice());
     all_fit(module.mems.as_slice());
     all_fit(module.globals.as_slice());
-    all_fit(module.exports.as_slice());
+    exports_fit(&module.exports);
     optional_fits(module.start);
     all_fit(module.elems.as_slice());
     all_fit(module.datas.as_slice());

@@ -3,7 +3,7 @@
 use std::alloc::Global;
 use std::process::Abort;
 use std::test::Fail;
-use wc_ast::{BodyBuilder, Export, ExportKind, Func, FuncType, List, Locals, Module, Name};
+use wc_ast::{BodyBuilder, ExportKind, Func, FuncType, List, Locals, Module};
 use wc_check::{CheckFault, CheckWhy, Item, check};
 
 const MANY: usize = 1_000_000;
@@ -25,13 +25,8 @@ fn add(module: &mut Module, func: &Func) -> Result<(), Fail> {
 
 /// Exports the function once more, under this number for a name.
 fn export(alloc: Global, module: &mut Module, number: usize) -> Result<(), Fail> {
-    let name = Name::from_string(format!(in alloc; "{number}")?);
-    module.exports.push(Export {
-        name,
-        kind: ExportKind::Func,
-        index: 0,
-    })?;
-    Ok(())
+    let name = format!(in alloc; "{number}")?;
+    Ok(module.exports.push(name.as_str(), ExportKind::Func, 0)?)
 }
 
 fn export_many(alloc: Global, module: &mut Module) -> Result<(), Fail> {

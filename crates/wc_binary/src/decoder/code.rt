@@ -4,7 +4,8 @@ ghost use Rattle.std.specs.Prelude.{◌≡◌, IfOk, OnErr, IfSome};
 ghost use Rattle.wc_binary.specs.Standard.Contents.{code as code_phrase, func as func_phrase};
 ghost use Rattle.wc_binary.specs.Standard.Values.{times as times_phrase, vector as vector_phrase};
 ghost use Rattle.wc_binary.specs.Reading.Source.{Gives};
-ghost use Rattle.wc_binary.specs.Reading.NextCode.{BeginsBare, AddsCode, TakesCode, AddsNextCode};
+ghost use Rattle.wc_binary.specs.Reading.NextCode.{BeginsBare, AddsCode};
+ghost use Rattle.wc_binary.specs.Reading.NextItem.{TakesItem, AddsItem};
 
 use crate::decoder::expression::body_from;
 use crate::decoder::from_source::FromSource;
@@ -41,8 +42,8 @@ fn code<S: Source>(alloc: Global, spare: FuncCode, source: &mut S) -> Result<Fun
     Ok(found)
 }
 
-/// The bytes of the body of the code that these begin with (Core 1.0, 5.5.13), where the size of the code has one byte
-/// and it has no locals.
+/// The bytes of the body of the code that these begin with (Core 1.0, 5.5.13), where its size has one byte and it has
+/// no locals.
 #[inline(always)]
 fn bare_body(bytes: &[u8]) -> Option<&[u8]>
     ensures { IfSome result (λ body. BeginsBare bytes.now body.now) }
@@ -59,8 +60,8 @@ fn bare_body(bytes: &[u8]) -> Option<&[u8]>
     Some(&rest[..count])
 }
 
-/// Adds the code that these bytes begin with, where they are its canonical ones, it has no locals, and its body is small
-/// and usual. Answers how many bytes it has, or none where it wasn't added.
+/// Adds the code that these bytes begin with, where they are its canonical ones, it has no locals, and its body is
+/// small and usual. Answers how many bytes it has, or none where it wasn't added.
 #[inline(always)]
 fn push_front(codes: &mut Codes, bytes: &[u8]) -> Result<Option<usize>, AllocError>
     ensures ok { IfOk result (AddsCode codes.old codes.new bytes.now) }
@@ -79,7 +80,7 @@ fn push_front(codes: &mut Codes, bytes: &[u8]) -> Result<Option<usize>, AllocErr
 /// small functions. Else nothing was taken.
 #[inline(always)]
 fn code_ahead<S: Source>(codes: &mut Codes, source: &mut S) -> Result<bool, BinFault>
-    ensures { TakesCode codes.old codes.new (S.input source.old) (S.input source.new) result }
+    ensures { TakesItem code_phrase codes.old codes.new (S.input source.old) (S.input source.new) result }
 {
     let Some(count) = push_front(codes, source.front(BUFFER_SIZE))? else {
         return Ok(false);
@@ -88,15 +89,15 @@ fn code_ahead<S: Source>(codes: &mut Codes, source: &mut S) -> Result<bool, BinF
     Ok(true)
 }
 
-/// Reads a code, and puts it behind the others. Where that can't be done at once, it is read into the memory of one that
-/// is wanted no longer; such memory is answered.
+/// Reads a code, and puts it behind the others. Where that can't be done at once, it is read into the memory of one
+/// that is wanted no longer; such memory is answered.
 fn next_code<S: Source>(
     alloc: Global,
     codes: &mut Codes,
     spare: FuncCode,
     source: &mut S,
 ) -> Result<FuncCode, BinFault>
-    ensures { AddsNextCode codes.old codes.new (S.input source.old) (S.input source.new) result }
+    ensures { AddsItem code_phrase codes.old codes.new (S.input source.old) (S.input source.new) result }
 {
     if code_ahead(codes, source)? {
         return Ok(spare);

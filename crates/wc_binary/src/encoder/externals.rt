@@ -1,31 +1,34 @@
-//! Imports and exports (Core 1.0, 5.5.5 and 5.5.10).
+//! Imports and exports (Core 1.0, 5.5.5 and 5.5.10), where they stand in a row.
 
-ghost use Rattle.std.specs.Prelude.{◌≡◌, ◌∷◌, []};
+ghost use Rattle.std.specs.Prelude.{◌≡◌, ◌∷◌, [], length};
 ghost use Rattle.wc_binary.specs.Writing.Values.{name_bytes, kind_bytes, desc_bytes};
 ghost use Rattle.wc_binary.specs.Writing.Values.{import_bytes, export_bytes, FitsName};
 ghost use Rattle.wc_binary.specs.Writing.Values.{FitsDesc, FitsImport, FitsExport};
+ghost use Rattle.wc_binary.specs.Writing.Writes.{Writes, Measures};
 
 use crate::encoder::measured::Measured;
 use crate::encoder::types::{table_type_size, write_table_type};
 use crate::encoder::value::{sized_size, u32_size, write_length, write_u32};
 use crate::fault::EncFault;
-use wc_ast::{Desc, Export, ExportKind, Import, Name};
+use wc_ast::{Desc, ExportKind, ExportRef, ImportRef};
 
-impl Measured for Name {
-    ghost bytes = { name_bytes };
+/// How many bytes a name takes.
+#[inline(always)]
+fn name_size(name: &str) -> Option<usize>
+    ensures { Measures (FitsName name.now) (length (name_bytes name.now)) result }
+{
+    sized_size(name.as_bytes().len())
+}
 
-    ghost Fits = { FitsName };
-
-    fn size(&self) -> Option<usize> {
-        sized_size(self.as_str().len())
-    }
-
-    fn write(&self, out: &mut Vec<u8>) -> Result<(), EncFault> {
-        let bytes = self.as_str().as_bytes();
-        write_length(out, bytes.len())?;
-        out.extend_from_slice(bytes)?;
-        Ok(())
-    }
+/// Writes a name.
+#[inline(always)]
+fn write_name(out: &mut Vec<u8>, name: &str) -> Result<(), EncFault>
+    ensures { Writes (FitsName name.now) out.old.items out.new.items (name_bytes name.now) result }
+{
+    let bytes = name.as_bytes();
+    write_length(out, bytes.len())?;
+    out.extend_from_slice(bytes)?;
+    Ok(())
 }
 
 impl Measured for Desc {
@@ -66,20 +69,20 @@ impl Measured for Desc {
     }
 }
 
-impl Measured for Import {
+impl<'a> Measured for ImportRef<'a> {
     ghost bytes = { import_bytes };
 
     ghost Fits = { FitsImport };
 
     fn size(&self) -> Option<usize> {
-        let names = self.module.size()?.saturating_add(self.name.size()?);
-        Some(names.saturating_add(self.desc.size()?))
+        let names = name_size(self.module())?.saturating_add(name_size(self.name())?);
+        Some(names.saturating_add(self.desc().size()?))
     }
 
     fn write(&self, out: &mut Vec<u8>) -> Result<(), EncFault> {
-        self.module.write(out)?;
-        self.name.write(out)?;
-        self.desc.write(out)
+        write_name(out, self.module())?;
+        write_name(out, self.name())?;
+        self.desc().write(out)
     }
 }
 
@@ -94,20 +97,20 @@ fn kind_byte(kind: ExportKind) -> u8
     }
 }
 
-impl Measured for Export {
+impl<'a> Measured for ExportRef<'a> {
     ghost bytes = { export_bytes };
 
     ghost Fits = { FitsExport };
 
     fn size(&self) -> Option<usize> {
-        let behind = u32_size(self.index).saturating_add(1);
-        Some(self.name.size()?.saturating_add(behind))
+        let behind = u32_size(self.index()).saturating_add(1);
+        Some(name_size(self.name())?.saturating_add(behind))
     }
 
     fn write(&self, out: &mut Vec<u8>) -> Result<(), EncFault> {
-        self.name.write(out)?;
-        out.push(kind_byte(self.kind))?;
-        write_u32(out, self.index)?;
+        write_name(out, self.name())?;
+        out.push(kind_byte(self.kind()))?;
+        write_u32(out, self.index())?;
         Ok(())
     }
 }

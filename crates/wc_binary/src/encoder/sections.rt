@@ -7,7 +7,9 @@ ghost use Rattle.wc_binary.specs.Writing.Sections.{sections_bytes, FitsSections}
 ghost use Rattle.wc_binary.specs.Standard.Sections.{section_id};
 ghost use Rattle.wc_binary.specs.Writing.Writes.{Writes, MeasuresWithin, section_limit, sections_limit};
 
+use crate::encoder::exports::{export_section_size, write_export_section};
 use crate::encoder::funcs::{code_section_size, write_code_section};
+use crate::encoder::imports::{import_section_size, write_import_section};
 use crate::encoder::section::{headed_size, section_size, write_head, write_section};
 use crate::encoder::table_types::{table_section_size, write_table_section};
 use crate::encoder::value::{u32_size, write_u32};
@@ -44,12 +46,12 @@ pub fn sections_size(m: &Module) -> Option<usize>
         result }
 {
     let types = section_size(m.types.as_slice())?;
-    let imports = section_size(m.imports.as_slice())?;
+    let imports = import_section_size(&m.imports)?;
     let funcs = section_size(m.funcs.types())?;
     let tables = table_section_size(m.tables.as_slice())?;
     let mems = section_size(m.mems.as_slice())?;
     let globals = section_size(m.globals.as_slice())?;
-    let exports = section_size(m.exports.as_slice())?;
+    let exports = export_section_size(&m.exports)?;
     let start = start_section_size(m.start)?;
     let elems = section_size(m.elems.as_slice())?;
     let codes = code_section_size(m.funcs.codes())?;
@@ -64,12 +66,12 @@ pub fn write_sections(out: &mut Vec<u8>, m: &Module) -> Result<(), EncFault>
         (sections_bytes (parts_of m.now)) result }
 {
     write_section(out, SectionKind::Type, m.types.as_slice())?;
-    write_section(out, SectionKind::Import, m.imports.as_slice())?;
+    write_import_section(out, &m.imports)?;
     write_section(out, SectionKind::Function, m.funcs.types())?;
     write_table_section(out, m.tables.as_slice())?;
     write_section(out, SectionKind::Memory, m.mems.as_slice())?;
     write_section(out, SectionKind::Global, m.globals.as_slice())?;
-    write_section(out, SectionKind::Export, m.exports.as_slice())?;
+    write_export_section(out, &m.exports)?;
     write_start_section(out, m.start)?;
     write_section(out, SectionKind::Element, m.elems.as_slice())?;
     write_code_section(out, m.funcs.codes())?;

@@ -16,7 +16,7 @@ use Rattle.wc_check.specs.declared.context.Context.{Context}
 use Rattle.wc_check.specs.declared.fault.CheckWhy.{CheckWhy}
 use Rattle.wc_check.specs.declared.fault.CheckWhy.TheVariants as whys
 use Rattle.wc_check.specs.Standard.Rules.{rule}
-use Rattle.wc_check.specs.Judging.Names.{AreDistinct, hash_from, rises_above, rises}
+use Rattle.wc_check.specs.Judging.Names.{AreDistinct, hash_of_name, rises_above, rises}
 
 -- ---- how often a number stands in a list
 
@@ -81,15 +81,15 @@ once h (x ∷ xs) e = elim (cases_Bool (x == h)) [
 -- ---- names
 
 abbrev hashes : List Export → List ℕ
-hashes exports = map (λ e. hash_from 0 e.name) exports
+hashes exports = map (λ e. hash_of_name e.name) exports
 
 -- the hash of a name stands among those of exports that have it
-named-once : (q : List ℕ) (exports : List Export) → has_name q exports ≡ true → 1 ≤ times (hash_from 0 q) (hashes exports)
+named-once : (q : List ℕ) (exports : List Export) → has_name q exports ≡ true → 1 ≤ times (hash_of_name q) (hashes exports)
 named-once q [] e = absurd cc
 named-once q (x ∷ xs) e = elim (cases_Bool (bytes_eq q x.name)) [
   | inl same ↦
       let name = (bytes_eq-Decides q x.name).0 same in
-      omega (arith, one-more (hash_from 0 x.name) (hash_from 0 q) (hashes xs) (sym (ap (λ n. hash_from 0 n) name)))
+      omega (arith, one-more (hash_of_name x.name) (hash_of_name q) (hashes xs) (sym (ap (λ n. hash_of_name n) name)))
   | inr other ↦
       let rest : has_name q xs ≡ true = sym (ap (λ b. b || has_name q xs) other) ∙ e in
       omega (arith, named-once q xs rest)
@@ -97,12 +97,12 @@ named-once q (x ∷ xs) e = elim (cases_Bool (bytes_eq q x.name)) [
 
 -- and once more where one more has it
 named-twice : (q : List ℕ) (exports : List Export) (n : ℕ) (e : Export) → slice_get exports n ≡ Some e → e.name ≡ q
-    → times (hash_from 0 q) (hashes (take n exports)) + 1 ≤ times (hash_from 0 q) (hashes exports)
+    → times (hash_of_name q) (hashes (take n exports)) + 1 ≤ times (hash_of_name q) (hashes exports)
 named-twice q [] n e at same = absurd cc
 named-twice q (x ∷ xs) zero e at same =
     let this : x ≡ e = cc in
-    let name : hash_from 0 x.name ≡ hash_from 0 q = ap (λ z. hash_from 0 z.name) this ∙ ap (λ z. hash_from 0 z) same in
-    omega (arith, one-more (hash_from 0 x.name) (hash_from 0 q) (hashes xs) name)
+    let name : hash_of_name x.name ≡ hash_of_name q = ap (λ z. hash_of_name z.name) this ∙ ap (λ z. hash_of_name z) same in
+    omega (arith, one-more (hash_of_name x.name) (hash_of_name q) (hashes xs) name)
 named-twice q (x ∷ xs) (suc n) e at same =
     omega (arith, named-twice q xs n e at same)
 
@@ -111,8 +111,8 @@ pub distinct-hashes : (exports : List Export) (ordered : List ℕ)
     → IsPermutation (hashes exports) ordered → rises ordered ≡ true → AreDistinct exports
 distinct-hashes exports ordered p up = λ n e at. elim (cases_Bool (has_name e.name (take n exports))) [
   | inl there ↦
-      let few = once (hash_from 0 e.name) ordered up in
-      let all = times-permutation (hash_from 0 e.name) (hashes exports) ordered p in
+      let few = once (hash_of_name e.name) ordered up in
+      let all = times-permutation (hash_of_name e.name) (hashes exports) ordered p in
       let some = named-once e.name (take n exports) there in
       absurd (omega (arith, few, all, some, named-twice e.name exports n e at refl))
   | inr new ↦ new

@@ -1,6 +1,7 @@
--- What one more import adds.
+-- Index spaces, and what stands at a place of a list that is made of two.
 use Rattle.std.proofs.Common.{◌≡◌, ℕ, ◌<◌, ◌+◌, List, [], ◌∷◌, ◌++◌, length, refl, ap, ◌∙◌}
 use Rattle.std.specs.List.{flat_map, slice_get}
+use Rattle.std.specs.Prelude.{Some}
 use Rattle.std.proofs.Common.{arith, ◌≤◌, ◌-◌, zero, suc, map, length-append}
 use Rattle.std.proofs.lemmas.List.{length-map}
 use Rattle.wc_ast.specs.declared.module.Module.{Module}
@@ -66,6 +67,13 @@ pub slice_get-front : {X : Type 0} (xs ys : List X) (i : ℕ) → i < length xs 
 slice_get-front [] ys i lt = absurd (omega arith)
 slice_get-front (x ∷ xs) ys zero lt = refl
 slice_get-front (x ∷ xs) ys (suc i) lt = slice_get-front xs ys i (omega arith)
+
+pub slice_get-between : {X : Type 0} (xs ys : List X) (x : X) (i : ℕ) → i ≡ length xs
+    → slice_get (xs ++ x ∷ ys) i ≡ Some x
+slice_get-between [] ys x zero e = refl
+slice_get-between [] ys x (suc i) e = absurd (omega (arith, e))
+slice_get-between (z ∷ zs) ys x zero e = absurd (omega (arith, e))
+slice_get-between (z ∷ zs) ys x (suc i) e = slice_get-between zs ys x i (omega (arith, e))
 
 pub slice_get-back : {X : Type 0} (xs ys : List X) (i : ℕ) → length xs ≤ i
     → slice_get (xs ++ ys) i ≡ slice_get ys (i - length xs)

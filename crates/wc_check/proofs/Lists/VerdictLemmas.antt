@@ -1,7 +1,6 @@
 -- A check that goes through a list, and stops at the first broken rule.
 use Rattle.std.proofs.Common.{◌≡◌, ℕ, ◌+◌, ◌<◌, suc, List, [], ◌∷◌, ◌++◌, length, get_or, drop, Option, Result}
 use Rattle.std.proofs.Common.{Ok, Err, refl, sym, ap, ◌∙◌}
-use Rattle.std.proofs.Math.Numerals.{add-one}
 use Rattle.std.proofs.Math.Seq.{drop-cons}
 use Rattle.wc_check.specs.declared.fault.Item.{Item}
 use Rattle.wc_check.specs.declared.fault.CheckWhy.{CheckWhy}
@@ -46,10 +45,3 @@ module _ {X : Type 0} (broken_by : ℕ → X → List (Item × CheckWhy)) (n i :
   each-fails x d answer fault lt is rest e =
       sym (verdict-fails (broken_by n x) (each broken_by (n + 1) (drop (suc i) xs)) fault e)
       ∙ sym (ap (λ ys. verdict ys) (next-each x d lt is)) ∙ rest
-
-  -- the next member breaks no rule
-  pub each-passes : (x d : X) → i < length xs → x ≡ get_or xs i d → broken_by n x ≡ []
-      → each broken_by n (drop i xs) ≡ each broken_by (n + 1) (drop (i + 1) xs)
-  each-passes x d lt is none =
-      next-each x d lt is ∙ ap (λ ys. ys ++ each broken_by (n + 1) (drop (suc i) xs)) none
-      ∙ ap (λ k. each broken_by (n + 1) (drop k xs)) (sym (add-one i))

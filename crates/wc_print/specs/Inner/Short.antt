@@ -1,7 +1,8 @@
--- Imports and exports of functions, by their names and an index.
+-- Imports and exports of functions, by their names and an index, and the heads of functions.
 use Rattle.std.specs.Prelude.{◌≡◌, ℕ, ◌<◌, ◌≤◌, true, List, [], ◌∷◌, ◌++◌, codes, length, slice_index}
 use Rattle.wc_ast.specs.declared.import.Desc.TheVariants.{Func}
 use Rattle.wc_print.specs.Printed.{stands, opening, closing, word, number, quoted, Item, next, after, below}
+use Rattle.wc_print.specs.Lines.{type_use_items}
 use Rattle.wc_print.specs.Layout.{desc_items}
 
 -- each of the bytes stands for itself in a string
@@ -23,3 +24,7 @@ abbrev pub function_export : List ℕ → ℕ → List Item
 function_export n index =
     below 2 opening ∷ next (word (codes "export")) ∷ after (quoted n)
     ∷ after opening ∷ next (word (codes "func")) ∷ after (number index) ∷ next closing ∷ next closing ∷ []
+
+-- `  (func (type 0)` (6.6.5)
+abbrev pub function_head : ℕ → List Item
+function_head index = below 2 opening ∷ next (word (codes "func")) ∷ type_use_items index

@@ -119,14 +119,23 @@ fn check_copy(rt: &(impl Abort + AllocGlobal), body: &Body, kept: &[u8]) -> Resu
     check_kept(rt, &copy, kept)
 }
 
+/// The letters are pushed up to the one that is refused as told, and a copy of the body has the kept ones.
+fn check_built(
+    rt: &(impl Abort + AllocGlobal),
+    letters: &[u8],
+    refused: Option<BuildFault>,
+    kept: &[u8],
+) -> Result<(), Fail> {
+    let mut builder = BodyBuilder::new(rt.alloc());
+    assert_eq!(rt; pushed(&mut builder, letters), (letters.len(), refused));
+    let body = ended(builder)?;
+    check_copy(rt, &body, kept)
+}
+
 #[test]
 fn entries_are_kept_or_refused(rt: HostRuntime) -> Result<(), Fail> {
-    for &(letters_pushed, refused, kept) in &BUILT {
-        let mut builder = BodyBuilder::new(rt.alloc());
-        let outcome = pushed(&mut builder, letters_pushed);
-        assert_eq!(rt; outcome, (letters_pushed.len(), refused));
-        let body = ended(builder)?;
-        check_copy(&rt, &body, kept)?;
+    for &(letters, refused, kept) in &BUILT {
+        check_built(&rt, letters, refused, kept)?;
     }
     Ok(())
 }
@@ -147,11 +156,16 @@ fn built_with_room(rt: &(impl Abort + AllocGlobal), room: usize) -> Result<Body,
     Ok(builder.finish()?)
 }
 
+/// The body has the entries that were pushed, with room for so many bytes.
+fn check_room(rt: &(impl Abort + AllocGlobal), room: usize) -> Result<(), Fail> {
+    let body = built_with_room(rt, room)?;
+    check_kept(rt, &body, b"ipep.")
+}
+
 #[test]
 fn room_changes_no_entry(rt: HostRuntime) -> Result<(), Fail> {
     for &room in &ROOMS {
-        let body = built_with_room(&rt, room)?;
-        check_kept(&rt, &body, b"ipep.")?;
+        check_room(&rt, room)?;
     }
     Ok(())
 }
@@ -175,12 +189,22 @@ fn deepest(rt: &(impl Abort + AllocGlobal)) -> Result<Body, Fail> {
     ended(builder)
 }
 
+/// The deepest body has so many entries, of so many bytes.
+fn check_deepest(rt: &(impl Abort + AllocGlobal), body: &Body) -> Result<(), Fail> {
+    assert_eq!(rt; letters(rt.alloc(), body)?.len(), 40_001);
+    assert_eq!(rt; body.bytes().len(), 60_001);
+    Ok(())
+}
+
+/// And so has its copy.
+fn check_copy_of_deepest(rt: &(impl Abort + AllocGlobal), body: &Body) -> Result<(), Fail> {
+    let copy = body.try_clone()?;
+    check_deepest(rt, &copy)
+}
+
 #[test]
 fn the_deepest_body(rt: HostRuntime) -> Result<(), Fail> {
     assert_eq!(rt; NESTING_LIMIT, 20_000);
     let body = deepest(&rt)?;
-    let copy = body.try_clone()?;
-    assert_eq!(rt; letters(rt.alloc(), &copy)?.len(), 40_001);
-    assert_eq!(rt; copy.bytes().len(), 60_001);
-    Ok(())
+    check_copy_of_deepest(&rt, &body)
 }

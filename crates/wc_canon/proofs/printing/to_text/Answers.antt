@@ -1,4 +1,4 @@
-use Rattle.std.proofs.Common.{ap, ◌∙◌}
+use Rattle.std.proofs.Common.{ap, refl, inl, ◌∙◌}
 use Rattle.wc_ast.specs.declared.module.Module.{Module}
 use Rattle.wc_print.specs.Layout.{layout}
 use Rattle.wc_print.specs.Printed.{text}
@@ -29,3 +29,10 @@ returns-clause-only_fault c = λ g p. meant-or-fault _ _ g c.in_ok-module.ensure
 pub returns-clause-again : goal.returns-clause-again
 returns-clause-again c =
     let e = c.in_ok-text_of.ensures in again _ _ _ c.in_ok-module.ensures.ok e.layout e.back
+
+pub returns-in_err-text_of-clause-only : goal.returns-in_err-text_of-clause-only
+returns-in_err-text_of-clause-only c = λ m p. match-error _ _ _ _ c.from_residual-in_err-text_of.ensures.1 refl
+
+pub returns-in_err-text_of-clause-only_fault : goal.returns-in_err-text_of-clause-only_fault
+returns-in_err-text_of-clause-only_fault c = λ g p.
+    match-error _ _ _ _ c.from_residual-in_err-text_of.ensures.1 (inl refl)

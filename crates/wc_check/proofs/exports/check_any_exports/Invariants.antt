@@ -1,4 +1,4 @@
-use Rattle.std.proofs.Common.{◌≡◌, ℕ, List, drop, take}
+use Rattle.std.proofs.Common.{◌≡◌, ◌++◌, ℕ, List, length}
 use Rattle.wc_check.specs.Standard.Rules.{each}
 use Rattle.wc_check.specs.Judging.Verdicts.{verdict}
 use Rattle.wc_check.specs.Judging.Names.{has_text}
@@ -6,10 +6,12 @@ use Rattle.wc_check.specs.Standard.ExportRules.{has_name}
 use Rattle.wc_check.specs.Standard.Broken.{broken_export}
 use Rattle.wc_check.proofs.exports.check_any_exports.Given as goal
 
-abbrev pub invariant-loop-place : goal.invariant-loop-place
-invariant-loop-place l = record {
-  names : (q : List ℕ) → has_text l.names q ≡ has_name q (take l.place l.«module».exports);
+abbrev pub invariant-loop-export : goal.invariant-loop-export
+invariant-loop-export l = record {
+  left : l.yielded ++ l.export-iterator ≡ l.«module».exports;
+  place : l.place ≡ length l.yielded;
+  names : (q : List ℕ) → has_text l.names q ≡ has_name q l.yielded;
   rest :
-      verdict (each (broken_export l.«module») l.place (drop l.place l.«module».exports))
+      verdict (each (broken_export l.«module») l.place l.export-iterator)
       ≡ verdict (each (broken_export l.«module») 0 l.«module».exports);
 }

@@ -1,10 +1,14 @@
-use Rattle.std.proofs.Common.{◌≡◌, drop}
+use Rattle.std.proofs.Common.{◌≡◌, ◌++◌, length}
 use Rattle.wc_check.specs.Standard.Rules.{each}
 use Rattle.wc_check.specs.Judging.Verdicts.{verdict}
 use Rattle.wc_check.specs.Standard.Broken.{broken_export}
 use Rattle.wc_check.proofs.exports.check_distinct_exports.Given as goal
 
-abbrev pub invariant-loop-place : goal.invariant-loop-place
-invariant-loop-place l =
-    verdict (each (broken_export l.«module») l.place (drop l.place l.«module».exports))
-    ≡ verdict (each (broken_export l.«module») 0 l.«module».exports)
+abbrev pub invariant-loop-export : goal.invariant-loop-export
+invariant-loop-export l = record {
+  left : l.yielded ++ l.export-iterator ≡ l.«module».exports;
+  place : l.place ≡ length l.yielded;
+  rest :
+      verdict (each (broken_export l.«module») l.place l.export-iterator)
+      ≡ verdict (each (broken_export l.«module») 0 l.«module».exports);
+}

@@ -21,4 +21,4 @@ returns-then-index-start c =
     = rw (c.requires, c.len.ensures) (func_start m) in
     let lt : c.args.index < length imported = rw start at c.if-index-start.true in
     c.type_of_import.ensures
-    ∙ rw c.as_slice.ensures (sym (slice_get-front imported (map (λ f. f.ty) m.funcs) c.args.index lt))
+    ∙ sym (slice_get-front imported (map (λ f. f.ty) m.funcs) c.args.index lt)

@@ -7,7 +7,7 @@ abbrev pub invariant-loop-entry : goal.invariant-loop-entry
 invariant-loop-entry l = record {
   room : l.at + 48 ≤ 512;
   page : length l.page ≡ 512;
-  puts : LeavesLines l.entries (flatten l.body) (l.out.items ++ take l.at l.page) l.fn.out.items;
+  puts : LeavesLines l.entries (flatten l.body) (l.out.items ++ take l.at l.page) (l.fn.out.items ++ take l.fn.from l.fn.page);
 }
 
 abbrev pub decreases-loop-entry : goal.decreases-loop-entry

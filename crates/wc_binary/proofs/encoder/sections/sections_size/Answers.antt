@@ -11,7 +11,7 @@ returns-in_err-types c =
 
 pub returns-in_err-imports : goal.returns-in_err-imports
 returns-in_err-imports c =
-    let none = rw c.as_slice-2.ensures at (c.in_err-imports.ensures 0) in rw c.from_residual-in_err-imports.ensures (λ f. none f.1.0)
+    let none = c.in_err-imports.ensures 0 in rw c.from_residual-in_err-imports.ensures (λ f. none f.1.0)
 
 pub returns-in_err-funcs : goal.returns-in_err-funcs
 returns-in_err-funcs c =
@@ -19,19 +19,19 @@ returns-in_err-funcs c =
 
 pub returns-in_err-tables : goal.returns-in_err-tables
 returns-in_err-tables c =
-    let none = rw c.as_slice-3.ensures at (c.in_err-tables.ensures 0) in rw c.from_residual-in_err-tables.ensures (λ f. none f.1.1.1.0)
+    let none = rw c.as_slice-2.ensures at (c.in_err-tables.ensures 0) in rw c.from_residual-in_err-tables.ensures (λ f. none f.1.1.1.0)
 
 pub returns-in_err-mems : goal.returns-in_err-mems
 returns-in_err-mems c =
-    let none = rw c.as_slice-4.ensures at (c.in_err-mems.ensures 0) in rw c.from_residual-in_err-mems.ensures (λ f. none f.1.1.1.1.0)
+    let none = rw c.as_slice-3.ensures at (c.in_err-mems.ensures 0) in rw c.from_residual-in_err-mems.ensures (λ f. none f.1.1.1.1.0)
 
 pub returns-in_err-globals : goal.returns-in_err-globals
 returns-in_err-globals c =
-    let none = rw c.as_slice-5.ensures at (c.in_err-globals.ensures 0) in rw c.from_residual-in_err-globals.ensures (λ f. none f.1.1.1.1.1.0)
+    let none = rw c.as_slice-4.ensures at (c.in_err-globals.ensures 0) in rw c.from_residual-in_err-globals.ensures (λ f. none f.1.1.1.1.1.0)
 
 pub returns-in_err-exports : goal.returns-in_err-exports
 returns-in_err-exports c =
-    let none = rw c.as_slice-6.ensures at (c.in_err-exports.ensures 0) in rw c.from_residual-in_err-exports.ensures (λ f. none f.1.1.1.1.1.1.0)
+    let none = c.in_err-exports.ensures 0 in rw c.from_residual-in_err-exports.ensures (λ f. none f.1.1.1.1.1.1.0)
 
 pub returns-in_err-start : goal.returns-in_err-start
 returns-in_err-start c =
@@ -39,7 +39,7 @@ returns-in_err-start c =
 
 pub returns-in_err-elems : goal.returns-in_err-elems
 returns-in_err-elems c =
-    let none = rw c.as_slice-7.ensures at (c.in_err-elems.ensures 0) in rw c.from_residual-in_err-elems.ensures (λ f. none f.1.1.1.1.1.1.1.1.0)
+    let none = rw c.as_slice-5.ensures at (c.in_err-elems.ensures 0) in rw c.from_residual-in_err-elems.ensures (λ f. none f.1.1.1.1.1.1.1.1.0)
 
 pub returns-in_err-codes : goal.returns-in_err-codes
 returns-in_err-codes c =
@@ -47,7 +47,7 @@ returns-in_err-codes c =
 
 pub returns-in_err-datas : goal.returns-in_err-datas
 returns-in_err-datas c =
-    let none = rw c.as_slice-8.ensures at (c.in_err-datas.ensures 0) in rw c.from_residual-in_err-datas.ensures (λ f. none f.1.1.1.1.1.1.1.1.1.1.0)
+    let none = rw c.as_slice-6.ensures at (c.in_err-datas.ensures 0) in rw c.from_residual-in_err-datas.ensures (λ f. none f.1.1.1.1.1.1.1.1.1.1.0)
 
 pub overflow_add-declared : goal.overflow_add-declared
 overflow_add-declared c = omega (arith, c.in_ok-types.ensures 0, c.in_ok-imports.ensures 0)
@@ -83,16 +83,16 @@ pub returns : goal.returns
 returns c =
     let p = parts_of c.args.m.now in
     let h1 = rw c.as_slice.ensures at (c.in_ok-types.ensures (section_id kinds.Type)) in
-    let h2 = rw c.as_slice-2.ensures at (c.in_ok-imports.ensures (section_id kinds.Import)) in
+    let h2 = c.in_ok-imports.ensures (section_id kinds.Import) in
     let h3 = rw c.types.ensures at (c.in_ok-funcs.ensures (section_id kinds.Function)) in
-    let h4 = rw c.as_slice-3.ensures at (c.in_ok-tables.ensures (section_id kinds.Table)) in
-    let h5 = rw c.as_slice-4.ensures at (c.in_ok-mems.ensures (section_id kinds.Memory)) in
-    let h6 = rw c.as_slice-5.ensures at (c.in_ok-globals.ensures (section_id kinds.Global)) in
-    let h7 = rw c.as_slice-6.ensures at (c.in_ok-exports.ensures (section_id kinds.Export)) in
+    let h4 = rw c.as_slice-2.ensures at (c.in_ok-tables.ensures (section_id kinds.Table)) in
+    let h5 = rw c.as_slice-3.ensures at (c.in_ok-mems.ensures (section_id kinds.Memory)) in
+    let h6 = rw c.as_slice-4.ensures at (c.in_ok-globals.ensures (section_id kinds.Global)) in
+    let h7 = c.in_ok-exports.ensures (section_id kinds.Export) in
     let h8 = c.in_ok-start.ensures (section_id kinds.Start) in
-    let h9 = rw c.as_slice-7.ensures at (c.in_ok-elems.ensures (section_id kinds.Element)) in
+    let h9 = rw c.as_slice-5.ensures at (c.in_ok-elems.ensures (section_id kinds.Element)) in
     let h10 = rw c.codes.ensures at (c.in_ok-codes.ensures (section_id kinds.Code)) in
-    let h11 = rw c.as_slice-8.ensures at (c.in_ok-datas.ensures (section_id kinds.Data)) in
+    let h11 = rw c.as_slice-6.ensures at (c.in_ok-datas.ensures (section_id kinds.Data)) in
     let all =
     held-counted p kinds.Type 10 (drop 1 in_order) c.in_ok-types.types _ h1 (
     held-counted p kinds.Import 9 (drop 2 in_order) c.in_ok-imports.imports _ h2 (

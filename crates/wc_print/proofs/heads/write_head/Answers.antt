@@ -1,0 +1,15 @@
+use Rattle.std.proofs.Common.{[], ◌∷◌, codes, refl, arith}
+use Rattle.wc_tokens.specs.Standard.Lexemes.{is_idchar}
+use Rattle.wc_print.specs.Printed.{opening, closing, word, next, after, below}
+use Rattle.wc_print.proofs.Putting.{chain, literal, text}
+use Rattle.wc_print.proofs.Paging.{one-written}
+use Rattle.wc_print.proofs.heads.write_head.Goals as goal
+
+pub returns-clause-put : goal.returns-clause-put
+unfolding is_idchar
+returns-clause-put c =
+    chain
+    (text (below 2 opening ∷ next (word (codes "func")) ∷ after opening ∷ next (word (codes "type")) ∷ [])
+    (tt, (refl, (tt, (refl, tt)))) refl c.write_row-begin.ensures.bytes)
+    (chain c.write_index-end.ensures.put
+    (literal (next closing ∷ []) (tt, tt) (one-written _ _ 41 (omega arith))))
