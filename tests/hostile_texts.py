@@ -73,7 +73,7 @@ DEEPEST = 20_000
 SEGMENT = b"(data (i32.const 0))"
 TABLE = b"(table 1 funcref)"
 
-# Fall short today, since all tokens of a text, 40 bytes each, stand beside all of its fields, 312 bytes each.
+# Fall short, since all fields of a text stand beside one another, 312 bytes each.
 KNOWN = {
     "1,600,000 functions",
     "1,000,000 functions",
