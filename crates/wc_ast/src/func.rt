@@ -5,7 +5,7 @@ ghost use Rattle.std.specs.Prelude.{◌≡◌, IfOk};
 use crate::limits::GlobalType;
 use crate::locals::Locals;
 use std::alloc::AllocError;
-use wc_body::{Body, TryClone};
+use wc_body::{Body, Constant, TryClone};
 
 /// A function (Core 1.0, 2.5.3).
 #[derive(Debug, Drop)]
@@ -32,7 +32,7 @@ impl TryClone for Func {
 pub struct Global {
     pub ty: GlobalType,
     /// Its first value.
-    pub init: Body,
+    pub init: Constant,
 }
 
 impl TryClone for Global {

@@ -1,13 +1,13 @@
 //! Names of imports and exports.
 
-ghost use Rattle.std.specs.Prelude.{◌≡◌, ◌≤◌, ◌↔◌, ℕ, length, IfOk, IsSome, IfSome};
+ghost use Rattle.std.specs.Prelude.{◌≡◌, ◌≤◌, ◌↔◌, ℕ, length, IsSome, IfSome};
 ghost use Rattle.std.specs.Prelude.{List as Seq};
 ghost use Rattle.std.specs.Str.{IsUtf8};
 ghost use Rattle.std.specs.String.{string_bytes};
 ghost use Rattle.wc_ast.specs.Kept.Name.{kept_bytes, short_name};
 
 use arrayvec::ArrayString;
-use std::alloc::{AllocError, Global};
+use std::alloc::AllocError;
 use std::marker::Model;
 use wc_body::TryClone;
 
@@ -51,16 +51,6 @@ impl Name {
         Some(Name {
             text: Text::Short(text),
         })
-    }
-
-    /// The name that is this text. The error is want of memory.
-    pub fn of(alloc: Global, text: &str) -> Result<Name, AllocError>
-        ensures { IfOk result (λ name. name ≡ text.now) }
-    {
-        match Name::short(text) {
-            Some(name) => Ok(name),
-            None => Ok(Name::from_string(String::from_str(alloc, text)?)),
-        }
     }
 
     /// The name that is this text, which keeps its memory.

@@ -4,7 +4,7 @@ ghost use Rattle.std.specs.Prelude.{◌≡◌, IfOk};
 
 use crate::list::List;
 use std::alloc::AllocError;
-use wc_body::{Body, TryClone};
+use wc_body::{Constant, TryClone};
 
 /// An element segment (Core 1.0, 2.5.7).
 #[derive(Debug, Drop)]
@@ -12,7 +12,7 @@ pub struct Elem {
     /// The index of the table.
     pub table: u32,
     /// Where the segment begins, in elements.
-    pub offset: Body,
+    pub offset: Constant,
     /// Indices of functions.
     pub funcs: List<u32>,
 }
@@ -33,7 +33,7 @@ pub struct Data {
     /// The index of the memory.
     pub memory: u32,
     /// Where the segment begins, in bytes.
-    pub offset: Body,
+    pub offset: Constant,
     pub bytes: List<u8>,
 }
 

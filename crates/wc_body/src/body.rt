@@ -1,8 +1,9 @@
-//! Bodies of functions and constant expressions.
+//! Bodies of functions.
 
 ghost use Rattle.std.specs.Prelude.{◌≡◌, IfOk};
 
 use crate::body_ref::BodyRef;
+use crate::constant::Constant;
 use crate::entries::Entries;
 use crate::needs::Needs;
 use crate::try_clone::TryClone;
@@ -95,6 +96,14 @@ impl Body {
             bytes: trimmed(self.bytes),
             needs: self.needs,
         }
+    }
+
+    /// The same instructions, without what they need of what is around them, and without room for more.
+    pub fn into_constant(self) -> Constant
+        ensures { result ≡ self }
+    {
+        let Body { bytes, needs: _ } = self;
+        Constant::from_bytes(trimmed(bytes))
     }
 
     /// The memory that the instructions stand in.

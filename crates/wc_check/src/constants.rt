@@ -4,10 +4,10 @@ ghost use Rattle.std.specs.Prelude.{◌≡◌};
 ghost use Rattle.wc_check.specs.Standard.ConstantRules.{constant_value, read_value, constant_type, is_type};
 ghost use Rattle.wc_check.specs.Standard.ConstantRules.{is_constant};
 
-use wc_ast::{Body, Entry, GlobalType, IndexOp, Instr, ValType};
+use wc_ast::{Constant, Entry, GlobalType, IndexOp, Instr, ValType};
 
 /// Whether the expression is one constant instruction of this type, which may read these globals (Core 1.0, 3.3.7).
-pub(crate) fn has_constant(readable: &[GlobalType], wanted: ValType, expression: &Body) -> bool
+pub(crate) fn has_constant(readable: &[GlobalType], wanted: ValType, expression: &Constant) -> bool
     ensures { result ≡ is_constant readable.now wanted expression.now }
 {
     let mut entries = expression.entries();

@@ -8,7 +8,7 @@ ghost use Rattle.wc_funcs.specs.Standard.Constants.{constant_of, constant_faults
 
 use crate::uses::type_indices;
 use std::alloc::{AllocError, Global};
-use wc_ast::Body;
+use wc_ast::Constant;
 use wc_declared::Declared;
 use wc_spaces::{Noted, Space};
 use wc_surface::TextBody;
@@ -21,7 +21,7 @@ pub fn resolve_constant<'a>(
     declared: &Declared<'a>,
     body: &TextBody<'a>,
     noted: &mut Noted<NameWhy>,
-) -> Result<Body, AllocError>
+) -> Result<Constant, AllocError>
     ensures constant { (fs : List FieldValue) → IsDeclared fs declared.now
         → IfOk result (λ code. code ≡ constant_of fs body.now) }
     ensures noted { (fs : List FieldValue) → IsDeclared fs declared.now
@@ -35,5 +35,6 @@ pub fn resolve_constant<'a>(
         locals: &locals,
         uses: uses.as_slice(),
     };
-    resolve_body(alloc, &around, body, noted)
+    let resolved = resolve_body(alloc, &around, body, noted)?;
+    Ok(resolved.into_constant())
 }

@@ -4,10 +4,10 @@ ghost use Rattle.std.specs.Prelude.{◌≡◌, IfOk};
 ghost use Rattle.wc_names.specs.Standard.Segments.{zero_offset as zero};
 
 use std::alloc::{AllocError, Global};
-use wc_body::{Body, BodyBuilder, BuildFault, Entry, Instr};
+use wc_body::{BodyBuilder, BuildFault, Constant, Entry, Instr};
 
 /// `i32.const 0`. The error is want of memory.
-pub(crate) fn zero_offset(alloc: Global) -> Result<Body, AllocError>
+pub(crate) fn zero_offset(alloc: Global) -> Result<Constant, AllocError>
     ensures { IfOk result (λ offset. offset ≡ zero) }
 {
     let mut builder = BodyBuilder::new(alloc);
@@ -17,7 +17,7 @@ pub(crate) fn zero_offset(alloc: Global) -> Result<Body, AllocError>
         Err(_) => unreachable!(),
     }
     match builder.finish() {
-        Ok(offset) => Ok(offset),
+        Ok(offset) => Ok(offset.into_constant()),
         Err(_) => unreachable!(),
     }
 }

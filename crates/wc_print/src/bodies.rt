@@ -14,7 +14,7 @@ use crate::lines::{Row, head_line, index_line, memory_line, simple_line};
 use crate::numbers::{put_integer, put_natural, put_number};
 use crate::types::{put_result, put_type_use};
 use std::alloc::AllocError;
-use wc_ast::{BlockType, Body, Entry, Instr, Kind, Labels, MemArg, MemOp};
+use wc_ast::{BlockType, Constant, Entry, Instr, Kind, Labels, MemArg, MemOp};
 
 /// Where an instruction stands.
 #[derive(Clone, Copy)]
@@ -164,11 +164,10 @@ pub fn put_entry(out: &mut Vec<u8>, place: Place, entry: Entry<'_>) -> Result<()
 }
 
 /// The instructions of a constant expression, on the line.
-pub fn put_inline(out: &mut Vec<u8>, body: &Body) -> Result<(), AllocError>
-    ensures { OnOk result (Put (expr_items body.now) out.old.items out.new.items) }
+pub fn put_inline(out: &mut Vec<u8>, constant: &Constant) -> Result<(), AllocError>
+    ensures { OnOk result (Put (expr_items constant.now) out.old.items out.new.items) }
 {
-    let body = body.as_ref();
-    let mut entries = body.entries();
+    let mut entries = constant.entries();
     while let Some(entry) = entries.next() {
         put_entry(out, Place::Inline, entry)?;
     }

@@ -11,7 +11,7 @@ use crate::field::Field;
 use crate::numbers::put_number;
 use crate::strings::put_string;
 use std::alloc::AllocError;
-use wc_ast::{Body, Data, Elem};
+use wc_ast::{Constant, Data, Elem};
 
 /// The start function, if there is one.
 pub fn put_start(out: &mut Vec<u8>, start: Option<u32>) -> Result<(), AllocError>
@@ -26,7 +26,7 @@ pub fn put_start(out: &mut Vec<u8>, start: Option<u32>) -> Result<(), AllocError
 }
 
 /// Where a segment begins.
-fn put_place(out: &mut Vec<u8>, offset: &Body) -> Result<(), AllocError>
+fn put_place(out: &mut Vec<u8>, offset: &Constant) -> Result<(), AllocError>
     ensures { OnOk result (Put (place_items offset.now) out.old.items out.new.items) }
 {
     out.extend_from_slice(b" (offset")?;

@@ -9,7 +9,7 @@ use crate::decoder::vector::byte_vector;
 use crate::fault::BinFault;
 use crate::source::Source;
 use std::alloc;
-use wc_ast::{Body, Data, Elem, Global, List};
+use wc_ast::{Constant, Data, Elem, Global, List};
 
 impl FromSource for Global {
     ghost phrase = { global_phrase };
@@ -17,7 +17,7 @@ impl FromSource for Global {
     #[tactic(auto, unfolding(crate::specs::Standard::Contents::global))]
     fn read<S: Source>(alloc: alloc::Global, source: &mut S) -> Result<Global, BinFault> {
         let ty = global_type(alloc, source)?;
-        let init = Body::read(alloc, source)?;
+        let init = Constant::read(alloc, source)?;
         Ok(Global { ty, init })
     }
 }
@@ -28,7 +28,7 @@ impl FromSource for Elem {
     #[tactic(auto, unfolding(crate::specs::Standard::Contents::elem_segment))]
     fn read<S: Source>(alloc: alloc::Global, source: &mut S) -> Result<Elem, BinFault> {
         let table = u32(source)?;
-        let offset = Body::read(alloc, source)?;
+        let offset = Constant::read(alloc, source)?;
         let funcs = List::read(alloc, source)?;
         Ok(Elem {
             table,
@@ -44,7 +44,7 @@ impl FromSource for Data {
     #[tactic(auto, unfolding(crate::specs::Standard::Contents::data_segment))]
     fn read<S: Source>(alloc: alloc::Global, source: &mut S) -> Result<Data, BinFault> {
         let memory = u32(source)?;
-        let offset = Body::read(alloc, source)?;
+        let offset = Constant::read(alloc, source)?;
         let bytes = byte_vector(alloc, source)?;
         Ok(Data {
             memory,

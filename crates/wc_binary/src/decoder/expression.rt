@@ -22,7 +22,7 @@ use crate::fault::{BinFault, BinWhy, bad};
 use crate::source::{BUFFER_SIZE, Source};
 use std::alloc::Global;
 use wc_ast::{
-    Body, BodyBuilder, BuildFault, Entry, IndexOp, Kind, List, NESTING_LIMIT, Op, OpByte,
+    Body, BodyBuilder, BuildFault, Constant, Entry, IndexOp, Kind, List, NESTING_LIMIT, Op, OpByte,
 };
 
 /// What begins a block, a loop or an if, whose opcode stands at this place and was read.
@@ -209,11 +209,12 @@ pub fn body_from<S: Source>(
     }
 }
 
-impl FromSource for Body {
+impl FromSource for Constant {
     ghost phrase = { expr };
 
     /// The instructions up to the end at which none is open.
-    fn read<S: Source>(alloc: Global, source: &mut S) -> Result<Body, BinFault> {
-        body_from(alloc, BodyBuilder::new(alloc), source)
+    fn read<S: Source>(alloc: Global, source: &mut S) -> Result<Constant, BinFault> {
+        let body = body_from(alloc, BodyBuilder::new(alloc), source)?;
+        Ok(body.into_constant())
     }
 }

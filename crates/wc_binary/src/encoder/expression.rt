@@ -4,7 +4,7 @@ ghost use Rattle.wc_body.specs.Standard.InstructionBytes.{expr_bytes, FitsExpr};
 
 use crate::encoder::measured::Measured;
 use crate::fault::EncFault;
-use wc_ast::{Body, BodyRef};
+use wc_ast::{BodyRef, Constant};
 
 impl<'a> Measured for BodyRef<'a> {
     ghost bytes = { expr_bytes };
@@ -24,16 +24,18 @@ impl<'a> Measured for BodyRef<'a> {
     }
 }
 
-impl Measured for Body {
+impl Measured for Constant {
     ghost bytes = { expr_bytes };
 
     ghost Fits = { FitsExpr };
 
     fn size(&self) -> Option<usize> {
-        self.as_ref().size()
+        Some(self.bytes().len() + 1)
     }
 
     fn write(&self, out: &mut Vec<u8>) -> Result<(), EncFault> {
-        self.as_ref().write(out)
+        out.extend_from_slice(self.bytes())?;
+        out.push(0x0b)?;
+        Ok(())
     }
 }
