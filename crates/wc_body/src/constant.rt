@@ -8,7 +8,7 @@ use crate::try_clone::TryClone;
 use std::alloc::AllocError;
 use std::marker::Model;
 
-/// An expression that gives a first value or an offset (Core 1.0, 2.5.5 and 3.3.7). A contract sees the instructions,
+/// An expression that gives a first value or an offset (Core 1.0, 2.4.6 and 3.3.7). A contract sees the instructions,
 /// as those of a body. What they need of what is around them isn't kept: that is told by looking at them.
 #[derive(Debug, Drop)]
 pub struct Constant {
