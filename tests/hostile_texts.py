@@ -73,19 +73,6 @@ DEEPEST = 20_000
 SEGMENT = b"(data (i32.const 0))"
 TABLE = b"(table 1 funcref)"
 
-# Fall short, since all fields of a text stand beside one another, 312 bytes each.
-KNOWN = {
-    "1,600,000 functions",
-    "1,000,000 functions",
-    "1,000,000 functions, and one parenthesis",
-    "1,000,000 functions, and an unknown name",
-    "700,000 types",
-    "450,000 data segments",
-    "450,000 element segments",
-    "one identifier twice, at the end",
-    "folded blocks 20,000 deep",
-}
-
 SHAPES = [
     ("1,600,000 functions", 0, lambda: FUNC * 1_600_000),
     ("1,000,000 functions", 0, lambda: FUNC * 1_000_000),

@@ -6,7 +6,7 @@ use std::alloc::Global;
 use std::time::Instant;
 use wc_ast::Module;
 use wc_names::resolve;
-use wc_surface::{Field, FuncDesc, Surface};
+use wc_surface::{Field, FuncSeen, Surface};
 use wc_text::parse;
 use wc_tokens::{Tokens, lex};
 
@@ -37,9 +37,9 @@ fn module_of(alloc: Global, surface: &Surface<'_>) -> Result<Module> {
 /// How many entries the body of a function has, which is none for other fields.
 fn entries_in(field: &Field<'_>) -> usize {
     match field {
-        Field::Func(func) => match &func.desc {
-            FuncDesc::Code { body, .. } => body.code.entries().len(),
-            FuncDesc::Import(_) => 0,
+        Field::Func(func) => match func.desc() {
+            FuncSeen::Code { body, .. } => body.code().entries().len(),
+            FuncSeen::Import(_) => 0,
         },
         _ => 0,
     }

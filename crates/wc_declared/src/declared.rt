@@ -13,11 +13,12 @@ use crate::keyed::type_of_key;
 use crate::kind::SpaceKind;
 use crate::listing::final_types;
 use crate::order::{note_late, note_second};
+use crate::room::room_for;
 use crate::spaces::space;
 use std::alloc::{AllocError, Global};
 use wc_ast::{FuncType, List};
 use wc_spaces::{Noted, Space, Types};
-use wc_surface::{Field, Surface, TypeUse};
+use wc_surface::{Field, Surface, UseRef};
 use wc_targets::NameWhy;
 
 /// The index spaces of a text (Core 1.0, 6.6.1).
@@ -49,7 +50,7 @@ impl<'a> Declared<'a> {
     ghost use Rattle.wc_declared.specs.Kept.Declaring.{IsDeclared};
 
     /// The index of the type that a use is of (Core 1.0, 6.6.3). It takes no memory.
-    pub fn type_index(&self, used: &TypeUse<'_>) -> u32
+    pub fn type_index(&self, used: &UseRef<'_>) -> u32
         ensures { (fs : ListOf FieldValue) → IsDeclared fs self.now → result
             ≡ use_index (texts (all_declared kind.Type fs)) (map key_of (types_of fs)) used.now }
     {
@@ -70,18 +71,19 @@ impl<'a> Declared<'a> {
 
 fn all_spaces<'a>(
     alloc: Global,
-    fields: &'a [Field<'a>],
+    fields: &'a [Field<'_>],
     noted: &mut Noted<NameWhy>,
 ) -> Result<Spaces<'a>, AllocError>
     requires { length fields.now < 2 ^ 32 }
     ensures spaces { IfOk result (AreSpaces fields.now) }
     ensures noted { OnOk result (noted.new.first ≡ least_from noted.old.first (space_faults fields.now)) }
 {
-    let types = space(alloc, SpaceKind::Type, fields, noted)?;
-    let funcs = space(alloc, SpaceKind::Func, fields, noted)?;
-    let tables = space(alloc, SpaceKind::Table, fields, noted)?;
-    let memories = space(alloc, SpaceKind::Memory, fields, noted)?;
-    let globals = space(alloc, SpaceKind::Global, fields, noted)?;
+    let room = room_for(fields);
+    let types = space(alloc, SpaceKind::Type, room.types, fields, noted)?;
+    let funcs = space(alloc, SpaceKind::Func, room.funcs, fields, noted)?;
+    let tables = space(alloc, SpaceKind::Table, room.tables, fields, noted)?;
+    let memories = space(alloc, SpaceKind::Memory, room.memories, fields, noted)?;
+    let globals = space(alloc, SpaceKind::Global, room.globals, fields, noted)?;
     Ok(Spaces {
         types,
         funcs,
@@ -94,7 +96,7 @@ fn all_spaces<'a>(
 /// The index spaces. What is wrong with declarations is noted.
 fn judged_spaces<'a>(
     alloc: Global,
-    fields: &'a [Field<'a>],
+    fields: &'a [Field<'_>],
     noted: &mut Noted<NameWhy>,
 ) -> Result<Spaces<'a>, AllocError>
     requires { length fields.now < 2 ^ 32 }
@@ -124,7 +126,7 @@ fn answer(noted: &Noted<NameWhy>) -> Result<(), NameFault>
 
 /// What a text declares: of each index space its list, and the list of types. Identifiers are judged first, and then
 /// type uses. The error is the first fault, or want of memory.
-pub fn declare<'a>(alloc: Global, surface: &'a Surface<'a>) -> Result<Declared<'a>, NameFault>
+pub fn declare<'a>(alloc: Global, surface: &'a Surface<'_>) -> Result<Declared<'a>, NameFault>
     ensures declared { IfOk result (IsDeclared surface.now) }
     ensures sound { IfOk result (λ _. first_fault surface.now ≡ None) }
     ensures fault { IfErr result (IsFault surface.now) }

@@ -142,7 +142,7 @@ fn note_beyond(groups: &[LocalGroup<'_>], noted: &mut Noted<NameWhy>)
 /// Notes what is wrong inside a field.
 fn note_field<'a>(
     alloc: Global,
-    field: &'a Field<'a>,
+    field: &'a Field<'_>,
     noted: &mut Noted<NameWhy>,
 ) -> Result<(), AllocError>
     ensures { OnOk result (noted.new.first ≡ least_from noted.old.first (inner_faults field.now)) }
@@ -158,7 +158,7 @@ fn note_field<'a>(
 /// Notes what is wrong inside fields.
 pub(crate) fn note_inner<'a>(
     alloc: Global,
-    fields: &'a [Field<'a>],
+    fields: &'a [Field<'_>],
     noted: &mut Noted<NameWhy>,
 ) -> Result<(), AllocError>
     ensures { OnOk result (noted.new.first ≡ least_from noted.old.first (flat_map inner_faults fields.now)) }

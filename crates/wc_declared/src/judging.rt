@@ -2,6 +2,7 @@
 
 ghost use Rattle.std.specs.Prelude.{◌≡◌, ◌++◌, ℕ, List, Option, map};
 ghost use Rattle.std.specs.List.{flat_map};
+ghost use Rattle.std.specs.Option.{option_to_list};
 ghost use Rattle.wc_spaces.specs.Standard.Least.{least_from};
 ghost use Rattle.wc_spaces.specs.Standard.Spaces.{place_of};
 ghost use Rattle.wc_spaces.specs.Kept.Spaces.{IsSpace};
@@ -11,11 +12,10 @@ ghost use Rattle.wc_surface.specs.Standard.Keys.{key_of};
 ghost use Rattle.wc_declared.specs.Standard.Types.{uses_of, all_uses};
 ghost use Rattle.wc_declared.specs.Standard.Uses.{type_faults, place_faults, index_faults, param_fault, param_faults};
 ghost use Rattle.wc_declared.specs.Standard.Uses.{use_faults, named_index, use_index};
-ghost use Rattle.wc_declared.specs.Kept.Found.{use_found};
 
 use crate::parts::{own_use, uses_inside};
 use wc_spaces::{Noted, Space, Types};
-use wc_surface::{Field, Id, Index, ParamName, TypeUse, User};
+use wc_surface::{Field, Id, Index, ParamName, TypeUse, UseRef, User};
 use wc_targets::NameWhy;
 
 /// Judges what is written behind the index of this type.
@@ -56,19 +56,19 @@ fn judge_place(
 }
 
 /// Judges the index of a use.
-fn judge_index(types: &Types<'_>, ids: &Space<'_>, used: &TypeUse<'_>, noted: &mut Noted<NameWhy>)
+fn judge_index(types: &Types<'_>, ids: &Space<'_>, used: &UseRef<'_>, noted: &mut Noted<NameWhy>)
     ensures { (ds : List (Option (List ℕ))) (ts : List (List ℕ)) → IsSpace ds ids.now → AreTypes ts types.now
         → noted.new.first ≡ least_from noted.old.first
         (index_faults ds ts used.now.index (key_of used.now.signature)) }
 {
-    match &used.index {
+    match used.index() {
         None => {}
         Some(Index::Number { token, value }) => {
-            judge_type(*token, types.at(*value), used.signature.key(), noted);
+            judge_type(*token, types.at(*value), used.key(), noted);
         }
         Some(Index::Named(id)) => {
             let place = place_of_id(ids, id);
-            judge_place(types, id.token(), place, used.signature.key(), noted);
+            judge_place(types, id.token(), place, used.key(), noted);
         }
     }
 }
@@ -92,42 +92,47 @@ fn judge_params(user: User, names: &[ParamName<'_>], noted: &mut Noted<NameWhy>)
     }
 }
 
-fn judge_use(types: &Types<'_>, ids: &Space<'_>, used: &TypeUse<'_>, noted: &mut Noted<NameWhy>)
+fn judge_use(types: &Types<'_>, ids: &Space<'_>, used: &UseRef<'_>, noted: &mut Noted<NameWhy>)
     ensures { (ds : List (Option (List ℕ))) (ts : List (List ℕ)) → IsSpace ds ids.now → AreTypes ts types.now
         → noted.new.first ≡ least_from noted.old.first (use_faults ds ts used.now) }
 {
     judge_index(types, ids, used, noted);
-    judge_params(used.user, used.names.as_slice(), noted);
+    judge_params(used.user(), used.names(), noted);
 }
 
-fn judge_uses(types: &Types<'_>, ids: &Space<'_>, uses: &[TypeUse<'_>], noted: &mut Noted<NameWhy>)
+fn judge_uses<'a>(
+    types: &Types<'_>,
+    ids: &Space<'_>,
+    uses: &'a [TypeUse<'a>],
+    noted: &mut Noted<NameWhy>,
+)
     ensures { (ds : List (Option (List ℕ))) (ts : List (List ℕ)) → IsSpace ds ids.now → AreTypes ts types.now
         → noted.new.first ≡ least_from noted.old.first (flat_map (use_faults ds ts) uses.now) }
 {
     for used in uses {
-        judge_use(types, ids, used, noted);
+        judge_use(types, ids, &UseRef::of(used), noted);
     }
 }
 
 fn judge_own(
     types: &Types<'_>,
     ids: &Space<'_>,
-    own: Option<&TypeUse<'_>>,
+    own: Option<UseRef<'_>>,
     noted: &mut Noted<NameWhy>,
 )
     ensures { (ds : List (Option (List ℕ))) (ts : List (List ℕ)) → IsSpace ds ids.now → AreTypes ts types.now
-        → noted.new.first ≡ least_from noted.old.first (flat_map (use_faults ds ts) (use_found own.entry)) }
+        → noted.new.first ≡ least_from noted.old.first (flat_map (use_faults ds ts) (option_to_list own.entry)) }
 {
     match own {
         None => {}
-        Some(used) => judge_use(types, ids, used, noted),
+        Some(used) => judge_use(types, ids, &used, noted),
     }
 }
 
 fn judge_field<'a>(
     types: &Types<'a>,
     ids: &Space<'a>,
-    field: &'a Field<'a>,
+    field: &'a Field<'_>,
     noted: &mut Noted<NameWhy>,
 )
     ensures { (ds : List (Option (List ℕ))) (ts : List (List ℕ)) → IsSpace ds ids.now → AreTypes ts types.now
@@ -141,7 +146,7 @@ fn judge_field<'a>(
 pub(crate) fn judge_fields<'a>(
     types: &Types<'a>,
     ids: &Space<'a>,
-    fields: &'a [Field<'a>],
+    fields: &'a [Field<'_>],
     noted: &mut Noted<NameWhy>,
 )
     ensures { (ds : List (Option (List ℕ))) (ts : List (List ℕ)) → IsSpace ds ids.now → AreTypes ts types.now
@@ -162,12 +167,12 @@ fn index_named(ids: &Space<'_>, index: &Index<'_>) -> u32
 }
 
 /// The index of the type that a use is of.
-pub(crate) fn index_of(types: &Types<'_>, ids: &Space<'_>, used: &TypeUse<'_>) -> u32
+pub(crate) fn index_of(types: &Types<'_>, ids: &Space<'_>, used: &UseRef<'_>) -> u32
     ensures { (ds : List (Option (List ℕ))) (ts : List (List ℕ)) → IsSpace ds ids.now → AreTypes ts types.now
         → result ≡ use_index ds ts used.now }
 {
-    match &used.index {
-        None => types.find(used.signature.key()).unwrap_or(0),
+    match used.index() {
+        None => types.find(used.key()).unwrap_or(0),
         Some(index) => index_named(ids, index),
     }
 }

@@ -11,6 +11,7 @@ pub mod law;
 pub mod listing;
 pub mod order;
 pub mod parts;
+pub mod room;
 pub mod spaces;
 
 pub use crate::declared::{Declared, declare};

@@ -1,20 +1,20 @@
 //! The list of types.
 
 ghost use Rattle.std.specs.Prelude.{◌≡◌, ◌<◌, ◌≤◌, ◌+◌, ◌++◌, ◌^◌, List, length, map, sum_by, IfOk, OnOk};
+ghost use Rattle.std.specs.Option.{option_to_list};
 ghost use Rattle.wc_ast.specs.declared.func_type.FuncType.{FuncType};
 ghost use Rattle.wc_spaces.specs.Kept.Types.{AreTypes, count_of};
 ghost use Rattle.wc_surface.specs.Standard.Keys.{key_of};
 ghost use Rattle.wc_surface.specs.Standard.Sizes.{field_size};
 ghost use Rattle.wc_declared.specs.Standard.Types.{written_type, uses_of, with_use, with_uses, types_of};
-ghost use Rattle.wc_declared.specs.Kept.Found.{use_found};
 
 use crate::parts::{own_use, uses_inside};
 use std::alloc::{AllocError, Global};
 use wc_spaces::Types;
-use wc_surface::{Field, TypeUse};
+use wc_surface::{Field, TypeUse, UseRef};
 
 /// Adds the type that a field defines.
-fn add_written<'a>(types: &mut Types<'a>, field: &'a Field<'a>) -> Result<(), AllocError>
+fn add_written<'a>(types: &mut Types<'a>, field: &'a Field<'_>) -> Result<(), AllocError>
     requires { count_of types.old < 2 ^ 32 }
     ensures types { (ts : List FuncType) → AreTypes (map key_of ts) types.old
         → OnOk result (AreTypes (map key_of (ts ++ written_type field.now)) types.new) }
@@ -27,16 +27,16 @@ fn add_written<'a>(types: &mut Types<'a>, field: &'a Field<'a>) -> Result<(), Al
 }
 
 /// Adds the type of a use without an index, unless it is in the list.
-fn add_use<'a>(types: &mut Types<'a>, used: &'a TypeUse<'a>) -> Result<(), AllocError>
+fn add_use<'a>(types: &mut Types<'a>, used: &UseRef<'a>) -> Result<(), AllocError>
     requires { count_of types.old < 2 ^ 32 }
     ensures types { (ts : List FuncType) → AreTypes (map key_of ts) types.old
         → OnOk result (AreTypes (map key_of (with_use ts used.now.index used.now.signature)) types.new) }
     ensures count { OnOk result (count_of types.new ≤ count_of types.old + 1) }
 {
-    match &used.index {
+    match used.index() {
         Some(_) => Ok(()),
         None => {
-            let _ = types.find_or_add(used.signature.key())?;
+            let _ = types.find_or_add(used.key())?;
             Ok(())
         }
     }
@@ -50,26 +50,26 @@ fn add_uses<'a>(types: &mut Types<'a>, uses: &'a [TypeUse<'a>]) -> Result<(), Al
     ensures count { OnOk result (count_of types.new ≤ count_of types.old + length uses.now) }
 {
     for used in uses {
-        add_use(types, used)?;
+        add_use(types, &UseRef::of(used))?;
     }
     Ok(())
 }
 
 /// Adds the type of a use, where there is one.
-fn add_own<'a>(types: &mut Types<'a>, own: Option<&'a TypeUse<'a>>) -> Result<(), AllocError>
+fn add_own<'a>(types: &mut Types<'a>, own: Option<UseRef<'a>>) -> Result<(), AllocError>
     requires { count_of types.old < 2 ^ 32 }
     ensures types { (ts : List FuncType) → AreTypes (map key_of ts) types.old
-        → OnOk result (AreTypes (map key_of (with_uses ts (use_found own.entry))) types.new) }
-    ensures count { OnOk result (count_of types.new ≤ count_of types.old + length (use_found own.entry)) }
+        → OnOk result (AreTypes (map key_of (with_uses ts (option_to_list own.entry))) types.new) }
+    ensures count { OnOk result (count_of types.new ≤ count_of types.old + length (option_to_list own.entry)) }
 {
     match own {
-        Some(used) => add_use(types, used),
+        Some(used) => add_use(types, &used),
         None => Ok(()),
     }
 }
 
 /// Adds the types of a field's uses.
-fn add_inner<'a>(types: &mut Types<'a>, field: &'a Field<'a>) -> Result<(), AllocError>
+fn add_inner<'a>(types: &mut Types<'a>, field: &'a Field<'_>) -> Result<(), AllocError>
     requires { count_of types.old + length (uses_of field.now) < 2 ^ 32 }
     ensures types { (ts : List FuncType) → AreTypes (map key_of ts) types.old
         → OnOk result (AreTypes (map key_of (with_uses ts (uses_of field.now))) types.new) }
@@ -80,7 +80,7 @@ fn add_inner<'a>(types: &mut Types<'a>, field: &'a Field<'a>) -> Result<(), Allo
 }
 
 /// The types that fields define.
-fn written_types<'a>(alloc: Global, fields: &'a [Field<'a>]) -> Result<Types<'a>, AllocError>
+fn written_types<'a>(alloc: Global, fields: &'a [Field<'_>]) -> Result<Types<'a>, AllocError>
     requires { length fields.now < 2 ^ 32 }
     ensures types { IfOk result
         (AreTypes (map key_of (Rattle.wc_declared.specs.Standard.Types.written_types fields.now))) }
@@ -96,7 +96,7 @@ fn written_types<'a>(alloc: Global, fields: &'a [Field<'a>]) -> Result<Types<'a>
 /// All types of a text.
 pub(crate) fn final_types<'a>(
     alloc: Global,
-    fields: &'a [Field<'a>],
+    fields: &'a [Field<'_>],
 ) -> Result<Types<'a>, AllocError>
     requires { sum_by field_size fields.now < 2 ^ 32 }
     ensures { IfOk result (AreTypes (map key_of (types_of fields.now))) }

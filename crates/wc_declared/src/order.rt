@@ -6,7 +6,7 @@ ghost use Rattle.wc_declared.specs.Standard.Order.{func_sort, table_sort, memory
 ghost use Rattle.wc_declared.specs.Standard.Order.{second, second_after, defines, starts};
 
 use wc_spaces::Noted;
-use wc_surface::{Field, FuncDesc, GlobalDesc, MemoryDesc, TableDesc};
+use wc_surface::{Field, FuncSeen, GlobalDesc, KeptFunc, MemoryDesc, TableDesc};
 use wc_targets::NameWhy;
 
 /// What the order of fields asks of a field (Core 1.0, 6.6.13).
@@ -21,12 +21,12 @@ pub enum Sort {
     Other,
 }
 
-fn sort_of_func(desc: &FuncDesc<'_>) -> Sort
-    ensures { result ≡ func_sort desc.now }
+fn sort_of_func<'a>(func: &'a KeptFunc<'_>) -> Sort
+    ensures { result ≡ func_sort func.now.desc }
 {
-    match desc {
-        FuncDesc::Import(names) => Sort::Import(names.token),
-        FuncDesc::Code { .. } => Sort::Definition,
+    match func.desc() {
+        FuncSeen::Import(names) => Sort::Import(names.token),
+        FuncSeen::Code { .. } => Sort::Definition,
     }
 }
 
@@ -34,7 +34,7 @@ fn sort_of_table(desc: &TableDesc<'_>) -> Sort
     ensures { result ≡ table_sort desc.now }
 {
     match desc {
-        TableDesc::Import(names, _) => Sort::Import(names.token),
+        TableDesc::Import(names, _) => Sort::Import(names.get().token),
         TableDesc::Limits(_) | TableDesc::Elems(_) => Sort::Definition,
     }
 }
@@ -43,7 +43,7 @@ fn sort_of_memory(desc: &MemoryDesc) -> Sort
     ensures { result ≡ memory_sort desc.now }
 {
     match desc {
-        MemoryDesc::Import(names, _) => Sort::Import(names.token),
+        MemoryDesc::Import(names, _) => Sort::Import(names.get().token),
         MemoryDesc::Limits(_) | MemoryDesc::Bytes(_) => Sort::Definition,
     }
 }
@@ -52,17 +52,17 @@ fn sort_of_global(desc: &GlobalDesc<'_>) -> Sort
     ensures { result ≡ global_sort desc.now }
 {
     match desc {
-        GlobalDesc::Import(names) => Sort::Import(names.token),
+        GlobalDesc::Import(names) => Sort::Import(names.get().token),
         GlobalDesc::Init(_) => Sort::Definition,
     }
 }
 
-fn sort_of(field: &Field<'_>) -> Sort
+fn sort_of<'a>(field: &'a Field<'_>) -> Sort
     ensures { result ≡ Rattle.wc_declared.specs.Standard.Order.sort_of field.now }
 {
     match field {
-        Field::Import(import) => Sort::Import(import.names.token),
-        Field::Func(func) => sort_of_func(&func.desc),
+        Field::Import(import) => Sort::Import(import.get().names.token),
+        Field::Func(func) => sort_of_func(func),
         Field::Table(table) => sort_of_table(&table.desc),
         Field::Memory(memory) => sort_of_memory(&memory.desc),
         Field::Global(global) => sort_of_global(&global.desc),
@@ -110,7 +110,7 @@ fn is_start(sort: Sort) -> bool
 }
 
 /// Notes each import behind a definition.
-pub(crate) fn note_late(fields: &[Field<'_>], noted: &mut Noted<NameWhy>)
+pub(crate) fn note_late<'a>(fields: &'a [Field<'_>], noted: &mut Noted<NameWhy>)
     ensures { noted.new.first ≡ least_from noted.old.first (late_after false fields.now) }
 {
     let mut seen = false;
@@ -122,7 +122,7 @@ pub(crate) fn note_late(fields: &[Field<'_>], noted: &mut Noted<NameWhy>)
 }
 
 /// Notes each start behind another.
-pub(crate) fn note_second(fields: &[Field<'_>], noted: &mut Noted<NameWhy>)
+pub(crate) fn note_second<'a>(fields: &'a [Field<'_>], noted: &mut Noted<NameWhy>)
     ensures { noted.new.first ≡ least_from noted.old.first (second_after false fields.now) }
 {
     let mut seen = false;

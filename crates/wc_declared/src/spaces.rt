@@ -1,11 +1,12 @@
 //! Index spaces.
 
 ghost use Rattle.std.specs.Prelude.{◌≡◌, ◌<◌, ◌≤◌, ◌+◌, ◌++◌, ◌∷◌, [], ◌^◌, ℕ, List, Option, IfOk, OnOk, length};
+ghost use Rattle.std.specs.Prelude.{option_copied};
 ghost use Rattle.wc_spaces.specs.Standard.Least.{least_from};
 ghost use Rattle.wc_spaces.specs.Kept.Spaces.{IsSpace, size_of};
 ghost use Rattle.wc_declared.specs.Standard.Spaces.{brings, declares, space as all_declared, texts, repeated_after};
 ghost use Rattle.wc_declared.specs.Standard.Spaces.{repeated, text_in};
-ghost use Rattle.wc_declared.specs.Kept.Found.{id_in, found};
+ghost use Rattle.wc_declared.specs.Kept.Found.{found};
 
 use crate::kind::SpaceKind;
 use std::alloc::{AllocError, Global};
@@ -14,11 +15,11 @@ use wc_surface::{Field, Id, ImportDesc};
 use wc_targets::NameWhy;
 
 /// What an import declares in the index space: nothing, or one thing with this identifier.
-fn brought<'a>(
+fn brought<'b, 'a>(
     kind: SpaceKind,
-    desc: &'a ImportDesc<'a>,
-    id: &'a Option<Id<'a>>,
-) -> Option<Option<&'a Id<'a>>>
+    desc: &ImportDesc<'_>,
+    id: &'b Option<Id<'a>>,
+) -> Option<Option<&'b Id<'a>>>
     ensures { found result ≡ brings kind desc.now id.now }
 {
     match (kind, desc) {
@@ -31,28 +32,22 @@ fn brought<'a>(
 }
 
 /// What a field declares in the index space: nothing, or one thing with an identifier or none.
-fn declared<'a>(kind: SpaceKind, field: &'a Field<'a>) -> Option<Option<&'a Id<'a>>>
+#[inline(always)]
+pub(crate) fn declared<'b, 'a>(kind: SpaceKind, field: &'b Field<'a>) -> Option<Option<&'b Id<'a>>>
     ensures { found result ≡ declares kind field.now }
 {
     match (kind, field) {
         (SpaceKind::Type, Field::FuncType(ty)) => Some(ty.id.as_ref()),
-        (_, Field::Import(import)) => brought(kind, &import.desc, &import.id),
-        (SpaceKind::Func, Field::Func(func)) => Some(func.id.as_ref()),
+        (_, Field::Import(import)) => {
+            let import = import.get();
+            brought(kind, &import.desc, &import.id)
+        }
+        (SpaceKind::Func, Field::Func(func)) => Some(func.id()),
         (SpaceKind::Table, Field::Table(table)) => Some(table.id.as_ref()),
         (SpaceKind::Memory, Field::Memory(memory)) => Some(memory.id.as_ref()),
-        (SpaceKind::Global, Field::Global(global)) => Some(global.id.as_ref()),
+        (SpaceKind::Global, Field::Global(global)) => Some(global.id.get()),
         _ => None,
     }
-}
-
-/// How many identifiers the fields declare in the index space. It takes no memory.
-fn named_in(kind: SpaceKind, fields: &[Field<'_>]) -> usize
-    ensures { result ≤ length fields.now }
-{
-    fields
-        .iter()
-        .filter(|field| matches!(declared(kind, *field), Some(Some(_))))
-        .count()
 }
 
 /// Adds one declaration, with this identifier or with none.
@@ -63,9 +58,9 @@ fn add_one<'a>(
 ) -> Result<(), AllocError>
     requires { size_of space.old + 1 < 2 ^ 32 }
     ensures space { (ds : List (Option (List ℕ))) → IsSpace ds space.old
-        → OnOk result (IsSpace (ds ++ text_in (id_in id.entry) ∷ []) space.new) }
+        → OnOk result (IsSpace (ds ++ text_in (option_copied id.entry) ∷ []) space.new) }
     ensures noted { (ds : List (Option (List ℕ))) → IsSpace ds space.old
-        → OnOk result (noted.new.first ≡ least_from noted.old.first (repeated_after ds (id_in id.entry ∷ []))) }
+        → OnOk result (noted.new.first ≡ least_from noted.old.first (repeated_after ds (option_copied id.entry ∷ []))) }
     ensures size { OnOk result (size_of space.new ≡ size_of space.old + 1) }
 {
     match id {
@@ -101,11 +96,13 @@ fn add_found<'a>(
     }
 }
 
-/// All that the fields declare in the index space. What has the identifier of one before it is noted.
+/// All that the fields declare in the index space, where about so many identifiers are to come. What has the identifier
+/// of one before it is noted.
 pub fn space<'a>(
     alloc: Global,
     kind: SpaceKind,
-    fields: &'a [Field<'a>],
+    identifiers: usize,
+    fields: &'a [Field<'_>],
     noted: &mut Noted<NameWhy>,
 ) -> Result<Space<'a>, AllocError>
     requires { length fields.now < 2 ^ 32 }
@@ -113,7 +110,7 @@ pub fn space<'a>(
     ensures noted { OnOk result (noted.new.first
         ≡ least_from noted.old.first (repeated (all_declared kind fields.now))) }
 {
-    let mut space = Space::with_room(alloc, named_in(kind, fields))?;
+    let mut space = Space::with_room(alloc, identifiers)?;
     for field in fields {
         add_found(&mut space, declared(kind, field), noted)?;
     }

@@ -5,6 +5,7 @@ ghost use Rattle.wc_drafts.specs.Standard.Taking.{take, take_name};
 ghost use Rattle.wc_drafts.specs.Standard.Ending.{nothing_said, ended};
 
 use crate::awaiting::Awaiting;
+use crate::ending::all_closed;
 use crate::heads::Heads;
 use crate::held::Held;
 use crate::row::Row;
@@ -62,7 +63,7 @@ impl<'a> BodyDraft<'a> {
     {
         match role {
             Role::Label => self.take_label(identifier_of(word)),
-            Role::EndLabel => self.take_end_label(identifier_of(word)),
+            Role::EndLabel => return self.take_end_label(identifier_of(word)),
             Role::Index => return self.take_index(word),
             Role::MemOffset => self.take_offset(word.symbol.value),
             Role::MemAlign => self.take_align(word.symbol.value),
@@ -75,27 +76,42 @@ impl<'a> BodyDraft<'a> {
         Ok(())
     }
 
-    /// The body. What is still open ends here: behind a text of the grammar nothing is. The error is want of memory.
-    pub fn finish(self) -> Result<TextBody<'a>, AllocError>
-        ensures { IfOk result (λ body. body ≡ ended self.entry) }
+    /// The body. What is still open ends here: behind a text of the grammar nothing is. Then the draft begins anew. The
+    /// error is want of memory.
+    pub fn said(&mut self) -> Result<TextBody<'a>, AllocError>
+        ensures said { IfOk result (λ body. body ≡ ended self.old) }
+        ensures anew { OnOk result (self.new ≡ nothing_said) }
     {
-        let mut draft = self;
-        draft.settle()?;
-        let BodyDraft {
-            code,
-            heads,
-            uses,
-            ids,
-            labels,
-            ..
-        } = draft;
-        Ok(TextBody {
-            code: crate::ending::all_closed(code)?,
-            heads: heads.into_list(),
-            uses: uses.into_list(),
-            ids: ids.into_list(),
-            labels: labels.into_list(),
-        })
+        self.settle()?;
+        let body = TextBody {
+            code: all_closed(&mut self.code)?,
+            heads: self.heads.take_list(),
+            uses: self.uses.take_list(),
+            ids: self.ids.take_list(),
+            labels: self.labels.take_list(),
+        };
+        self.awaiting = Awaiting::Nothing;
+        self.waits = false;
+        self.written.restart(User::Block, 0);
+        self.held.clear();
+        self.blocks.clear();
+        Ok(body)
+    }
+
+    /// Nothing is said any more. The memory of what was said beside the instructions is kept.
+    pub fn restart(&mut self)
+        ensures { self.new ≡ nothing_said }
+    {
+        self.code.clear();
+        self.heads.clear();
+        self.uses.clear();
+        self.ids.clear();
+        self.labels.clear();
+        self.awaiting = Awaiting::Nothing;
+        self.waits = false;
+        self.written.restart(User::Block, 0);
+        self.held.clear();
+        self.blocks.clear();
     }
 }
 

@@ -5,8 +5,9 @@ ghost use Rattle.wc_drafts.specs.Standard.Heads.{with_else_id, with_end_id};
 
 use std::alloc::{AllocError, Global};
 use std::marker::Model;
+use std::mem::replace;
 use wc_ast::List;
-use wc_surface::{Head, Id};
+use wc_surface::{Head, Id, Rare};
 
 /// The heads of a body so far. A contract sees them as a list.
 #[derive(Debug, Drop)]
@@ -50,31 +51,44 @@ impl<'a> Heads<'a> {
         crate::row::low_32(self.items.as_slice().len())
     }
 
-    /// Puts the identifier behind `else` into the head of this place.
-    pub fn set_else_id(&mut self, place: u32, id: Id<'a>)
-        ensures { self.new ≡ with_else_id self.old place id.entry }
+    /// Puts the identifier behind `else` into the head of this place. The error is want of memory.
+    pub fn set_else_id(&mut self, place: u32, id: Id<'a>) -> Result<(), AllocError>
+        ensures { OnOk result (self.new ≡ with_else_id self.old place id.entry) }
     {
         let place = place as usize;
         if place < self.items.len() {
-            self.items[place].else_id = Some(id);
+            let id = Rare::some(*self.items.allocator(), id)?;
+            drop(replace(&mut self.items[place].else_id, id));
         }
+        Ok(())
     }
 
-    /// Puts the identifier behind `end` into the head of this place.
-    pub fn set_end_id(&mut self, place: u32, id: Id<'a>)
-        ensures { self.new ≡ with_end_id self.old place id.entry }
+    /// Puts the identifier behind `end` into the head of this place. The error is want of memory.
+    pub fn set_end_id(&mut self, place: u32, id: Id<'a>) -> Result<(), AllocError>
+        ensures { OnOk result (self.new ≡ with_end_id self.old place id.entry) }
     {
         let place = place as usize;
         if place < self.items.len() {
-            self.items[place].end_id = Some(id);
+            let id = Rare::some(*self.items.allocator(), id)?;
+            drop(replace(&mut self.items[place].end_id, id));
         }
+        Ok(())
     }
 
-    /// The heads, with the memory that they stand in.
-    pub fn into_list(self) -> List<Head<'a>>
-        ensures { result ≡ self.entry }
+    /// Drops the heads, and keeps the memory that they stood in.
+    #[inline(always)]
+    pub fn clear(&mut self)
+        ensures { self.new ≡ [] }
     {
-        let Heads { items } = self;
-        List::from_vec(items)
+        self.items.clear();
+    }
+
+    /// Takes the heads out. It takes no memory.
+    pub fn take_list(&mut self) -> List<Head<'a>>
+        ensures list { result ≡ self.old }
+        ensures none { self.new ≡ [] }
+    {
+        let alloc = *self.items.allocator();
+        List::from_vec(replace(&mut self.items, Vec::new(alloc)))
     }
 }

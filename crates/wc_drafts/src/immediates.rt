@@ -23,14 +23,14 @@ impl<'a> BodyDraft<'a> {
         }
     }
 
-    /// The identifier behind `else` or `end` (Core 1.0, 6.5.2).
-    pub(crate) fn take_end_label(&mut self, id: Id<'a>)
-        ensures { self.new ≡ end_label_by self.old.awaiting id.entry self.old }
+    /// The identifier behind `else` or `end` (Core 1.0, 6.5.2). The error is want of memory.
+    pub(crate) fn take_end_label(&mut self, id: Id<'a>) -> Result<(), AllocError>
+        ensures { OnOk result (self.new ≡ end_label_by self.old.awaiting id.entry self.old) }
     {
         match self.awaiting {
             Awaiting::ElseId(place) => self.heads.set_else_id(place, id),
             Awaiting::EndId(place) => self.heads.set_end_id(place, id),
-            _ => {}
+            _ => Ok(()),
         }
     }
 

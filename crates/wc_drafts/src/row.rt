@@ -70,14 +70,6 @@ impl<T: Drop> Row<T> {
         *self.items.allocator()
     }
 
-    /// The items, with the memory that they stand in.
-    pub fn into_list(self) -> List<T>
-        ensures { result ≡ self }
-    {
-        let Row { items } = self;
-        List::from_vec(items)
-    }
-
     /// Takes the items out. It takes no memory.
     pub fn take_list(&mut self) -> List<T>
         ensures list { result ≡ self.old }

@@ -12,7 +12,7 @@ use crate::held::Held;
 use crate::row::low_32;
 use std::alloc::AllocError;
 use wc_ast::{BuildFault, Kind};
-use wc_surface::{CodeBuilder, Head, HeadType, Id, TextInstr};
+use wc_surface::{CodeBuilder, Head, HeadType, Id, Rare, TextInstr};
 
 /// Begins a block, a loop or an if, where fewer than may be are open. The error is want of memory.
 fn begin_in(code: &mut CodeBuilder, kind: Kind, head: u32) -> Result<(), AllocError>
@@ -106,10 +106,10 @@ impl<'a> BodyDraft<'a> {
         };
         self.heads.push(Head {
             token: self.written.token(),
-            label,
+            label: Rare::of(self.uses.allocator(), label)?,
             ty,
-            else_id: None,
-            end_id: None,
+            else_id: Rare::none(),
+            end_id: Rare::none(),
         })?;
         if short.is_none() {
             return self.put_use();

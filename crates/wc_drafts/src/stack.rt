@@ -45,6 +45,14 @@ impl<T: Drop> Stack<T> {
     {
         self.items.pop()
     }
+
+    /// Drops the items, and keeps the memory that they stood in.
+    #[inline(always)]
+    pub fn clear(&mut self)
+        ensures { self.new ≡ [] }
+    {
+        self.items.clear();
+    }
 }
 
 impl<T: Copy> Stack<T> {

@@ -2,12 +2,10 @@
 
 ghost use Rattle.std.specs.Prelude.{◌≡◌, IfOk, OnOk};
 ghost use Rattle.wc_drafts.specs.Standard.Uses.{started_use, take_use, use_of, short_type};
-ghost use Rattle.wc_surface.specs.Standard.Keys.{func_type};
 
 use crate::row::Row;
 use crate::word::{Word, identifier_of, index_of};
 use std::alloc::{AllocError, Global};
-use wc_ast::List;
 use wc_ops::ValType;
 use wc_surface::{Id, Index, ParamName, Signature, TypeUse, User};
 use wc_syntax::Role;
@@ -56,25 +54,27 @@ impl<'a> UseDraft<'a> {
         Ok(())
     }
 
-    /// The type use. The error is want of memory.
-    pub fn finish(self) -> Result<TypeUse<'a>, AllocError>
-        ensures { IfOk result (λ u. u ≡ use_of self.entry) }
-    {
-        let mut draft = self;
-        draft.said()
-    }
-
-    /// The parameters and results, and the identifiers of parameters. The error is want of memory.
-    pub fn parts(self) -> Result<(Signature, List<ParamName<'a>>), AllocError>
-        ensures { IfOk result (λ parts. (parts.0 ≡ func_type self.entry.params self.entry.results)
-            × (parts.1 ≡ self.entry.names)) }
+    /// The type use. Then the draft begins anew. The error is want of memory.
+    pub fn said(&mut self) -> Result<TypeUse<'a>, AllocError>
+        ensures said { IfOk result (λ u. u ≡ use_of self.old) }
+        ensures anew { OnOk result (self.new ≡ started_use self.old.user self.old.token) }
     {
         let signature = Signature::new(
             self.params.allocator(),
             self.params.as_slice(),
             self.results.as_slice(),
         )?;
-        Ok((signature, self.names.into_list()))
+        let said = TypeUse {
+            user: self.user,
+            token: self.token,
+            index: self.index.take(),
+            signature,
+            names: self.names.take_list(),
+        };
+        self.params.clear();
+        self.pending = None;
+        self.results.clear();
+        Ok(said)
     }
 }
 
@@ -107,7 +107,7 @@ impl<'a> UseDraft<'a> {
     }
 
     /// Another use begins. The memory is kept.
-    pub(crate) fn restart(&mut self, user: User, token: u32)
+    pub fn restart(&mut self, user: User, token: u32)
         ensures { self.new ≡ started_use user token }
     {
         self.user = user;
@@ -117,29 +117,6 @@ impl<'a> UseDraft<'a> {
         self.pending = None;
         self.names.clear();
         self.results.clear();
-    }
-
-    /// The type use. It begins anew. The error is want of memory.
-    pub(crate) fn said(&mut self) -> Result<TypeUse<'a>, AllocError>
-        ensures said { IfOk result (λ u. u ≡ use_of self.old) }
-        ensures anew { OnOk result (self.new ≡ started_use self.old.user self.old.token) }
-    {
-        let signature = Signature::new(
-            self.params.allocator(),
-            self.params.as_slice(),
-            self.results.as_slice(),
-        )?;
-        let said = TypeUse {
-            user: self.user,
-            token: self.token,
-            index: self.index.take(),
-            signature,
-            names: self.names.take_list(),
-        };
-        self.params.clear();
-        self.pending = None;
-        self.results.clear();
-        Ok(said)
     }
 
     /// The number of the word that it is of.

@@ -5,7 +5,6 @@ ghost use Rattle.wc_drafts.specs.Standard.Ending.{ended};
 ghost use Rattle.wc_fields.specs.Standard.Fields.{no_code, take_code};
 
 use std::alloc::{AllocError, Global};
-use std::mem::replace;
 use wc_drafts::{BodyDraft, Word};
 use wc_surface::TextBody;
 use wc_syntax::Role;
@@ -28,6 +27,14 @@ impl<'a> CodeDraft<'a> {
         }
     }
 
+    /// No instruction so far. The memory is kept.
+    pub(crate) fn restart(&mut self)
+        ensures { self.new ≡ no_code }
+    {
+        self.begun = false;
+        self.body.restart();
+    }
+
     /// One more kept token of an instruction. The error is want of memory.
     #[inline(always)]
     pub(crate) fn take(&mut self, role: Role, word: &Word<'a>) -> Result<(), AllocError>
@@ -38,9 +45,9 @@ impl<'a> CodeDraft<'a> {
     }
 
     /// The instructions that were said. The error is want of memory.
-    pub(crate) fn take_body(&mut self, alloc: Global) -> Result<TextBody<'a>, AllocError>
+    pub(crate) fn take_body(&mut self) -> Result<TextBody<'a>, AllocError>
         ensures { IfOk result (λ body. body ≡ ended self.old.body) }
     {
-        replace(&mut self.body, BodyDraft::new(alloc)).finish()
+        self.body.said()
     }
 }

@@ -34,6 +34,16 @@ impl<'a> Contents<'a> {
         }
     }
 
+    /// Nothing so far. It takes no memory.
+    pub(crate) fn restart(&mut self, alloc: Global)
+        ensures { self.new ≡ no_contents }
+    {
+        self.inside = false;
+        self.target = None;
+        drop(replace(&mut self.elements, List::new(alloc)));
+        self.bytes = List::new(alloc);
+    }
+
     /// What it is of, one more element, or the word of a segment inside. The error is want of memory.
     pub(crate) fn take_word(&mut self, role: Role, word: &Word<'a>) -> Result<(), AllocError>
         ensures { OnOk result (self.new ≡ take_content self.old role word.now) }

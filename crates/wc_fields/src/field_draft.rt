@@ -55,6 +55,25 @@ impl<'a> FieldDraft<'a> {
         }
     }
 
+    /// A field of this word begins, of which nothing else is said yet. It takes no memory.
+    pub fn restart(&mut self, alloc: Global, kind: Kind, token: u32)
+        ensures { self.new ≡ started kind token }
+    {
+        self.kind = kind;
+        self.token = token;
+        self.names.restart(alloc, first_import(kind, token));
+        self.description = ExportKind::Func;
+        self.ty.restart(User::Func, token);
+        self.locals.restart(alloc);
+        self.limits = Limits { min: 0, max: None };
+        self.global = GlobalType {
+            ty: ValType::I32,
+            mutable: false,
+        };
+        self.contents.restart(alloc);
+        self.code.restart();
+    }
+
     /// A string, by its bytes. The error is want of memory.
     pub fn take_string(
         &mut self,

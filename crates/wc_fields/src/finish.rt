@@ -1,7 +1,7 @@
 //! Fields that are said whole.
 
 ghost use Rattle.std.specs.Prelude.{◌≡◌, IfOk};
-ghost use Rattle.wc_drafts.specs.Standard.Uses.{use_of};
+ghost use Rattle.wc_drafts.specs.Standard.Ending.{ended};
 ghost use Rattle.wc_fields.specs.Standard.Finished.{target_of, import_by, func_by, table_by, memory_by, global_by};
 
 use crate::code_draft::CodeDraft;
@@ -13,9 +13,9 @@ use std::mem::replace;
 use wc_ast::{ExportKind, GlobalType, Limits, List};
 use wc_drafts::UseDraft;
 use wc_surface::{
-    DataField, ElemField, ExportField, Field, FuncDesc, FuncField, GlobalDesc, GlobalField,
-    ImportDesc, ImportField, ImportNames, Index, MemoryDesc, MemoryField, StartField, TableDesc,
-    TableField, TextLocals, TypeField, TypeUse, User,
+    Apart, DataField, ElemField, ExportField, Field, FuncDesc, FuncField, GlobalDesc, GlobalField,
+    ImportDesc, ImportField, ImportNames, Index, KeptBody, KeptFunc, MemoryDesc, MemoryField, Rare,
+    StartField, TableDesc, TableField, TextLocals, TypeField, TypeUse,
 };
 use wc_syntax::Kind;
 
@@ -29,16 +29,8 @@ fn target_of(target: Option<Index<'_>>) -> Index<'_>
     }
 }
 
-/// The type use that was said (Core 1.0, 6.6.3). The error is want of memory.
-fn use_of<'a>(alloc: Global, ty: &mut UseDraft<'a>) -> Result<TypeUse<'a>, AllocError>
-    ensures { IfOk result (λ u. u ≡ use_of ty.old) }
-{
-    replace(ty, UseDraft::new(alloc, User::Func, 0)).finish()
-}
-
 /// What an import brings (Core 1.0, 6.6.4). The error is want of memory.
 fn import_by<'a>(
-    alloc: Global,
     description: ExportKind,
     ty: &mut UseDraft<'a>,
     limits: Limits,
@@ -47,7 +39,7 @@ fn import_by<'a>(
     ensures { IfOk result (λ desc. desc ≡ import_by description ty.old limits global) }
 {
     match description {
-        ExportKind::Func => Ok(ImportDesc::Func(use_of(alloc, ty)?)),
+        ExportKind::Func => Ok(ImportDesc::Func(ty.said()?)),
         ExportKind::Table => Ok(ImportDesc::Table(limits)),
         ExportKind::Memory => Ok(ImportDesc::Memory(limits)),
         ExportKind::Global => Ok(ImportDesc::Global(global)),
@@ -66,42 +58,49 @@ fn func_by<'a>(
     match imported {
         Some(names) => Ok(FuncDesc::Import(names)),
         None => Ok(FuncDesc::Code {
-            body: code.take_body(alloc)?,
+            body: code.take_body()?,
             locals: replace(&mut locals.locals, TextLocals::new(alloc)),
         }),
     }
 }
 
-/// How a table is given (Core 1.0, 6.6.6). It takes no memory.
+/// How a table is given (Core 1.0, 6.6.6). The error is want of memory.
 fn table_by<'a>(
     alloc: Global,
     imported: Option<ImportNames>,
     limits: Limits,
     contents: &mut Contents<'a>,
-) -> TableDesc<'a>
-    ensures { result ≡ table_by imported limits contents.old }
+) -> Result<TableDesc<'a>, AllocError>
+    ensures { IfOk result (λ desc. desc ≡ table_by imported limits contents.old) }
 {
     match (imported, contents.inside) {
-        (Some(names), _) => TableDesc::Import(names, limits),
-        (None, true) => TableDesc::Elems(replace(&mut contents.elements, List::new(alloc))),
-        (None, false) => TableDesc::Limits(limits),
+        (Some(names), _) => Ok(TableDesc::Import(Apart::new(alloc, names)?, limits)),
+        (None, true) => Ok(TableDesc::Elems(replace(&mut contents.elements, List::new(alloc)))),
+        (None, false) => Ok(TableDesc::Limits(limits)),
     }
 }
 
-/// How a memory is given (Core 1.0, 6.6.7). It takes no memory.
+/// How a memory is given (Core 1.0, 6.6.7). The error is want of memory.
 fn memory_by(
     alloc: Global,
     imported: Option<ImportNames>,
     limits: Limits,
     contents: &mut Contents<'_>,
-) -> MemoryDesc
-    ensures { result ≡ memory_by imported limits contents.old }
+) -> Result<MemoryDesc, AllocError>
+    ensures { IfOk result (λ desc. desc ≡ memory_by imported limits contents.old) }
 {
     match (imported, contents.inside) {
-        (Some(names), _) => MemoryDesc::Import(names, limits),
-        (None, true) => MemoryDesc::Bytes(replace(&mut contents.bytes, List::new(alloc))),
-        (None, false) => MemoryDesc::Limits(limits),
+        (Some(names), _) => Ok(MemoryDesc::Import(Apart::new(alloc, names)?, limits)),
+        (None, true) => Ok(MemoryDesc::Bytes(replace(&mut contents.bytes, List::new(alloc)))),
+        (None, false) => Ok(MemoryDesc::Limits(limits)),
     }
+}
+
+/// The instructions of a first value or of an offset (Core 1.0, 6.5.8). The error is want of memory.
+fn kept_body<'a>(alloc: Global, code: &mut CodeDraft<'a>) -> Result<KeptBody<'a>, AllocError>
+    ensures { IfOk result (λ kept. kept ≡ ended code.old.body) }
+{
+    KeptBody::new(alloc, code.take_body()?)
 }
 
 /// How a global is given (Core 1.0, 6.6.8). The error is want of memory.
@@ -113,8 +112,8 @@ fn global_by<'a>(
     ensures { IfOk result (λ desc. desc ≡ global_by imported code.old) }
 {
     match imported {
-        Some(names) => Ok(GlobalDesc::Import(names)),
-        None => Ok(GlobalDesc::Init(code.take_body(alloc)?)),
+        Some(names) => Ok(GlobalDesc::Import(Apart::new(alloc, names)?)),
+        None => Ok(GlobalDesc::Init(kept_body(alloc, code)?)),
     }
 }
 
@@ -123,25 +122,30 @@ impl<'a> FieldDraft<'a> {
     ghost use Rattle.wc_fields.specs.Standard.Finished.{memory_field, global_field, export_field};
     ghost use Rattle.wc_fields.specs.Standard.Finished.{elem_field, data_field};
     ghost use Rattle.wc_fields.specs.Standard.Finished.{start_field};
+    ghost use Rattle.wc_fields.specs.Standard.Fields.{started};
+    ghost use Rattle.wc_syntax.specs.declared.kind.Kind.TheVariants.{OtherWord};
+    ghost use Rattle.std.specs.Prelude.{◌≡◌, IfOk, OnOk};
 
-    /// The field. The error is want of memory.
-    pub fn finish(self, alloc: Global) -> Result<Field<'a>, AllocError>
-        ensures { IfOk result (λ f. f ≡ finished self.entry) }
+    /// The field. Then the draft is that of no field. The error is want of memory.
+    pub fn said(&mut self, alloc: Global) -> Result<Field<'a>, AllocError>
+        ensures said { IfOk result (λ f. f ≡ finished self.old) }
+        ensures anew { OnOk result (self.new ≡ started OtherWord 0) }
     {
-        let mut draft = self;
-        draft.take_field(alloc)
+        let field = self.take_field(alloc)?;
+        self.restart(alloc, Kind::OtherWord, 0);
+        Ok(field)
     }
 
-    // The parts of the field are taken out of the draft, which is let go whole.
+    // The parts of the field are taken out of the draft.
     fn take_field(&mut self, alloc: Global) -> Result<Field<'a>, AllocError>
         ensures { IfOk result (λ f. f ≡ finished self.old) }
     {
         match self.kind {
-            Kind::TypeWord => Ok(Field::FuncType(self.take_type(alloc)?)),
-            Kind::ImportWord => Ok(Field::Import(self.take_import(alloc)?)),
-            Kind::FuncWord => Ok(Field::Func(self.take_func(alloc)?)),
-            Kind::TableWord => Ok(Field::Table(self.take_table(alloc))),
-            Kind::MemoryWord => Ok(Field::Memory(self.take_memory(alloc))),
+            Kind::TypeWord => Ok(Field::FuncType(self.take_type()?)),
+            Kind::ImportWord => Ok(Field::Import(Apart::new(alloc, self.take_import(alloc)?)?)),
+            Kind::FuncWord => Ok(Field::Func(KeptFunc::new(alloc, self.take_func(alloc)?)?)),
+            Kind::TableWord => Ok(Field::Table(self.take_table(alloc)?)),
+            Kind::MemoryWord => Ok(Field::Memory(self.take_memory(alloc)?)),
             Kind::GlobalWord => Ok(Field::Global(self.take_global(alloc)?)),
             Kind::ExportWord => Ok(Field::Export(self.take_export(alloc))),
             Kind::ElemWord => Ok(Field::Elem(self.take_elem(alloc)?)),
@@ -150,11 +154,14 @@ impl<'a> FieldDraft<'a> {
         }
     }
 
-    fn take_type(&mut self, alloc: Global) -> Result<TypeField<'a>, AllocError>
+    fn take_type(&mut self) -> Result<TypeField<'a>, AllocError>
         ensures { IfOk result (λ f. f ≡ type_field self.old) }
     {
-        let ty = replace(&mut self.ty, UseDraft::new(alloc, User::Func, 0));
-        let (signature, names) = ty.parts()?;
+        let TypeUse {
+            signature,
+            names,
+            ..
+        } = self.ty.said()?;
         Ok(TypeField {
             id: self.names.id.take(),
             signature,
@@ -165,13 +172,7 @@ impl<'a> FieldDraft<'a> {
     fn take_import(&mut self, alloc: Global) -> Result<ImportField<'a>, AllocError>
         ensures { IfOk result (λ f. f ≡ import_field self.old) }
     {
-        let desc = import_by(
-            alloc,
-            self.description,
-            &mut self.ty,
-            self.limits,
-            self.global,
-        )?;
+        let desc = import_by(self.description, &mut self.ty, self.limits, self.global)?;
         Ok(ImportField {
             id: self.names.id.take(),
             names: self.names.take_asked(alloc, self.token),
@@ -182,7 +183,7 @@ impl<'a> FieldDraft<'a> {
     fn take_func(&mut self, alloc: Global) -> Result<FuncField<'a>, AllocError>
         ensures { IfOk result (λ f. f ≡ func_field self.old) }
     {
-        let ty = use_of(alloc, &mut self.ty)?;
+        let ty = self.ty.said()?;
         let id = self.names.id.take();
         let exports = replace(&mut self.names.exports, List::new(alloc));
         let imported = self.names.take_imported(alloc);
@@ -194,30 +195,30 @@ impl<'a> FieldDraft<'a> {
         })
     }
 
-    fn take_table(&mut self, alloc: Global) -> TableField<'a>
-        ensures { result ≡ table_field self.old }
+    fn take_table(&mut self, alloc: Global) -> Result<TableField<'a>, AllocError>
+        ensures { IfOk result (λ f. f ≡ table_field self.old) }
     {
         let id = self.names.id.take();
         let exports = replace(&mut self.names.exports, List::new(alloc));
         let imported = self.names.take_imported(alloc);
-        TableField {
+        Ok(TableField {
             id,
             exports,
-            desc: table_by(alloc, imported, self.limits, &mut self.contents),
-        }
+            desc: table_by(alloc, imported, self.limits, &mut self.contents)?,
+        })
     }
 
-    fn take_memory(&mut self, alloc: Global) -> MemoryField<'a>
-        ensures { result ≡ memory_field self.old }
+    fn take_memory(&mut self, alloc: Global) -> Result<MemoryField<'a>, AllocError>
+        ensures { IfOk result (λ f. f ≡ memory_field self.old) }
     {
         let id = self.names.id.take();
         let exports = replace(&mut self.names.exports, List::new(alloc));
         let imported = self.names.take_imported(alloc);
-        MemoryField {
+        Ok(MemoryField {
             id,
             exports,
-            desc: memory_by(alloc, imported, self.limits, &mut self.contents),
-        }
+            desc: memory_by(alloc, imported, self.limits, &mut self.contents)?,
+        })
     }
 
     fn take_global(&mut self, alloc: Global) -> Result<GlobalField<'a>, AllocError>
@@ -227,7 +228,7 @@ impl<'a> FieldDraft<'a> {
         let exports = replace(&mut self.names.exports, List::new(alloc));
         let imported = self.names.take_imported(alloc);
         Ok(GlobalField {
-            id,
+            id: Rare::of(alloc, id)?,
             exports,
             ty: self.global,
             desc: global_by(alloc, imported, &mut self.code)?,
@@ -247,10 +248,9 @@ impl<'a> FieldDraft<'a> {
     fn take_elem(&mut self, alloc: Global) -> Result<ElemField<'a>, AllocError>
         ensures { IfOk result (λ f. f ≡ elem_field self.old) }
     {
-        let offset = self.code.take_body(alloc)?;
         Ok(ElemField {
-            table: self.contents.target.take(),
-            offset,
+            table: Rare::of(alloc, self.contents.target.take())?,
+            offset: kept_body(alloc, &mut self.code)?,
             funcs: replace(&mut self.contents.elements, List::new(alloc)),
         })
     }
@@ -258,10 +258,9 @@ impl<'a> FieldDraft<'a> {
     fn take_data(&mut self, alloc: Global) -> Result<DataField<'a>, AllocError>
         ensures { IfOk result (λ f. f ≡ data_field self.old) }
     {
-        let offset = self.code.take_body(alloc)?;
         Ok(DataField {
-            memory: self.contents.target.take(),
-            offset,
+            memory: Rare::of(alloc, self.contents.target.take())?,
+            offset: kept_body(alloc, &mut self.code)?,
             bytes: replace(&mut self.contents.bytes, List::new(alloc)),
         })
     }

@@ -4,6 +4,7 @@ ghost use Rattle.std.specs.Prelude.{◌≡◌, OnOk};
 ghost use Rattle.wc_fields.specs.Standard.Fields.{no_locals, with_local, take_local};
 
 use std::alloc::{AllocError, Global};
+use std::mem::replace;
 use wc_drafts::{Word, identifier_of};
 use wc_surface::{Id, Local, TextLocals};
 use wc_syntax::Role;
@@ -25,6 +26,14 @@ impl<'a> LocalsDraft<'a> {
             id: None,
             locals: TextLocals::new(alloc),
         }
+    }
+
+    /// No local so far. It takes no memory.
+    pub(crate) fn restart(&mut self, alloc: Global)
+        ensures { self.new ≡ no_locals }
+    {
+        self.id = None;
+        drop(replace(&mut self.locals, TextLocals::new(alloc)));
     }
 
     /// An identifier, or the type of a local. The error is want of memory.

@@ -37,6 +37,19 @@ impl<'a> Names<'a> {
         }
     }
 
+    /// No name any more; the number of the word `import`, where there is one. It takes no memory.
+    pub(crate) fn restart(&mut self, alloc: Global, imported: Option<u32>)
+        ensures { self.new ≡ unnamed imported }
+    {
+        self.id = None;
+        if !self.exports.is_empty() {
+            self.exports = List::new(alloc);
+        }
+        self.imported = imported;
+        self.module = no_name(alloc);
+        self.item = no_name(alloc);
+    }
+
     /// The name of an export field, or of one more inline export. The error is want of memory.
     pub(crate) fn take_export(&mut self, kind: Kind, name: Name) -> Result<(), AllocError>
         ensures { OnOk result (self.new ≡ with_export kind name self.old) }

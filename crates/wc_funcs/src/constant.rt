@@ -11,7 +11,7 @@ use std::alloc::{AllocError, Global};
 use wc_ast::Constant;
 use wc_declared::Declared;
 use wc_spaces::{Noted, Space};
-use wc_surface::TextBody;
+use wc_surface::KeptBody;
 use wc_targets::{Around, NameWhy, resolve_body};
 
 /// The instructions of a first value or of an offset (Core 1.0, 6.6.8, 6.6.11 and 6.6.12), with numbers in place of
@@ -19,7 +19,7 @@ use wc_targets::{Around, NameWhy, resolve_body};
 pub fn resolve_constant<'a>(
     alloc: Global,
     declared: &Declared<'a>,
-    body: &TextBody<'a>,
+    body: &'a KeptBody<'_>,
     noted: &mut Noted<NameWhy>,
 ) -> Result<Constant, AllocError>
     ensures constant { (fs : List FieldValue) → IsDeclared fs declared.now
@@ -28,7 +28,7 @@ pub fn resolve_constant<'a>(
         → OnOk result (noted.new.first ≡ least_from noted.old.first (constant_faults fs body.now)) }
 {
     let locals = Space::new(alloc);
-    let uses = type_indices(alloc, declared, body.uses.as_slice())?;
+    let uses = type_indices(alloc, declared, body.uses())?;
     let around = Around {
         funcs: &declared.spaces.funcs,
         globals: &declared.spaces.globals,

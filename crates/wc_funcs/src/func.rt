@@ -17,7 +17,7 @@ use std::alloc::{AllocError, Global};
 use wc_ast::Func;
 use wc_declared::Declared;
 use wc_spaces::Noted;
-use wc_surface::{TextBody, TextLocals, TypeUse};
+use wc_surface::{KeptBody, LocalsRef, UseRef};
 use wc_targets::{Around, NameWhy, resolve_body};
 
 /// A function (Core 1.0, 6.6.5) with numbers in place of identifiers and type uses, where `param_counts` gave how many
@@ -27,9 +27,9 @@ pub fn resolve_func<'a>(
     alloc: Global,
     declared: &Declared<'a>,
     counts: &[usize],
-    ty: &'a TypeUse<'a>,
-    locals: &'a TextLocals<'a>,
-    body: &TextBody<'a>,
+    ty: &UseRef<'a>,
+    locals: &LocalsRef<'a>,
+    body: &'a KeptBody<'_>,
     noted: &mut Noted<NameWhy>,
 ) -> Result<Func, AllocError>
     requires room { All (λ n. n + length locals.now < 2 ^ 32) counts.now }
@@ -41,8 +41,8 @@ pub fn resolve_func<'a>(
 {
     let index = declared.type_index(ty);
     let count = count_at(counts, index);
-    let space = local_space(alloc, count, ty.names.as_slice(), locals.groups())?;
-    let uses = type_indices(alloc, declared, body.uses.as_slice())?;
+    let space = local_space(alloc, count, ty.names(), locals.groups())?;
+    let uses = type_indices(alloc, declared, body.uses())?;
     let around = Around {
         funcs: &declared.spaces.funcs,
         globals: &declared.spaces.globals,

@@ -51,7 +51,7 @@ fn count_of(kind: SpaceKind, field: &Field<'_>) -> u32
     ensures few { result ≤ 1 }
 {
     match (field, kind) {
-        (Field::Import(import), _) => brought(kind, &import.desc),
+        (Field::Import(import), _) => brought(kind, &import.get().desc),
         (Field::FuncType(_), SpaceKind::Type) => 1,
         (Field::Func(_), SpaceKind::Func) => 1,
         (Field::Table(_), SpaceKind::Table) => 1,

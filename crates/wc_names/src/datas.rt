@@ -46,7 +46,7 @@ fn put_inline(
 fn written_data<'a>(
     alloc: Global,
     declared: &Declared<'a>,
-    segment: &DataField<'a>,
+    segment: &'a DataField<'_>,
     noted: &mut Noted<NameWhy>,
 ) -> Result<Data, AllocError>
     ensures segment { (all : List FieldValue) → IsDeclared all declared.now
@@ -54,7 +54,7 @@ fn written_data<'a>(
     ensures noted { (all : List FieldValue) → IsDeclared all declared.now
         → OnOk result (noted.new.first ≡ least_from noted.old.first (written_data_faults all segment.now)) }
 {
-    let memory = resolve_optional(&declared.spaces.memories, &segment.memory, noted);
+    let memory = resolve_optional(&declared.spaces.memories, segment.memory.get(), noted);
     let offset = resolve_constant(alloc, declared, &segment.offset, noted)?;
     let bytes = segment.bytes.try_copy()?;
     Ok(Data {
@@ -70,7 +70,7 @@ pub(crate) fn put_field<'a>(
     out: &mut AstList<Data>,
     declared: &Declared<'a>,
     counts: Counts,
-    field: &Field<'a>,
+    field: &'a Field<'_>,
     noted: &mut Noted<NameWhy>,
 ) -> Result<(), AllocError>
     ensures datas { (all : List FieldValue) → IsDeclared all declared.now

@@ -51,7 +51,7 @@ fn put_inline(
 fn written_elem<'a>(
     alloc: Global,
     declared: &Declared<'a>,
-    elem: &ElemField<'a>,
+    elem: &'a ElemField<'_>,
     noted: &mut Noted<NameWhy>,
 ) -> Result<Elem, AllocError>
     ensures elem { (all : List FieldValue) → IsDeclared all declared.now
@@ -59,7 +59,7 @@ fn written_elem<'a>(
     ensures noted { (all : List FieldValue) → IsDeclared all declared.now
         → OnOk result (noted.new.first ≡ least_from noted.old.first (written_elem_faults all elem.now)) }
 {
-    let table = resolve_optional(&declared.spaces.tables, &elem.table, noted);
+    let table = resolve_optional(&declared.spaces.tables, elem.table.get(), noted);
     let offset = resolve_constant(alloc, declared, &elem.offset, noted)?;
     let funcs = resolve_indices(alloc, &declared.spaces.funcs, elem.funcs.as_slice(), noted)?;
     Ok(Elem {
@@ -75,7 +75,7 @@ pub(crate) fn put_field<'a>(
     out: &mut AstList<Elem>,
     declared: &Declared<'a>,
     counts: Counts,
-    field: &Field<'a>,
+    field: &'a Field<'_>,
     noted: &mut Noted<NameWhy>,
 ) -> Result<(), AllocError>
     ensures elems { (all : List FieldValue) → IsDeclared all declared.now

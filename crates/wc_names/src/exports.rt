@@ -44,12 +44,7 @@ pub(crate) fn put_field(
         → OnOk result (noted.new.first ≡ least_from noted.old.first (export_faults all field.now)) }
 {
     match field {
-        Field::Func(func) => put_names(
-            out,
-            ExportKind::Func,
-            counts.funcs,
-            func.exports.as_slice(),
-        ),
+        Field::Func(func) => put_names(out, ExportKind::Func, counts.funcs, func.exports()),
         Field::Table(table) => put_names(
             out,
             ExportKind::Table,

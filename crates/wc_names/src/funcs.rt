@@ -17,7 +17,7 @@ use wc_ast::Funcs;
 use wc_declared::Declared;
 use wc_funcs::{param_counts, resolve_func};
 use wc_spaces::Noted;
-use wc_surface::{Field, FuncDesc, TypeUse};
+use wc_surface::{Field, FuncSeen, KeptFunc};
 use wc_targets::NameWhy;
 
 fn put_code<'a>(
@@ -25,22 +25,21 @@ fn put_code<'a>(
     out: &mut Funcs,
     declared: &Declared<'a>,
     counts: &[usize],
-    ty: &'a TypeUse<'a>,
-    desc: &'a FuncDesc<'a>,
+    func: &'a KeptFunc<'_>,
     noted: &mut Noted<NameWhy>,
 ) -> Result<(), AllocError>
-    requires room { All (λ n. n + length (desc_locals desc.now) < 2 ^ 32) counts.now }
-    requires within { length (desc_locals desc.now) ≤ locals_limit }
+    requires room { All (λ n. n + length (desc_locals func.now.desc) < 2 ^ 32) counts.now }
+    requires within { length (desc_locals func.now.desc) ≤ locals_limit }
     ensures funcs { (all : List FieldValue) → IsDeclared all declared.now → counts.now ≡ counts_of all
-        → OnOk result (out.new ≡ out.old ++ code_of all ty.now desc.now) }
+        → OnOk result (out.new ≡ out.old ++ code_of all func.now.ty func.now.desc) }
     ensures noted { (all : List FieldValue) → IsDeclared all declared.now → counts.now ≡ counts_of all
-        → OnOk result (noted.new.first ≡ least_from noted.old.first (code_faults all ty.now desc.now)) }
+        → OnOk result (noted.new.first ≡ least_from noted.old.first (code_faults all func.now.ty func.now.desc)) }
 {
-    match desc {
-        FuncDesc::Import(_) => Ok(()),
-        FuncDesc::Code { locals, body } => {
-            let func = resolve_func(alloc, declared, counts, ty, locals, body, noted)?;
-            out.push(&func)
+    match func.desc() {
+        FuncSeen::Import(_) => Ok(()),
+        FuncSeen::Code { locals, body } => {
+            let resolved = resolve_func(alloc, declared, counts, &func.ty(), &locals, body, noted)?;
+            out.push(&resolved)
         }
     }
 }
@@ -51,7 +50,7 @@ fn put_field<'a>(
     out: &mut Funcs,
     declared: &Declared<'a>,
     counts: &[usize],
-    field: &'a Field<'a>,
+    field: &'a Field<'_>,
     noted: &mut Noted<NameWhy>,
 ) -> Result<(), AllocError>
     requires room { All (λ n. n + length (locals_of field.now) < 2 ^ 32) counts.now }
@@ -62,7 +61,7 @@ fn put_field<'a>(
         → OnOk result (noted.new.first ≡ least_from noted.old.first (field_func_faults all field.now)) }
 {
     match field {
-        Field::Func(func) => put_code(alloc, out, declared, counts, &func.ty, &func.desc, noted),
+        Field::Func(func) => put_code(alloc, out, declared, counts, func, noted),
         _ => Ok(()),
     }
 }
@@ -72,7 +71,7 @@ fn put_field<'a>(
 pub(crate) fn funcs<'a>(
     alloc: Global,
     declared: &Declared<'a>,
-    fields: &'a [Field<'a>],
+    fields: &'a [Field<'_>],
     noted: &mut Noted<NameWhy>,
 ) -> Result<Funcs, AllocError>
     requires declared { IsDeclared fields.now declared.now }

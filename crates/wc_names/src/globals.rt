@@ -19,7 +19,7 @@ fn put_global<'a>(
     out: &mut AstList<Global>,
     declared: &Declared<'a>,
     ty: GlobalType,
-    desc: &GlobalDesc<'a>,
+    desc: &'a GlobalDesc<'_>,
     noted: &mut Noted<NameWhy>,
 ) -> Result<(), AllocError>
     ensures globals { (all : List FieldValue) → IsDeclared all declared.now
@@ -42,7 +42,7 @@ pub(crate) fn put_field<'a>(
     alloc: alloc::Global,
     out: &mut AstList<Global>,
     declared: &Declared<'a>,
-    field: &Field<'a>,
+    field: &'a Field<'_>,
     noted: &mut Noted<NameWhy>,
 ) -> Result<(), AllocError>
     ensures globals { (all : List FieldValue) → IsDeclared all declared.now

@@ -10,7 +10,8 @@ use std::alloc::AllocError;
 use wc_ast::{Desc, GlobalType, Imports};
 use wc_declared::Declared;
 use wc_surface::{
-    Field, FuncDesc, GlobalDesc, ImportDesc, ImportNames, MemoryDesc, TableDesc, TypeUse,
+    Field, FuncSeen, GlobalDesc, ImportDesc, ImportField, ImportNames, KeptFunc, MemoryDesc,
+    TableDesc, UseRef,
 };
 
 /// Adds an import.
@@ -21,29 +22,39 @@ fn put(out: &mut Imports, names: &ImportNames, desc: Desc) -> Result<(), AllocEr
 }
 
 /// What an import brings.
-fn desc_of(declared: &Declared<'_>, desc: &ImportDesc<'_>) -> Desc
+fn desc_of<'a>(declared: &Declared<'_>, desc: &'a ImportDesc<'_>) -> Desc
     ensures { (all : List FieldValue) → IsDeclared all declared.now → result ≡ brought all desc.now }
 {
     match desc {
-        ImportDesc::Func(used) => Desc::Func(declared.type_index(used)),
+        ImportDesc::Func(used) => Desc::Func(declared.type_index(&UseRef::of(used))),
         ImportDesc::Table(limits) => Desc::Table(*limits),
         ImportDesc::Memory(limits) => Desc::Memory(*limits),
         ImportDesc::Global(ty) => Desc::Global(*ty),
     }
 }
 
-fn put_func(
+fn put_import<'a>(
     out: &mut Imports,
     declared: &Declared<'_>,
-    used: &TypeUse<'_>,
-    desc: &FuncDesc<'_>,
+    found: &'a ImportField<'_>,
 ) -> Result<(), AllocError>
     ensures { (all : List FieldValue) → IsDeclared all declared.now
-        → OnOk result (out.new ≡ out.old ++ func_imports all used.now desc.now) }
+        → OnOk result (out.new ≡ out.old ++ import found.now.names (brought all found.now.desc) ∷ []) }
 {
-    match desc {
-        FuncDesc::Import(names) => put(out, names, Desc::Func(declared.type_index(used))),
-        FuncDesc::Code { .. } => Ok(()),
+    put(out, &found.names, desc_of(declared, &found.desc))
+}
+
+fn put_func<'a>(
+    out: &mut Imports,
+    declared: &Declared<'_>,
+    func: &'a KeptFunc<'_>,
+) -> Result<(), AllocError>
+    ensures { (all : List FieldValue) → IsDeclared all declared.now
+        → OnOk result (out.new ≡ out.old ++ func_imports all func.now.ty func.now.desc) }
+{
+    match func.desc() {
+        FuncSeen::Import(names) => put(out, names, Desc::Func(declared.type_index(&func.ty()))),
+        FuncSeen::Code { .. } => Ok(()),
     }
 }
 
@@ -51,7 +62,7 @@ fn put_table(out: &mut Imports, desc: &TableDesc<'_>) -> Result<(), AllocError>
     ensures { OnOk result (out.new ≡ out.old ++ table_imports desc.now) }
 {
     match desc {
-        TableDesc::Import(names, limits) => put(out, names, Desc::Table(*limits)),
+        TableDesc::Import(names, limits) => put(out, names.get(), Desc::Table(*limits)),
         TableDesc::Limits(_) | TableDesc::Elems(_) => Ok(()),
     }
 }
@@ -60,7 +71,7 @@ fn put_memory(out: &mut Imports, desc: &MemoryDesc) -> Result<(), AllocError>
     ensures { OnOk result (out.new ≡ out.old ++ memory_imports desc.now) }
 {
     match desc {
-        MemoryDesc::Import(names, limits) => put(out, names, Desc::Memory(*limits)),
+        MemoryDesc::Import(names, limits) => put(out, names.get(), Desc::Memory(*limits)),
         MemoryDesc::Limits(_) | MemoryDesc::Bytes(_) => Ok(()),
     }
 }
@@ -69,23 +80,23 @@ fn put_global(out: &mut Imports, ty: GlobalType, desc: &GlobalDesc<'_>) -> Resul
     ensures { OnOk result (out.new ≡ out.old ++ global_imports ty desc.now) }
 {
     match desc {
-        GlobalDesc::Import(names) => put(out, names, Desc::Global(ty)),
+        GlobalDesc::Import(names) => put(out, names.get(), Desc::Global(ty)),
         GlobalDesc::Init(_) => Ok(()),
     }
 }
 
 /// Adds the import of a field, where it is one.
-pub(crate) fn put_field(
+pub(crate) fn put_field<'a>(
     out: &mut Imports,
     declared: &Declared<'_>,
-    field: &Field<'_>,
+    field: &'a Field<'_>,
 ) -> Result<(), AllocError>
     ensures { (all : List FieldValue) → IsDeclared all declared.now
         → OnOk result (out.new ≡ out.old ++ field_imports all field.now) }
 {
     match field {
-        Field::Import(import) => put(out, &import.names, desc_of(declared, &import.desc)),
-        Field::Func(func) => put_func(out, declared, &func.ty, &func.desc),
+        Field::Import(import) => put_import(out, declared, import.get()),
+        Field::Func(func) => put_func(out, declared, func),
         Field::Table(table) => put_table(out, &table.desc),
         Field::Memory(memory) => put_memory(out, &memory.desc),
         Field::Global(global) => put_global(out, global.ty, &global.desc),

@@ -1,6 +1,6 @@
 //! Indices.
 
-ghost use Rattle.std.specs.Prelude.{◌≡◌, ℕ, List, Option, Some, IfOk, OnOk};
+ghost use Rattle.std.specs.Prelude.{◌≡◌, ℕ, List, Option, Some, IfOk, OnOk, option_copied};
 ghost use Rattle.std.specs.Option.{unwrap_or};
 ghost use Rattle.wc_spaces.specs.Standard.Least.{least_from};
 ghost use Rattle.wc_spaces.specs.Standard.Spaces.{place_of};
@@ -62,12 +62,13 @@ pub(crate) fn resolve_index(space: &Space<'_>, index: &Index<'_>, noted: &mut No
 /// The same where the index may be left out.
 pub(crate) fn resolve_optional(
     space: &Space<'_>,
-    index: &Option<Index<'_>>,
+    index: Option<&Index<'_>>,
     noted: &mut Noted<NameWhy>,
 ) -> u32
-    ensures value { (ds : List (Option (List ℕ))) → IsSpace ds space.now → result ≡ index_or_zero ds index.now }
+    ensures value { (ds : List (Option (List ℕ))) → IsSpace ds space.now
+        → result ≡ index_or_zero ds (option_copied index.entry) }
     ensures noted { (ds : List (Option (List ℕ))) → IsSpace ds space.now
-        → noted.new.first ≡ least_from noted.old.first (unknown_in ds index.now) }
+        → noted.new.first ≡ least_from noted.old.first (unknown_in ds (option_copied index.entry)) }
 {
     match index {
         None => 0,

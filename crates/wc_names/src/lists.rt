@@ -48,7 +48,7 @@ fn put_field<'a>(
     lists: &mut Lists,
     declared: &Declared<'a>,
     counts: Counts,
-    field: &Field<'a>,
+    field: &'a Field<'_>,
     notes: &mut Notes,
 ) -> Result<(), AllocError>
     requires { inline_size field.now < 2 ^ 32 }
@@ -147,7 +147,7 @@ fn join_all(noted: &mut Noted<NameWhy>, notes: Notes)
 pub(crate) fn gather<'a>(
     alloc: alloc::Global,
     declared: &Declared<'a>,
-    fields: &[Field<'a>],
+    fields: &'a [Field<'_>],
     noted: &mut Noted<NameWhy>,
 ) -> Result<Lists, AllocError>
     requires few { length fields.now < 2 ^ 32 }

@@ -26,7 +26,7 @@ use wc_targets::NameWhy;
 fn denoted<'a>(
     alloc: Global,
     declared: &Declared<'a>,
-    fields: &'a [Field<'a>],
+    fields: &'a [Field<'_>],
     noted: &mut Noted<NameWhy>,
 ) -> Result<Module, AllocError>
     requires declared { IsDeclared fields.now declared.now }
@@ -69,7 +69,7 @@ fn answer(noted: &Noted<NameWhy>) -> Result<(), NameFault>
 fn referenced<'a>(
     alloc: Global,
     declared: &Declared<'a>,
-    fields: &'a [Field<'a>],
+    fields: &'a [Field<'_>],
 ) -> Result<Module, NameFault>
     requires declared { IsDeclared fields.now declared.now }
     requires surface { IsSurface fields.now }
@@ -85,7 +85,7 @@ fn referenced<'a>(
 }
 
 /// The module of the fields, or their first fault.
-fn resolve_fields<'a>(alloc: Global, surface: &'a Surface<'a>) -> Result<Module, NameFault>
+fn resolve_fields<'a>(alloc: Global, surface: &'a Surface<'_>) -> Result<Module, NameFault>
     ensures module { IfOk result (Names surface.now) }
     ensures fault { IfErr result (IsFirst surface.now) }
 {
@@ -99,7 +99,7 @@ fn resolve_fields<'a>(alloc: Global, surface: &'a Surface<'a>) -> Result<Module,
 /// of its type, each inline form is the fields that it stands for, and defaults are written out. The error is the first
 /// fault, or want of memory. Declarations are judged first, then type uses, and then what else is named: the fault is
 /// that of the first of these stages that has one, there the one of the least token.
-pub fn resolve<'a>(alloc: Global, surface: &'a Surface<'a>) -> Result<Module, NameFault>
+pub fn resolve<'a>(alloc: Global, surface: &'a Surface<'_>) -> Result<Module, NameFault>
     ensures ok { IfOk result (Names surface.now) }
     ensures only { (m : ModuleValue) → Names surface.now m
         → MatchResult result (λ found. found ≡ m) (λ f. f ≡ Memory) }

@@ -2,3 +2,7 @@
 pub mod Keyed
 pub mod Building
 pub mod Lengthening
+pub mod Rare
+pub mod Bodies
+pub mod Uses
+pub mod Funcs

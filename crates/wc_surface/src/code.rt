@@ -3,6 +3,7 @@
 ghost use Rattle.std.specs.Prelude.{◌≡◌};
 
 use crate::instr::TextInstr;
+use std::alloc::Global;
 use std::marker::Model;
 use wc_body::Kind;
 
@@ -47,9 +48,16 @@ impl Model for TextCode {
 
 impl TextCode {
     ghost use Rattle.std.specs.Prelude.{◌≡◌, ◌≤◌};
-    ghost use Rattle.wc_body.specs.Standard.Nested.{flatten, nesting, nesting_limit};
+    ghost use Rattle.wc_body.specs.Standard.Nested.{empty, flatten, nesting, nesting_limit};
     ghost use Rattle.wc_body.specs.Drafting.Kept.{IsWhole};
     ghost use Rattle.wc_surface.specs.Standard.Marks.{nested, marks};
+
+    /// No instruction. It takes no memory.
+    pub fn new(alloc: Global) -> TextCode
+        ensures { result ≡ empty }
+    {
+        TextCode::from_row(Vec::new(alloc))
+    }
 
     pub(crate) fn from_row(row: Vec<TextEntry>) -> TextCode
         requires { IsWhole (marks row.items) }

@@ -144,18 +144,31 @@ impl CodeBuilder {
         Ok(())
     }
 
-    /// The instructions, in order. It takes no memory, and gives back what was held for more. The error is `Mark`,
-    /// where something is open.
-    pub fn finish(self) -> Result<TextCode, BuildFault>
-        ensures ok { IfOk result (λ code. self ≡ whole code) }
-        ensures err { IfErr result (λ fault. (fault ≡ faults.Mark) × (is_open self.around ≡ true)) }
+    /// The instructions, in order, in memory for these alone. Then nothing is built, and the builder's memory is kept for
+    /// what comes next. After an error the builder is as it was: `Mark` where something is open, and `Memory` only where
+    /// memory was refused.
+    pub fn finish(&mut self) -> Result<TextCode, BuildFault>
+        ensures ok { IfOk result (λ code. self.old ≡ whole code) }
+        ensures anew { OnOk result (self.new ≡ whole empty) }
+        ensures err { OnErr result (self.new ≡ self.old) }
+        ensures depth { ¬ IsErrOf result faults.Depth }
+        ensures mark { IsErrOf result faults.Mark ↔ (is_open self.old.around ≡ true) }
     {
         if self.depth() > 0 {
             return Err(BuildFault::Mark);
         }
-        let mut row = self.row;
-        row.shrink_to_fit();
+        let row = Vec::from_slice(*self.row.allocator(), self.row.as_slice())?;
+        self.clear();
         Ok(TextCode::from_row(row))
+    }
+
+    /// Nothing is built any more. The memory is kept.
+    pub fn clear(&mut self)
+        ensures { self.new ≡ whole empty }
+    {
+        self.row.clear();
+        self.parts.clear();
+        self.after_else = false;
     }
 }
 

@@ -2,7 +2,10 @@
 
 use crate::head::TextBody;
 use crate::id::{Id, Index};
+use crate::kept_body::KeptBody;
+use crate::kept_func::KeptFunc;
 use crate::local::TextLocals;
+use crate::rare::{Apart, Rare};
 use crate::segment::{DataField, ElemField};
 use crate::signature::Signature;
 use crate::type_use::{ParamName, TypeUse};
@@ -12,8 +15,8 @@ use wc_ast::{ExportKind, GlobalType, Limits, List, Name};
 #[derive(Debug, Drop)]
 pub enum Field<'a> {
     FuncType(TypeField<'a>),
-    Import(ImportField<'a>),
-    Func(FuncField<'a>),
+    Import(Apart<ImportField<'a>>),
+    Func(KeptFunc<'a>),
     Table(TableField<'a>),
     Memory(MemoryField<'a>),
     Global(GlobalField<'a>),
@@ -92,7 +95,7 @@ pub struct TableField<'a> {
 /// How a table is given.
 #[derive(Debug, Drop)]
 pub enum TableDesc<'a> {
-    Import(ImportNames, Limits),
+    Import(Apart<ImportNames>, Limits),
     Limits(Limits),
     /// Its size and its first elements are those of this list of functions.
     Elems(List<Index<'a>>),
@@ -110,7 +113,7 @@ pub struct MemoryField<'a> {
 /// How a memory is given.
 #[derive(Debug, Drop)]
 pub enum MemoryDesc {
-    Import(ImportNames, Limits),
+    Import(Apart<ImportNames>, Limits),
     Limits(Limits),
     /// Its size and its first content are those of these bytes.
     Bytes(List<u8>),
@@ -119,7 +122,7 @@ pub enum MemoryDesc {
 /// A global (Core 1.0, 6.6.8).
 #[derive(Debug, Drop)]
 pub struct GlobalField<'a> {
-    pub id: Option<Id<'a>>,
+    pub id: Rare<Id<'a>>,
     /// The names under which it is exported.
     pub exports: List<Name>,
     pub ty: GlobalType,
@@ -129,9 +132,9 @@ pub struct GlobalField<'a> {
 /// How a global is given.
 #[derive(Debug, Drop)]
 pub enum GlobalDesc<'a> {
-    Import(ImportNames),
+    Import(Apart<ImportNames>),
     /// Its first value.
-    Init(TextBody<'a>),
+    Init(KeptBody<'a>),
 }
 
 /// An export (Core 1.0, 6.6.9).

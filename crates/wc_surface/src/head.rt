@@ -3,6 +3,7 @@
 use crate::code::TextCode;
 use crate::id::Id;
 use crate::instr::Operand;
+use crate::rare::Rare;
 use crate::type_use::TypeUse;
 use wc_ast::List;
 use wc_ops::ValType;
@@ -22,13 +23,13 @@ pub struct Head<'a> {
     /// The number of the word `block`, `loop` or `if`. It rises along the heads of a body.
     pub token: u32,
     /// The identifier of its label.
-    pub label: Option<Id<'a>>,
+    pub label: Rare<Id<'a>>,
     /// Its type.
     pub ty: HeadType,
     /// The identifier behind `else`.
-    pub else_id: Option<Id<'a>>,
+    pub else_id: Rare<Id<'a>>,
     /// The identifier behind `end`.
-    pub end_id: Option<Id<'a>>,
+    pub end_id: Rare<Id<'a>>,
 }
 
 /// The instructions of a function, of a first value or of an offset (Core 1.0, 6.5.8), and the lists that they name by

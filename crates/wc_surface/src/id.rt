@@ -68,3 +68,19 @@ pub enum Index<'a> {
     /// An identifier.
     Named(Id<'a>),
 }
+
+impl<'a> Index<'a> {
+    /// The same index. It takes no memory.
+    #[inline(always)]
+    pub fn again(&self) -> Index<'a>
+        ensures { result ≡ self.now }
+    {
+        match self {
+            Index::Number { token, value } => Index::Number {
+                token: *token,
+                value: *value,
+            },
+            Index::Named(id) => Index::Named(id.again()),
+        }
+    }
+}

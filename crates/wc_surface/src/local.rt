@@ -6,6 +6,7 @@ ghost use Rattle.wc_surface.specs.Standard.WrittenLocals.{written_out, AreNumber
 ghost use Rattle.wc_surface.specs.Kept.Lengthening.{Lengthens, LastIs};
 
 use crate::id::Id;
+use crate::trim::trimmed;
 use std::alloc::{AllocError, Global};
 use std::marker::Model;
 use wc_ops::ValType;
@@ -74,12 +75,61 @@ impl<'a> TextLocals<'a> {
         put(&mut self.row, local)
     }
 
+    /// The same locals, without the room for more.
+    pub(crate) fn without_room(self) -> TextLocals<'a>
+        ensures { result ≡ self.entry }
+    {
+        let TextLocals { row } = self;
+        TextLocals { row: trimmed(row) }
+    }
+
     /// The groups, in order. It takes no memory.
     pub fn groups(&self) -> &[LocalGroup<'a>]
         ensures written { written_out result.now ≡ self.now }
         ensures numbered { AreNumbered result.now }
     {
         self.row.as_slice()
+    }
+}
+
+/// The declared locals of a function, where they are kept. A contract sees each of them, in order.
+#[derive(Debug, Drop)]
+pub struct LocalsRef<'a> {
+    row: &'a [LocalGroup<'a>],
+}
+
+impl<'a> Model for LocalsRef<'a> {
+    ghost use Rattle.std.specs.Prelude.{List};
+    ghost use Rattle.wc_surface.specs.declared.local.Local.{Local};
+
+    ghost Value = { List Local };
+
+    ghost use Rattle.wc_surface.specs.Standard.WrittenLocals.{written_out};
+
+    ghost view = { λ locals. written_out locals.row.now };
+
+    ghost use Rattle.wc_surface.specs.Standard.WrittenLocals.{AreNumbered};
+
+    ghost invariant = { λ locals. AreNumbered locals.row.now };
+}
+
+impl<'a> LocalsRef<'a> {
+    /// The locals of these groups. It takes no memory.
+    #[inline(always)]
+    pub fn of(groups: &'a [LocalGroup<'a>]) -> LocalsRef<'a>
+        requires { AreNumbered groups.now }
+        ensures { result ≡ written_out groups.now }
+    {
+        LocalsRef { row: groups }
+    }
+
+    /// The groups, in order. It takes no memory.
+    #[inline(always)]
+    pub fn groups(&self) -> &'a [LocalGroup<'a>]
+        ensures written { written_out result.now ≡ self.now }
+        ensures numbered { AreNumbered result.now }
+    {
+        self.row
     }
 }
 

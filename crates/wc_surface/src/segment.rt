@@ -1,15 +1,16 @@
 //! Element and data segments.
 
-use crate::head::TextBody;
 use crate::id::Index;
+use crate::kept_body::KeptBody;
+use crate::rare::Rare;
 use wc_ast::List;
 
 /// An element segment (Core 1.0, 6.6.11).
 #[derive(Debug, Drop)]
 pub struct ElemField<'a> {
     /// Its table, where one is named.
-    pub table: Option<Index<'a>>,
-    pub offset: TextBody<'a>,
+    pub table: Rare<Index<'a>>,
+    pub offset: KeptBody<'a>,
     pub funcs: List<Index<'a>>,
 }
 
@@ -17,8 +18,8 @@ pub struct ElemField<'a> {
 #[derive(Debug, Drop)]
 pub struct DataField<'a> {
     /// Its memory, where one is named.
-    pub memory: Option<Index<'a>>,
-    pub offset: TextBody<'a>,
+    pub memory: Rare<Index<'a>>,
+    pub offset: KeptBody<'a>,
     /// What its strings stand for, one behind the other.
     pub bytes: List<u8>,
 }

@@ -14,15 +14,15 @@ use crate::why::NameWhy;
 use std::alloc::{AllocError, Global};
 use wc_body::{Body, BodyBuilder, Entry};
 use wc_spaces::{Labels, Noted};
-use wc_surface::{TextBody, TextEntry};
+use wc_surface::{KeptBody, TextEntry};
 
 /// The instructions of a body with numbers in place of identifiers, labels and type uses, and with their defaults
 /// written out (Core 1.0, 6.5). An identifier that nothing has is noted, and stands for 0; so is one behind `else` or
 /// `end` that isn't the label of its block. The error is want of memory: what was noted is then of no use.
-pub fn resolve_body<'a>(
+pub fn resolve_body(
     alloc: Global,
     around: &Around<'_, '_, '_, '_>,
-    body: &TextBody<'a>,
+    body: &KeptBody<'_>,
     noted: &mut Noted<NameWhy>,
 ) -> Result<Body, AllocError>
     ensures resolved { (c : Context) → Knows c around.now → IfOk result (λ code. code ≡ resolved c body.now) }
@@ -30,7 +30,7 @@ pub fn resolve_body<'a>(
         → OnOk result (noted.new.first ≡ least_from noted.old.first (body_faults c body.now)) }
 {
     let mut labels = Labels::new(alloc);
-    let entries = body.code.entries();
+    let entries = body.code().entries();
     // Most take two bytes.
     let mut builder = BodyBuilder::with_room(alloc, entries.len().saturating_mul(2))?;
     for entry in entries {

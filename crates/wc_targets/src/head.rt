@@ -1,6 +1,6 @@
 //! The heads of blocks, loops and ifs.
 
-ghost use Rattle.std.specs.Prelude.{◌≡◌, ◌+◌, ◌<◌, ◌^◌, ◌∷◌, OnOk, length};
+ghost use Rattle.std.specs.Prelude.{◌≡◌, ◌+◌, ◌<◌, ◌^◌, ◌∷◌, OnOk, length, option_copied};
 ghost use Rattle.wc_body.specs.Standard.Nested.{nesting_limit};
 ghost use Rattle.wc_body.specs.Standard.Draft.{step};
 ghost use Rattle.wc_body.specs.Standard.Entries.{begin_of};
@@ -21,11 +21,11 @@ use crate::why::NameWhy;
 use std::alloc::AllocError;
 use wc_body::{BlockType, BodyBuilder, Entry, Kind};
 use wc_spaces::{Labels, Noted};
-use wc_surface::{Head, HeadType, Id, TextBody};
+use wc_surface::{Head, HeadType, Id, KeptBody};
 
 /// The text of an identifier.
-fn text_at<'a>(id: &Option<Id<'a>>) -> Option<&'a [u8]>
-    ensures { text_of result ≡ text_in id.now }
+fn text_at<'a>(id: Option<&Id<'a>>) -> Option<&'a [u8]>
+    ensures { text_of result ≡ text_in (option_copied id.entry) }
 {
     match id {
         None => None,
@@ -34,8 +34,8 @@ fn text_at<'a>(id: &Option<Id<'a>>) -> Option<&'a [u8]>
 }
 
 /// Whether the label is this identifier.
-fn is_label(label: &Option<Id<'_>>, id: &Id<'_>) -> bool
-    ensures { result ≡ is_named id.now.text (text_in label.now) }
+fn is_label(label: Option<&Id<'_>>, id: &Id<'_>) -> bool
+    ensures { result ≡ is_named id.now.text (text_in (option_copied label.entry)) }
 {
     match label {
         None => false,
@@ -44,8 +44,9 @@ fn is_label(label: &Option<Id<'_>>, id: &Id<'_>) -> bool
 }
 
 /// Notes an identifier that isn't the label.
-fn judge_id(label: &Option<Id<'_>>, again: &Option<Id<'_>>, noted: &mut Noted<NameWhy>)
-    ensures { noted.new.first ≡ least_from noted.old.first (differing label.now again.now) }
+fn judge_id(label: Option<&Id<'_>>, again: Option<&Id<'_>>, noted: &mut Noted<NameWhy>)
+    ensures { noted.new.first ≡ least_from noted.old.first
+        (differing (option_copied label.entry) (option_copied again.entry)) }
 {
     match again {
         None => {}
@@ -61,8 +62,8 @@ fn judge_id(label: &Option<Id<'_>>, again: &Option<Id<'_>>, noted: &mut Noted<Na
 fn judge_head(head: &Head<'_>, noted: &mut Noted<NameWhy>)
     ensures { noted.new.first ≡ least_from noted.old.first (differing_ids head.now) }
 {
-    judge_id(&head.label, &head.else_id, noted);
-    judge_id(&head.label, &head.end_id, noted);
+    judge_id(head.label.get(), head.else_id.get(), noted);
+    judge_id(head.label.get(), head.end_id.get(), noted);
 }
 
 /// The type of a block, from what is written.
@@ -79,10 +80,10 @@ fn block_type(around: &Around<'_, '_, '_, '_>, ty: HeadType) -> BlockType
 /// Adds where a block begins, and its label; an identifier behind its `else` or `end` that isn't the label is noted.
 /// The error is want of memory.
 #[inline(never)]
-pub(crate) fn put_head<'a>(
+pub(crate) fn put_head<'b>(
     around: &Around<'_, '_, '_, '_>,
-    body: &TextBody<'a>,
-    labels: &mut Labels<'a>,
+    body: &'b KeptBody<'_>,
+    labels: &mut Labels<'b>,
     builder: &mut BodyBuilder,
     kind: Kind,
     place: u32,
@@ -98,7 +99,7 @@ pub(crate) fn put_head<'a>(
     ensures around { OnOk result (firsts builder.new.around ≡ begins_if kind ∷ firsts builder.old.around) }
     ensures noted { OnOk result (noted.new.first ≡ least_from noted.old.first (head_faults body.now place)) }
 {
-    match body.heads.as_slice().get(place as usize) {
+    match body.head(place) {
         None => {
             put(builder, Entry::Begin(kind, BlockType::Empty))?;
             labels.enter(None)
@@ -106,7 +107,7 @@ pub(crate) fn put_head<'a>(
         Some(head) => {
             judge_head(head, noted);
             put(builder, Entry::Begin(kind, block_type(around, head.ty)))?;
-            labels.enter(text_at(&head.label))
+            labels.enter(text_at(head.label.get()))
         }
     }
 }

@@ -23,7 +23,7 @@ use std::alloc::{AllocError, Global};
 use wc_body::{BodyBuilder, Entry, Instr, MemArg};
 use wc_ops::{IndexOp, MemOp};
 use wc_spaces::{Labels, Noted};
-use wc_surface::{Id, Operand, TextBody, TextInstr};
+use wc_surface::{Id, KeptBody, Operand, TextInstr};
 
 /// The index of the type of the type use of this place.
 #[inline(always)]
@@ -78,7 +78,7 @@ pub(crate) fn put_plain(
     alloc: Global,
     around: &Around<'_, '_, '_, '_>,
     labels: &Labels<'_>,
-    body: &TextBody<'_>,
+    body: &KeptBody<'_>,
     builder: &mut BodyBuilder,
     instr: TextInstr,
     noted: &mut Noted<NameWhy>,
@@ -96,23 +96,15 @@ pub(crate) fn put_plain(
             put(builder, Entry::Plain(Instr::Index(op, index)))
         }
         TextInstr::Index(op, Operand::Named(at)) => {
-            put_named(around, labels, body.ids.as_slice(), builder, op, at, noted)
+            put_named(around, labels, body.ids(), builder, op, at, noted)
         }
         TextInstr::Access { op, align, offset } => {
             let argument = access(op, align, offset);
             put(builder, Entry::Plain(Instr::Mem(op, argument)))
         }
         TextInstr::BrTable { first, count } => {
-            let operands = labels_of(body.labels.as_slice(), first, count);
-            put_table(
-                alloc,
-                around,
-                labels,
-                body.ids.as_slice(),
-                operands,
-                builder,
-                noted,
-            )
+            let operands = labels_of(body.labels(), first, count);
+            put_table(alloc, around, labels, body.ids(), operands, builder, noted)
         }
         TextInstr::CallIndirect(place) => {
             let index = index_of_type(around, place);

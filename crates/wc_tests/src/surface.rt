@@ -4,7 +4,9 @@ use std::alloc::{AllocError, Global};
 use std::mem::size_of;
 use std::test::Fail;
 use wc_ast::{BuildFault, Kind, NESTING_LIMIT, SimpleOp, ValType};
-use wc_surface::{CodeBuilder, Id, Local, Signature, TextCode, TextEntry, TextInstr, TextLocals};
+use wc_surface::{
+    CodeBuilder, Field, Head, Id, Local, Signature, TextCode, TextEntry, TextInstr, TextLocals,
+};
 use wc_tokens::Token;
 use wc_words::Symbol;
 
@@ -13,6 +15,8 @@ fn what_stands_in_lists_is_small(rt: HostRuntime) {
     assert!(rt; size_of::<Token<'_>>() <= 40);
     assert!(rt; size_of::<Symbol>() <= 24);
     assert!(rt; size_of::<TextEntry>() <= 24);
+    assert!(rt; size_of::<Head<'_>>() <= 64);
+    assert!(rt; size_of::<Field<'_>>() <= 104);
 }
 
 /// The key of a function type.

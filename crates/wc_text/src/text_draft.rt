@@ -67,13 +67,12 @@ impl<'a> TextDraft<'a> {
     ghost use Rattle.wc_fields.specs.Standard.Fields.{started};
 
     /// A field of this kind begins, at this token.
-    // It is a call, since a place for a whole field is cleared wherever one is made.
     #[inline(never)]
     fn begin_field(&mut self, alloc: Global, kind: Kind, token: u32)
         ensures fields { self.new.fields ≡ self.old.fields }
         ensures field { self.new.field ≡ started kind token }
     {
-        self.field = FieldDraft::new(alloc, kind, token);
+        self.field.restart(alloc, kind, token);
     }
 
     /// The fields so far. It takes no memory.
@@ -89,8 +88,8 @@ impl<'a> TextDraft<'a> {
     fn end_field(&mut self, alloc: Global) -> Result<(), AllocError>
         ensures { OnOk result (self.new ≡ with_field self.old) }
     {
-        let field = replace(&mut self.field, FieldDraft::new(alloc, Kind::OtherWord, 0));
-        self.fields.push(field.finish(alloc)?)?;
+        let field = self.field.said(alloc)?;
+        self.fields.push(field)?;
         Ok(())
     }
 }

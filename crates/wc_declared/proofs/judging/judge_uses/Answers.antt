@@ -6,4 +6,4 @@ pub loop-used-preserved : goal.loop-used-preserved
 loop-used-preserved c = λ ds ts a p.
     faults-next (use_faults ds ts) c.args.uses.now c.loop-used.used-index c.used-item.result
     c.loop-used.noted.first _ _ c.loop-used-test.true
-    c.used-item.is (c.judge_use.ensures ds ts a p) (c.loop-used.invariant ds ts a p)
+    c.used-item.is (rw c.of.ensures at c.judge_use.ensures ds ts a p) (c.loop-used.invariant ds ts a p)

@@ -8,10 +8,10 @@ returns-clause-func c = λ fs w e.
       funcs = w.spaces.funcs;
       globals = w.spaces.globals;
       locals = known-locals fs c.args.ty.now c.args.locals.now c.count_at-count.result c.type_index-index.result c.args.counts.now
-          c.as_slice.result.now c.groups.result.now c.in_ok-space.space e (c.type_index-index.ensures fs w) c.count_at-count.ensures
-          c.as_slice.ensures c.groups.ensures.written c.in_ok-space.ensures;
-      uses = known-uses fs c.args.body.now.uses c.as_slice-2.result.now c.in_ok-uses.uses.items c.as_slice-3.result.now
-          c.as_slice-2.ensures (c.in_ok-uses.ensures fs w) c.as_slice-3.ensures.value;
+          c.names.result.now c.groups.result.now c.in_ok-space.space e (c.type_index-index.ensures fs w) c.count_at-count.ensures
+          c.names.ensures c.groups.ensures.written c.in_ok-space.ensures;
+      uses = known-uses fs c.args.body.now.uses c.uses.result.now c.in_ok-uses.uses.items c.as_slice.result.now
+          c.uses.ensures (c.in_ok-uses.ensures fs w) c.as_slice.ensures.value;
     }) in
     rw (c.type_index-index.ensures fs w, c.in_ok-local_types.ensures, c.groups-2.ensures.written, body)
 
@@ -21,8 +21,8 @@ returns-clause-noted c = λ fs w e.
       funcs = w.spaces.funcs;
       globals = w.spaces.globals;
       locals = known-locals fs c.args.ty.now c.args.locals.now c.count_at-count.result c.type_index-index.result c.args.counts.now
-          c.as_slice.result.now c.groups.result.now c.in_ok-space.space e (c.type_index-index.ensures fs w) c.count_at-count.ensures
-          c.as_slice.ensures c.groups.ensures.written c.in_ok-space.ensures;
-      uses = known-uses fs c.args.body.now.uses c.as_slice-2.result.now c.in_ok-uses.uses.items c.as_slice-3.result.now
-          c.as_slice-2.ensures (c.in_ok-uses.ensures fs w) c.as_slice-3.ensures.value;
+          c.names.result.now c.groups.result.now c.in_ok-space.space e (c.type_index-index.ensures fs w) c.count_at-count.ensures
+          c.names.ensures c.groups.ensures.written c.in_ok-space.ensures;
+      uses = known-uses fs c.args.body.now.uses c.uses.result.now c.in_ok-uses.uses.items c.as_slice.result.now
+          c.uses.ensures (c.in_ok-uses.ensures fs w) c.as_slice.ensures.value;
     })

@@ -12,7 +12,7 @@ returns-clause-noted c = λ all w.
     let elem = c.args.elem.now in
     let ds = declared_in kind.Func all in
     before _ _ _ (unknown_in (declared_in kind.Table all) elem.table) (constant_faults all elem.offset ++ unknown_of ds elem.funcs)
-    (c.resolve_optional-table.ensures.noted (declared_in kind.Table all) w.spaces.tables)
+    (rw c.get.ensures.value at c.resolve_optional-table.ensures.noted (declared_in kind.Table all) w.spaces.tables)
     (before _ _ _ (constant_faults all elem.offset) (unknown_of ds elem.funcs) (c.in_ok-offset.ensures.noted all w)
     (c.in_ok-funcs.ensures.noted ds w.spaces.funcs
     ∙ ap (λ (xs : List Index). least_from c.resolve_constant.new.noted.first (unknown_of ds xs)) c.as_slice.ensures))

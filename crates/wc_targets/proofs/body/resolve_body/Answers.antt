@@ -11,7 +11,8 @@ use Rattle.wc_targets.proofs.body.resolve_body.Goals.{in-End+in_ok-put-in-End}
 
 pub loop-entry-init : goal.loop-entry-init
 loop-entry-init c = rw c.in_ok-builder.ensures (inside-starts c.args.around.now c.args.body.now c.args.noted.now.first _
-    c.new-labels.result c.entries-entries.ensures.marks c.entries-entries.ensures.within
+    c.new-labels.result (rw c.code.ensures at c.entries-entries.ensures.marks)
+    (rw c.code.ensures at c.entries-entries.ensures.within)
     c.new-labels.ensures.labels c.new-labels.ensures.depth)
 
 pub put_plain-requires : goal.put_plain-requires
