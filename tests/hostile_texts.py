@@ -124,3 +124,82 @@ SHAPES = [
     ("a number of 10,000,000 digits", 0, lambda: func(b"i32.const " + b"0" * 10_000_000)),
     ("a number of 10,000,000 digits out of range", 1, lambda: func(b"i32.const " + b"9" * 10_000_000)),
 ]
+
+
+def repeated(field, front):
+    """As many of the field as 9,500,000 bytes hold, each with its own number where it has room for one."""
+    times = 9_500_000 // len(field)
+    if b"%06d" in field:
+        return front + b"".join(field % it for it in range(times))
+    return front + field * times
+
+
+# What stands in front of all, and the field.
+SMALL = [
+    (b"", b"(func nop)"),
+    (b"", b"(func i64.const 1)"),
+    (b"", b"(func(param i32))"),
+    (b"", b"(func(param $p i32))"),
+    (b"", b"(func(local i32))"),
+    (b"", b"(func(local $p i32)(local $q i64))"),
+    (b"", b"(func(param $p i32)(local $q i32))"),
+    (b"(type(func(param i32)))", b"(func(type 0)(param $p i32))"),
+    (b"(type $t(func))", b"(func(type $t))"),
+    (b"", b"(func $%06d)"),
+    (b"", b"(func $%06d(local i32))"),
+    (b"", b'(func(export"%06d"))'),
+    (b"", b'(func(export"\\61%06d"))'),
+    (b"", b'(func(import""""))'),
+    (b"", b"(func call 0)"),
+    (FUNC, b"(func br_table 0)"),
+    (b"(func $f)", b"(func call $f)"),
+    (b"(func $f)", b"(func call $f br_table 0)"),
+    (b"(func $f)", b"(func block $l call $f end)"),
+    (b"", b"(func block end)"),
+    (b"", b"(func block $l end)"),
+    (b"", b"(func block block end end)"),
+    (b"", b"(func block(result i32)end)"),
+    (b"", b"(func block(param i32)end)"),
+    (b"", b"(func(local i32)block end)"),
+    (b"", b"(func if else end)"),
+    (TABLE, b"(func call_indirect)"),
+    (TABLE, b"(func(call_indirect))"),
+    (TABLE + b"(type(func))", b"(func call_indirect(type 0))"),
+    (b"", b'(import""""(func))'),
+    (b"", b'(import""""(func $%06d))'),
+    (b"", b'(import""""(func(param $p i32)))'),
+    (b"", b'(import"\\61""\\61"(func))'),
+    (b"", b'(import""""(global i32))'),
+    (b"", b"(type(func(param $p i32)))"),
+    (b"", b"(type $%06d(func))"),
+    (FUNC, b'(export"%06d"(func 0))'),
+    (b"(func $f)", b'(export"%06d"(func $f))'),
+    (b"", b"(global i32 i32.const 0)"),
+    (b"", b"(global $%06d i32 i32.const 0)"),
+    (b"", b'(global(import"""")i32)'),
+    (b'(global $g(import"""")i32)', b"(global i32 global.get $g)"),
+]
+
+# The same of fields of which a module has one, or one of this name.
+REFUSED = [
+    (b"", b"(memory 0)"),
+    (b"", b'(memory(data"a"))'),
+    (b"", b'(memory(import"" "")0)'),
+    (b"", b"(table 0 funcref)"),
+    (b"", b'(table(import"""")0 funcref)'),
+    (FUNC, b"(table funcref(elem 0))"),
+    (FUNC, b"(start 0)"),
+    (b"", b'(func(export ""))'),
+]
+
+SHAPES += [
+    ("fields " + field.decode(), status, lambda front=front, field=field: repeated(field, front))
+    for status, fields in ((0, SMALL), (1, REFUSED))
+    for front, field in fields
+]
+SHAPES += [
+    ("3,000,000 elements by name", 0, lambda: TABLE + b"(func $f)" + segment(b" $f" * 3_000_000)),
+    ("900,000 named blocks", 0, lambda: func(b"(block $l)" * 900_000)),
+    ("800,000 inline exports of one name", 1, lambda: b"(func" + b'(export "")' * 800_000 + b")"),
+    ("500,000 named parameters", 0, lambda: b"(func" + b"".join(b"(param $%06d i32)" % it for it in range(500_000)) + b")"),
+]

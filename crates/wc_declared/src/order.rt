@@ -39,7 +39,7 @@ fn sort_of_table(desc: &TableDesc<'_>) -> Sort
     }
 }
 
-fn sort_of_memory(desc: &MemoryDesc) -> Sort
+fn sort_of_memory(desc: &MemoryDesc<'_>) -> Sort
     ensures { result ≡ memory_sort desc.now }
 {
     match desc {

@@ -1,6 +1,7 @@
 //! What stands in segments.
 
 ghost use Rattle.std.specs.Prelude.{◌≡◌, OnOk};
+ghost use Rattle.wc_words.specs.Strings.{bytes_in};
 ghost use Rattle.wc_fields.specs.Standard.Fields.{no_contents, with_bytes, take_content};
 
 use std::alloc::{AllocError, Global};
@@ -9,6 +10,7 @@ use wc_ast::List;
 use wc_drafts::{Word, index_of};
 use wc_surface::Index;
 use wc_syntax::Role;
+use wc_words::StringValue;
 
 /// What a segment is of and holds, also one inside a table or a memory; and what an export or a start is of (Core 1.0,
 /// 6.6.9 to 6.6.12).
@@ -57,8 +59,22 @@ impl<'a> Contents<'a> {
         Ok(())
     }
 
+    /// More bytes: what a string stands for. The error is want of memory.
+    pub(crate) fn take_value(
+        &mut self,
+        alloc: Global,
+        value: &StringValue<'_>,
+    ) -> Result<(), AllocError>
+        ensures { OnOk result (self.new ≡ with_bytes (bytes_in value.now) self.old) }
+    {
+        match value {
+            StringValue::Plain(text) => self.take_bytes(alloc, text.as_bytes()),
+            StringValue::Bytes(bytes) => self.take_bytes(alloc, bytes.as_slice()),
+        }
+    }
+
     /// More bytes. The error is want of memory.
-    pub(crate) fn take_bytes(&mut self, alloc: Global, more: &[u8]) -> Result<(), AllocError>
+    fn take_bytes(&mut self, alloc: Global, more: &[u8]) -> Result<(), AllocError>
         ensures { OnOk result (self.new ≡ with_bytes more.now self.old) }
     {
         let mut bytes = replace(&mut self.bytes, List::new(alloc)).into_vec();

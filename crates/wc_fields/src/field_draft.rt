@@ -1,6 +1,7 @@
 //! Fields that are being said.
 
 ghost use Rattle.std.specs.Prelude.{◌≡◌, OnOk};
+ghost use Rattle.wc_words.specs.Strings.{bytes_in};
 ghost use Rattle.wc_fields.specs.Standard.Fields.{started, take_string, take_word};
 
 use crate::code_draft::CodeDraft;
@@ -15,6 +16,7 @@ use wc_drafts::{UseDraft, Word, number_in};
 use wc_ops::ValType;
 use wc_surface::User;
 use wc_syntax::{Kind, Role};
+use wc_words::StringValue;
 
 /// A field that is being said (Core 1.0, 6.6.2 to 6.6.12). `take_word` and `take_string` say what each kept token adds.
 #[derive(Debug, Drop)]
@@ -74,20 +76,20 @@ impl<'a> FieldDraft<'a> {
         self.code.restart();
     }
 
-    /// A string, by its bytes. The error is want of memory.
+    /// A string, by what it stands for. The error is want of memory.
     pub fn take_string(
         &mut self,
         alloc: Global,
         role: Role,
-        bytes: Vec<u8>,
+        value: StringValue<'a>,
     ) -> Result<(), AllocError>
-        ensures { OnOk result (self.new ≡ take_string self.old role bytes.items) }
+        ensures { OnOk result (self.new ≡ take_string self.old role (bytes_in value.entry)) }
     {
         match role {
-            Role::ExportName => return self.names.take_export(self.kind, name_of(alloc, bytes)),
-            Role::ModuleName => self.names.module = name_of(alloc, bytes),
-            Role::ItemName => self.names.item = name_of(alloc, bytes),
-            Role::Bytes => return self.contents.take_bytes(alloc, bytes.as_slice()),
+            Role::ExportName => return self.names.take_export(alloc, self.kind, name_of(value)),
+            Role::ModuleName => self.names.module = name_of(value),
+            Role::ItemName => self.names.item = name_of(value),
+            Role::Bytes => return self.contents.take_value(alloc, &value),
             _ => {}
         }
         Ok(())

@@ -49,11 +49,11 @@ fn import_by<'a>(
 /// How a function is given (Core 1.0, 6.6.5). The error is want of memory.
 fn func_by<'a>(
     alloc: Global,
-    imported: Option<ImportNames>,
+    imported: Option<ImportNames<'a>>,
     locals: &mut LocalsDraft<'a>,
     code: &mut CodeDraft<'a>,
 ) -> Result<FuncDesc<'a>, AllocError>
-    ensures { IfOk result (λ desc. desc ≡ func_by imported locals.old code.old) }
+    ensures { IfOk result (λ desc. desc ≡ func_by imported.entry locals.old code.old) }
 {
     match imported {
         Some(names) => Ok(FuncDesc::Import(names)),
@@ -67,11 +67,11 @@ fn func_by<'a>(
 /// How a table is given (Core 1.0, 6.6.6). The error is want of memory.
 fn table_by<'a>(
     alloc: Global,
-    imported: Option<ImportNames>,
+    imported: Option<ImportNames<'a>>,
     limits: Limits,
     contents: &mut Contents<'a>,
 ) -> Result<TableDesc<'a>, AllocError>
-    ensures { IfOk result (λ desc. desc ≡ table_by imported limits contents.old) }
+    ensures { IfOk result (λ desc. desc ≡ table_by imported.entry limits contents.old) }
 {
     match (imported, contents.inside) {
         (Some(names), _) => Ok(TableDesc::Import(Apart::new(alloc, names)?, limits)),
@@ -81,13 +81,13 @@ fn table_by<'a>(
 }
 
 /// How a memory is given (Core 1.0, 6.6.7). The error is want of memory.
-fn memory_by(
+fn memory_by<'a>(
     alloc: Global,
-    imported: Option<ImportNames>,
+    imported: Option<ImportNames<'a>>,
     limits: Limits,
     contents: &mut Contents<'_>,
-) -> Result<MemoryDesc, AllocError>
-    ensures { IfOk result (λ desc. desc ≡ memory_by imported limits contents.old) }
+) -> Result<MemoryDesc<'a>, AllocError>
+    ensures { IfOk result (λ desc. desc ≡ memory_by imported.entry limits contents.old) }
 {
     match (imported, contents.inside) {
         (Some(names), _) => Ok(MemoryDesc::Import(Apart::new(alloc, names)?, limits)),
@@ -106,10 +106,10 @@ fn kept_body<'a>(alloc: Global, code: &mut CodeDraft<'a>) -> Result<KeptBody<'a>
 /// How a global is given (Core 1.0, 6.6.8). The error is want of memory.
 fn global_by<'a>(
     alloc: Global,
-    imported: Option<ImportNames>,
+    imported: Option<ImportNames<'a>>,
     code: &mut CodeDraft<'a>,
 ) -> Result<GlobalDesc<'a>, AllocError>
-    ensures { IfOk result (λ desc. desc ≡ global_by imported code.old) }
+    ensures { IfOk result (λ desc. desc ≡ global_by imported.entry code.old) }
 {
     match imported {
         Some(names) => Ok(GlobalDesc::Import(Apart::new(alloc, names)?)),
@@ -147,7 +147,7 @@ impl<'a> FieldDraft<'a> {
             Kind::TableWord => Ok(Field::Table(self.take_table(alloc)?)),
             Kind::MemoryWord => Ok(Field::Memory(self.take_memory(alloc)?)),
             Kind::GlobalWord => Ok(Field::Global(self.take_global(alloc)?)),
-            Kind::ExportWord => Ok(Field::Export(self.take_export(alloc))),
+            Kind::ExportWord => Ok(Field::Export(self.take_export())),
             Kind::ElemWord => Ok(Field::Elem(self.take_elem(alloc)?)),
             Kind::DataWord => Ok(Field::Data(self.take_data(alloc)?)),
             _ => Ok(Field::Start(self.take_start())),
@@ -175,7 +175,7 @@ impl<'a> FieldDraft<'a> {
         let desc = import_by(self.description, &mut self.ty, self.limits, self.global)?;
         Ok(ImportField {
             id: self.names.id.take(),
-            names: self.names.take_asked(alloc, self.token),
+            names: self.names.take_asked(self.token),
             desc,
         })
     }
@@ -186,7 +186,7 @@ impl<'a> FieldDraft<'a> {
         let ty = self.ty.said()?;
         let id = self.names.id.take();
         let exports = replace(&mut self.names.exports, List::new(alloc));
-        let imported = self.names.take_imported(alloc);
+        let imported = self.names.take_imported();
         Ok(FuncField {
             id,
             exports,
@@ -200,7 +200,7 @@ impl<'a> FieldDraft<'a> {
     {
         let id = self.names.id.take();
         let exports = replace(&mut self.names.exports, List::new(alloc));
-        let imported = self.names.take_imported(alloc);
+        let imported = self.names.take_imported();
         Ok(TableField {
             id,
             exports,
@@ -213,7 +213,7 @@ impl<'a> FieldDraft<'a> {
     {
         let id = self.names.id.take();
         let exports = replace(&mut self.names.exports, List::new(alloc));
-        let imported = self.names.take_imported(alloc);
+        let imported = self.names.take_imported();
         Ok(MemoryField {
             id,
             exports,
@@ -226,7 +226,7 @@ impl<'a> FieldDraft<'a> {
     {
         let id = self.names.id.take();
         let exports = replace(&mut self.names.exports, List::new(alloc));
-        let imported = self.names.take_imported(alloc);
+        let imported = self.names.take_imported();
         Ok(GlobalField {
             id: Rare::of(alloc, id)?,
             exports,
@@ -235,11 +235,11 @@ impl<'a> FieldDraft<'a> {
         })
     }
 
-    fn take_export(&mut self, alloc: Global) -> ExportField<'a>
+    fn take_export(&mut self) -> ExportField<'a>
         ensures { result ≡ export_field self.old }
     {
         ExportField {
-            name: self.names.take_item(alloc),
+            name: self.names.take_item(),
             kind: self.description,
             index: target_of(self.contents.target.take()),
         }

@@ -1,14 +1,14 @@
 //! The names of a field.
 
 ghost use Rattle.std.specs.Prelude.{◌≡◌, OnOk, []};
-ghost use Rattle.wc_fields.specs.Standard.Fields.{unnamed, with_export, take_name};
+ghost use Rattle.wc_fields.specs.Standard.Fields.{unnamed, with_export, with_inline_export, take_name};
 ghost use Rattle.wc_fields.specs.Standard.Finished.{asked, asked_at};
 
 use std::alloc::{AllocError, Global};
 use std::mem::replace;
-use wc_ast::{List, Name};
+use wc_ast::List;
 use wc_drafts::{Word, identifier_of};
-use wc_surface::{Id, ImportNames};
+use wc_surface::{Id, ImportNames, TextName};
 use wc_syntax::{Kind, Role};
 
 /// The identifier of a field, and the names under which it is exported or imported (Core 1.0, 6.6.4 to 6.6.9).
@@ -16,11 +16,11 @@ use wc_syntax::{Kind, Role};
 pub struct Names<'a> {
     pub(crate) id: Option<Id<'a>>,
     // The names of inline exports.
-    pub(crate) exports: List<Name>,
+    pub(crate) exports: List<TextName<'a>>,
     // The number of the word `import`, and the names behind it. An export's own name stands in the second one.
     pub(crate) imported: Option<u32>,
-    pub(crate) module: Name,
-    pub(crate) item: Name,
+    pub(crate) module: TextName<'a>,
+    pub(crate) item: TextName<'a>,
 }
 
 impl<'a> Names<'a> {
@@ -32,8 +32,8 @@ impl<'a> Names<'a> {
             id: None,
             exports: List::new(alloc),
             imported,
-            module: no_name(alloc),
-            item: no_name(alloc),
+            module: no_name(),
+            item: no_name(),
         }
     }
 
@@ -43,21 +43,39 @@ impl<'a> Names<'a> {
     {
         self.id = None;
         if !self.exports.is_empty() {
-            self.exports = List::new(alloc);
+            drop(replace(&mut self.exports, List::new(alloc)));
         }
         self.imported = imported;
-        self.module = no_name(alloc);
-        self.item = no_name(alloc);
+        self.module = no_name();
+        self.item = no_name();
     }
 
     /// The name of an export field, or of one more inline export. The error is want of memory.
-    pub(crate) fn take_export(&mut self, kind: Kind, name: Name) -> Result<(), AllocError>
-        ensures { OnOk result (self.new ≡ with_export kind name self.old) }
+    pub(crate) fn take_export(
+        &mut self,
+        alloc: Global,
+        kind: Kind,
+        name: TextName<'a>,
+    ) -> Result<(), AllocError>
+        ensures { OnOk result (self.new ≡ with_export kind name.entry self.old) }
     {
         match kind {
             Kind::ExportWord => self.item = name,
-            _ => self.exports.push(name)?,
+            _ => self.push_export(alloc, name)?,
         }
+        Ok(())
+    }
+
+    /// The name of one more inline export. The error is want of memory.
+    // Most fields have one: it gets memory for itself, and leaves no gap in that of the process.
+    fn push_export(&mut self, alloc: Global, name: TextName<'a>) -> Result<(), AllocError>
+        ensures { OnOk result (self.new ≡ with_inline_export name.entry self.old) }
+    {
+        if self.exports.is_empty() {
+            let first = List::from_vec(Vec::with_capacity(alloc, 1)?);
+            drop(replace(&mut self.exports, first));
+        }
+        self.exports.push(name)?;
         Ok(())
     }
 
@@ -73,37 +91,37 @@ impl<'a> Names<'a> {
     }
 
     /// What an import asks for, where the word `import` stands. It takes no memory.
-    pub(crate) fn take_imported(&mut self, alloc: Global) -> Option<ImportNames>
+    pub(crate) fn take_imported(&mut self) -> Option<ImportNames<'a>>
         ensures { result ≡ asked self.old.imported self.old }
     {
         match self.imported {
-            Some(token) => Some(self.take_asked(alloc, token)),
+            Some(token) => Some(self.take_asked(token)),
             None => None,
         }
     }
 
     /// What an import asks for, by the number of its word. It takes no memory.
-    pub(crate) fn take_asked(&mut self, alloc: Global, token: u32) -> ImportNames
+    pub(crate) fn take_asked(&mut self, token: u32) -> ImportNames<'a>
         ensures { result ≡ asked_at self.old token }
     {
         ImportNames {
             token,
-            module: replace(&mut self.module, no_name(alloc)),
-            item: replace(&mut self.item, no_name(alloc)),
+            module: replace(&mut self.module, no_name()),
+            item: replace(&mut self.item, no_name()),
         }
     }
 
     /// The second name of an import, or the name of an export field. It takes no memory.
-    pub(crate) fn take_item(&mut self, alloc: Global) -> Name
+    pub(crate) fn take_item(&mut self) -> TextName<'a>
         ensures { result ≡ self.old.item }
     {
-        replace(&mut self.item, no_name(alloc))
+        replace(&mut self.item, no_name())
     }
 }
 
 /// The empty name. It takes no memory.
-fn no_name(alloc: Global) -> Name
+fn no_name<'a>() -> TextName<'a>
     ensures { result ≡ [] }
 {
-    Name::from_string(String::new(alloc))
+    TextName::piece("")
 }

@@ -23,7 +23,7 @@ fn put_inline(
     alloc: Global,
     out: &mut AstList<Data>,
     index: u32,
-    desc: &MemoryDesc,
+    desc: &MemoryDesc<'_>,
 ) -> Result<(), AllocError>
     ensures { OnOk result (out.new ≡ out.old ++ inline_datas index desc.now) }
 {

@@ -9,10 +9,10 @@ ghost use Rattle.wc_names.specs.Standard.Exports.{exported_as, field_exports, ex
 use crate::counts::Counts;
 use crate::indices::{resolve_index, space_of};
 use std::alloc::AllocError;
-use wc_ast::{ExportKind, Exports, Name};
+use wc_ast::{ExportKind, Exports};
 use wc_declared::declared::Spaces;
 use wc_spaces::Noted;
-use wc_surface::Field;
+use wc_surface::{Field, TextName};
 use wc_targets::NameWhy;
 
 /// Exports the same under each of these names.
@@ -20,7 +20,7 @@ fn put_names(
     out: &mut Exports,
     kind: ExportKind,
     index: u32,
-    names: &[Name],
+    names: &[TextName<'_>],
 ) -> Result<(), AllocError>
     ensures { OnOk result (out.new ≡ out.old ++ exported_as kind index names.now) }
 {

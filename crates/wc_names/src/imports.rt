@@ -15,7 +15,7 @@ use wc_surface::{
 };
 
 /// Adds an import.
-fn put(out: &mut Imports, names: &ImportNames, desc: Desc) -> Result<(), AllocError>
+fn put(out: &mut Imports, names: &ImportNames<'_>, desc: Desc) -> Result<(), AllocError>
     ensures { OnOk result (out.new ≡ out.old ++ import names.now desc ∷ []) }
 {
     out.push(names.module.as_str(), names.item.as_str(), desc)
@@ -67,7 +67,7 @@ fn put_table(out: &mut Imports, desc: &TableDesc<'_>) -> Result<(), AllocError>
     }
 }
 
-fn put_memory(out: &mut Imports, desc: &MemoryDesc) -> Result<(), AllocError>
+fn put_memory(out: &mut Imports, desc: &MemoryDesc<'_>) -> Result<(), AllocError>
     ensures { OnOk result (out.new ≡ out.old ++ memory_imports desc.now) }
 {
     match desc {

@@ -38,7 +38,7 @@ fn put_table_limits(out: &mut AstList<Limits>, desc: &TableDesc<'_>) -> Result<(
     Ok(())
 }
 
-fn put_memory_limits(out: &mut AstList<Limits>, desc: &MemoryDesc) -> Result<(), AllocError>
+fn put_memory_limits(out: &mut AstList<Limits>, desc: &MemoryDesc<'_>) -> Result<(), AllocError>
     requires { memory_inline desc.now < 2 ^ 32 }
     ensures { OnOk result (out.new ≡ out.old ++ memory_limits desc.now) }
 {

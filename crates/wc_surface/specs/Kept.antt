@@ -2,6 +2,8 @@
 pub mod Keyed
 pub mod Building
 pub mod Lengthening
+pub mod Names
+pub mod Parts
 pub mod Rare
 pub mod Bodies
 pub mod Uses

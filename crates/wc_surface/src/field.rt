@@ -8,8 +8,9 @@ use crate::local::TextLocals;
 use crate::rare::{Apart, Rare};
 use crate::segment::{DataField, ElemField};
 use crate::signature::Signature;
+use crate::text_name::TextName;
 use crate::type_use::{ParamName, TypeUse};
-use wc_ast::{ExportKind, GlobalType, Limits, List, Name};
+use wc_ast::{ExportKind, GlobalType, Limits, List};
 
 /// A field (Core 1.0, 6.6.13).
 #[derive(Debug, Drop)]
@@ -37,19 +38,19 @@ pub struct TypeField<'a> {
 
 /// What an import asks for.
 #[derive(Debug, Drop)]
-pub struct ImportNames {
+pub struct ImportNames<'a> {
     /// The number of the word `import`.
     pub token: u32,
     /// The name of the module.
-    pub module: Name,
+    pub module: TextName<'a>,
     /// The name in that module.
-    pub item: Name,
+    pub item: TextName<'a>,
 }
 
 /// An import (Core 1.0, 6.6.4).
 #[derive(Debug, Drop)]
 pub struct ImportField<'a> {
-    pub names: ImportNames,
+    pub names: ImportNames<'a>,
     pub id: Option<Id<'a>>,
     pub desc: ImportDesc<'a>,
 }
@@ -68,7 +69,7 @@ pub enum ImportDesc<'a> {
 pub struct FuncField<'a> {
     pub id: Option<Id<'a>>,
     /// The names under which it is exported.
-    pub exports: List<Name>,
+    pub exports: List<TextName<'a>>,
     pub ty: TypeUse<'a>,
     pub desc: FuncDesc<'a>,
 }
@@ -76,7 +77,7 @@ pub struct FuncField<'a> {
 /// How a function is given.
 #[derive(Debug, Drop)]
 pub enum FuncDesc<'a> {
-    Import(ImportNames),
+    Import(ImportNames<'a>),
     Code {
         locals: TextLocals<'a>,
         body: TextBody<'a>,
@@ -88,14 +89,14 @@ pub enum FuncDesc<'a> {
 pub struct TableField<'a> {
     pub id: Option<Id<'a>>,
     /// The names under which it is exported.
-    pub exports: List<Name>,
+    pub exports: List<TextName<'a>>,
     pub desc: TableDesc<'a>,
 }
 
 /// How a table is given.
 #[derive(Debug, Drop)]
 pub enum TableDesc<'a> {
-    Import(Apart<ImportNames>, Limits),
+    Import(Apart<ImportNames<'a>>, Limits),
     Limits(Limits),
     /// Its size and its first elements are those of this list of functions.
     Elems(List<Index<'a>>),
@@ -106,14 +107,14 @@ pub enum TableDesc<'a> {
 pub struct MemoryField<'a> {
     pub id: Option<Id<'a>>,
     /// The names under which it is exported.
-    pub exports: List<Name>,
-    pub desc: MemoryDesc,
+    pub exports: List<TextName<'a>>,
+    pub desc: MemoryDesc<'a>,
 }
 
 /// How a memory is given.
 #[derive(Debug, Drop)]
-pub enum MemoryDesc {
-    Import(Apart<ImportNames>, Limits),
+pub enum MemoryDesc<'a> {
+    Import(Apart<ImportNames<'a>>, Limits),
     Limits(Limits),
     /// Its size and its first content are those of these bytes.
     Bytes(List<u8>),
@@ -124,7 +125,7 @@ pub enum MemoryDesc {
 pub struct GlobalField<'a> {
     pub id: Rare<Id<'a>>,
     /// The names under which it is exported.
-    pub exports: List<Name>,
+    pub exports: List<TextName<'a>>,
     pub ty: GlobalType,
     pub desc: GlobalDesc<'a>,
 }
@@ -132,7 +133,7 @@ pub struct GlobalField<'a> {
 /// How a global is given.
 #[derive(Debug, Drop)]
 pub enum GlobalDesc<'a> {
-    Import(Apart<ImportNames>),
+    Import(Apart<ImportNames<'a>>),
     /// Its first value.
     Init(KeptBody<'a>),
 }
@@ -140,7 +141,7 @@ pub enum GlobalDesc<'a> {
 /// An export (Core 1.0, 6.6.9).
 #[derive(Debug, Drop)]
 pub struct ExportField<'a> {
-    pub name: Name,
+    pub name: TextName<'a>,
     pub kind: ExportKind,
     pub index: Index<'a>,
 }

@@ -1,13 +1,13 @@
 //! Bodies as fields hold them.
 
-ghost use Rattle.std.specs.Prelude.{◌≡◌, IfOk, IsTrue, option_copied, slice_get};
-ghost use Rattle.wc_surface.specs.Kept.Bodies.{no_lists, lists_in};
+ghost use Rattle.std.specs.Prelude.{◌≡◌, IfOk, option_copied, slice_get};
+ghost use Rattle.wc_surface.specs.Kept.Bodies.{lists_in};
 
 use crate::code::TextCode;
 use crate::head::{Head, TextBody};
 use crate::id::Id;
 use crate::instr::Operand;
-use crate::rare::Rare;
+use crate::rare::Apart;
 use crate::trim::trimmed_list;
 use crate::type_use::TypeUse;
 use std::alloc::{AllocError, Global};
@@ -23,12 +23,21 @@ pub struct BodyLists<'a> {
     pub(crate) labels: List<Operand>,
 }
 
+/// These lists in memory for what there is of them: heads or identifiers alone take no memory for the others.
+#[derive(Debug, Drop)]
+pub enum KeptLists<'a> {
+    Nothing,
+    Heads(Apart<List<Head<'a>>>),
+    Ids(Apart<List<Id<'a>>>),
+    Several(Apart<BodyLists<'a>>),
+}
+
 /// The instructions of a function, of a first value or of an offset (Core 1.0, 6.5.8). A contract sees the body. What
 /// it doesn't have takes no memory.
 #[derive(Debug, Drop)]
 pub struct KeptBody<'a> {
     code: TextCode,
-    lists: Rare<BodyLists<'a>>,
+    lists: KeptLists<'a>,
 }
 
 impl<'a> Model for KeptBody<'a> {
@@ -82,10 +91,10 @@ impl<'a> KeptBody<'a> {
     pub fn head(&self, place: u32) -> Option<&Head<'a>>
         ensures { option_copied result ≡ slice_get self.now.heads place }
     {
-        let lists = self.lists.get();
-        match lists {
-            None => None,
-            Some(lists) => lists.heads.as_slice().get(place as usize),
+        match &self.lists {
+            KeptLists::Heads(heads) => heads.get().as_slice().get(place as usize),
+            KeptLists::Several(lists) => lists.get().heads.as_slice().get(place as usize),
+            _ => None,
         }
     }
 
@@ -94,10 +103,9 @@ impl<'a> KeptBody<'a> {
     pub fn uses<'b>(&'b self) -> &'b [TypeUse<'b>]
         ensures { result.now ≡ self.now.uses }
     {
-        let lists = self.lists.get();
-        match lists {
-            None => &[],
-            Some(lists) => uses_of(lists),
+        match &self.lists {
+            KeptLists::Several(lists) => uses_of(lists.get()),
+            _ => &[],
         }
     }
 
@@ -106,10 +114,10 @@ impl<'a> KeptBody<'a> {
     pub fn ids<'b>(&'b self) -> &'b [Id<'b>]
         ensures { result.now ≡ self.now.ids }
     {
-        let lists = self.lists.get();
-        match lists {
-            None => &[],
-            Some(lists) => ids_of(lists),
+        match &self.lists {
+            KeptLists::Ids(ids) => ids_in(ids.get()),
+            KeptLists::Several(lists) => ids_in(&lists.get().ids),
+            _ => &[],
         }
     }
 
@@ -118,10 +126,9 @@ impl<'a> KeptBody<'a> {
     pub fn labels(&self) -> &[Operand]
         ensures { result.now ≡ self.now.labels }
     {
-        let lists = self.lists.get();
-        match lists {
-            None => &[],
-            Some(lists) => lists.labels.as_slice(),
+        match &self.lists {
+            KeptLists::Several(lists) => lists.get().labels.as_slice(),
+            _ => &[],
         }
     }
 }
@@ -134,27 +141,29 @@ fn uses_of<'b>(lists: &'b BodyLists<'_>) -> &'b [TypeUse<'b>]
 }
 
 #[inline(always)]
-fn ids_of<'b>(lists: &'b BodyLists<'_>) -> &'b [Id<'b>]
-    ensures { result.now ≡ lists.now.ids }
+fn ids_in<'b>(ids: &'b List<Id<'_>>) -> &'b [Id<'b>]
+    ensures { result.now ≡ ids.now }
 {
-    lists.ids.as_slice()
+    ids.as_slice()
 }
 
-/// Whether each list is empty.
-fn are_empty(lists: &BodyLists<'_>) -> bool
-    ensures { IsTrue result → lists.now ≡ no_lists }
-{
-    lists.heads.is_empty()
-        && lists.uses.is_empty()
-        && lists.ids.is_empty()
-        && lists.labels.is_empty()
-}
-
-fn kept_lists<'a>(alloc: Global, lists: BodyLists<'a>) -> Result<Rare<BodyLists<'a>>, AllocError>
+/// These lists where they stand. The error is want of memory.
+fn kept_lists<'a>(alloc: Global, lists: BodyLists<'a>) -> Result<KeptLists<'a>, AllocError>
     ensures { IfOk result (λ kept. lists_in kept ≡ lists.entry) }
 {
-    if are_empty(&lists) {
-        return Ok(Rare::none());
+    if !lists.uses.is_empty() || !lists.labels.is_empty() {
+        return kept_several(alloc, lists);
     }
-    Rare::some(alloc, lists)
+    match (lists.heads.is_empty(), lists.ids.is_empty()) {
+        (true, true) => Ok(KeptLists::Nothing),
+        (false, true) => Ok(KeptLists::Heads(Apart::new(alloc, lists.heads)?)),
+        (true, false) => Ok(KeptLists::Ids(Apart::new(alloc, lists.ids)?)),
+        (false, false) => kept_several(alloc, lists),
+    }
+}
+
+fn kept_several<'a>(alloc: Global, lists: BodyLists<'a>) -> Result<KeptLists<'a>, AllocError>
+    ensures { IfOk result (λ kept. lists_in kept ≡ lists.entry) }
+{
+    Ok(KeptLists::Several(Apart::new(alloc, lists)?))
 }

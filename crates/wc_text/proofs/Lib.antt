@@ -4,6 +4,7 @@ pub mod Strings
 pub mod Weights
 pub mod Kept
 pub mod Said
+pub mod StringTokens
 pub mod Usual
 pub mod Streams
 pub mod Sizes

@@ -7,7 +7,6 @@ mod fields;
 mod laws;
 mod refusal;
 mod stream;
-mod string;
 mod taking;
 mod text_draft;
 mod words;

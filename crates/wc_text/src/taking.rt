@@ -4,25 +4,29 @@
 //! most texts are made of, the tokens of instructions in which none is nested, is read first, without a look at the
 //! whole table of the grammar.
 
-ghost use Rattle.std.specs.Prelude.{◌≡◌, ◌<◌, ◌^◌, IfErr, OnOk};
+ghost use Rattle.std.specs.Prelude.{◌≡◌, ◌≢◌, ◌<◌, ◌^◌, ◌++◌, ◌∷◌, [], ℕ, List, length};
+ghost use Rattle.std.specs.Prelude.{IfOk, IfErr, OnOk, OnErr};
 ghost use Rattle.wc_tokens.specs.Standard.Lexemes.{HasForm};
 ghost use Rattle.wc_tokens.specs.Standard.Tokens.{lexeme_of};
 ghost use Rattle.wc_tokens.specs.declared.token.TokenKind.TheVariants as tokens;
+ghost use Rattle.wc_syntax.specs.Deriving.{Event};
+ghost use Rattle.wc_syntax.specs.Parsing.{IsRefusal};
+ghost use Rattle.wc_syntax.specs.Reading.{IsRead, kept_as};
+ghost use Rattle.wc_syntax.specs.declared.kind.Kind.{Kind as GrammarKind};
 ghost use Rattle.wc_words.specs.Symbols.{bare};
 ghost use Rattle.wc_words.specs.Tokens.{TokenIs};
 ghost use Rattle.wc_drafts.specs.Standard.Tokens.{kept_token};
-ghost use Rattle.wc_text.specs.Standard.Texts.{with_word};
+ghost use Rattle.wc_text.specs.Standard.Texts.{with_word, take_by};
 ghost use Rattle.wc_text.specs.Kept.SaidSoFar.{SaysMore, Refuses};
 
 use crate::fault::SynFault;
-use crate::string::bytes_of;
 use crate::text_draft::TextDraft;
 use crate::words::take_word;
 use std::alloc::{AllocError, Global};
 use wc_drafts::Word;
-use wc_syntax::{Kind, Reading, Role};
+use wc_syntax::{Kind, Reading, Refusal, Role};
 use wc_tokens::{Token, TokenKind};
-use wc_words::{Symbol, Value, symbol_of};
+use wc_words::{StringValue, Symbol, Value, string_value, symbol_of_string};
 
 /// What a token is whose kind says all.
 #[inline(always)]
@@ -35,37 +39,44 @@ fn bare(kind: Kind) -> Symbol
     }
 }
 
-/// Any token, by the whole table of the grammar.
+/// As what a token of this kind is kept, by the whole table of the grammar. The error is the first fault, or want of
+/// memory; then the reader stands where it stood.
+// It is apart from what is done with a token that is kept, since most of those that come here aren't.
 #[inline(never)]
-fn take_by_table<'a>(
-    alloc: Global,
-    reading: &mut Reading,
-    draft: &mut TextDraft<'a>,
-    at: usize,
-    token: Token<'a>,
-    symbol: Symbol,
-) -> Result<(), SynFault>
-    requires few { at < 2 ^ 32 }
-    requires form { HasForm token.kind token.text.now }
-    requires symbol { TokenIs token.kind token.text.now symbol }
-    ensures said { OnOk result (SaysMore (lexeme_of token.entry) at reading.old draft.old reading.new draft.new) }
-    ensures fault { IfErr result (Refuses (lexeme_of token.entry) at reading.old draft.old) }
+fn role_of(reading: &mut Reading, at: usize, kind: Kind) -> Result<Option<Role>, Refusal>
+    ensures kept { (limit : ℕ) (ks : List GrammarKind) (es : List Event) → IsRead limit ks es reading.old
+        → at ≡ length ks
+        → IfOk result (λ role. IsRead limit (ks ++ kind ∷ []) (es ++ kept_as role at kind) reading.new) }
+    ensures refused { (limit : ℕ) (ks : List GrammarKind) (es : List Event) → IsRead limit ks es reading.old
+        → at ≡ length ks
+        → IfErr result (λ refusal. (more : List GrammarKind) → IsRefusal limit (ks ++ kind ∷ more) refusal) }
+    ensures err { OnErr result (reading.new ≡ reading.old) }
 {
-    let Some(role) = reading.take(at, symbol.kind)? else {
-        return Ok(());
-    };
+    reading.take(at, kind)
+}
+
+/// Keeps any token but a string. The error is want of memory.
+#[inline(never)]
+fn take_kept<'a>(
+    alloc: Global,
+    draft: &mut TextDraft<'a>,
+    role: Role,
+    at: usize,
+    symbol: Symbol,
+    text: &'a str,
+) -> Result<(), AllocError>
+    requires { at < 2 ^ 32 }
+    ensures { OnOk result (draft.new ≡ take_by role (kept_token at symbol text.now) [] draft.old) }
+{
     let word = Word {
         token: at as u32,
         symbol,
-        text: token.text,
+        text,
     };
-    let bytes = bytes_of(alloc, &token)?;
-    draft.take(alloc, role, &word, bytes)?;
-    Ok(())
+    draft.take(alloc, role, &word, StringValue::Plain(""))
 }
 
-/// Any token.
-// The token is copied for the call alone, so that it needs no place in memory where it is read without the table.
+/// Any token but a string.
 #[inline(always)]
 pub(crate) fn take_any<'a>(
     alloc: Global,
@@ -77,11 +88,16 @@ pub(crate) fn take_any<'a>(
 ) -> Result<(), SynFault>
     requires few { at < 2 ^ 32 }
     requires form { HasForm token.now.kind token.now.text.now }
+    requires no_string { token.now.kind ≢ tokens.Str }
     requires symbol { TokenIs token.now.kind token.now.text.now symbol }
     ensures said { OnOk result (SaysMore (lexeme_of token.now) at reading.old draft.old reading.new draft.new) }
     ensures fault { IfErr result (Refuses (lexeme_of token.now) at reading.old draft.old) }
 {
-    take_by_table(alloc, reading, draft, at, *token, symbol)
+    let Some(role) = role_of(reading, at, symbol.kind)? else {
+        return Ok(());
+    };
+    take_kept(alloc, draft, role, at, symbol, token.text)?;
+    Ok(())
 }
 
 /// Keeps a token of an instruction. The error is want of memory.
@@ -149,7 +165,36 @@ fn take_close<'a>(
     take_any(alloc, reading, draft, at, token, symbol)
 }
 
-/// A string: whether it is a name has to be looked up.
+/// A string, by the whole table of the grammar: whether it is a name is seen from what it stands for.
+#[inline(never)]
+fn take_string_by_table<'a>(
+    alloc: Global,
+    reading: &mut Reading,
+    draft: &mut TextDraft<'a>,
+    at: usize,
+    token: Token<'a>,
+) -> Result<(), SynFault>
+    requires few { at < 2 ^ 32 }
+    requires form { HasForm token.kind token.text.now }
+    requires kind { token.kind ≡ tokens.Str }
+    ensures said { OnOk result (SaysMore (lexeme_of token.entry) at reading.old draft.old reading.new draft.new) }
+    ensures fault { IfErr result (Refuses (lexeme_of token.entry) at reading.old draft.old) }
+{
+    let value = string_value(alloc, &token)?;
+    let string = symbol_of_string(&value);
+    let Some(role) = reading.take(at, string.kind)? else {
+        return Ok(());
+    };
+    let word = Word {
+        token: at as u32,
+        symbol: string,
+        text: token.text,
+    };
+    draft.take(alloc, role, &word, value)?;
+    Ok(())
+}
+
+/// A string.
 #[inline(always)]
 fn take_string<'a>(
     alloc: Global,
@@ -160,11 +205,11 @@ fn take_string<'a>(
 ) -> Result<(), SynFault>
     requires few { at < 2 ^ 32 }
     requires form { HasForm token.now.kind token.now.text.now }
+    requires kind { token.now.kind ≡ tokens.Str }
     ensures said { OnOk result (SaysMore (lexeme_of token.now) at reading.old draft.old reading.new draft.new) }
     ensures fault { IfErr result (Refuses (lexeme_of token.now) at reading.old draft.old) }
 {
-    let symbol = symbol_of(token);
-    take_any(alloc, reading, draft, at, token, symbol)
+    take_string_by_table(alloc, reading, draft, at, *token)
 }
 
 /// An identifier.

@@ -1,6 +1,7 @@
 //! Texts that are being said.
 
 ghost use Rattle.std.specs.Prelude.{◌≡◌, OnOk};
+ghost use Rattle.wc_words.specs.Strings.{bytes_in};
 ghost use Rattle.wc_text.specs.Standard.Texts.{nothing, with_word, take_by};
 
 use std::alloc::{AllocError, Global};
@@ -10,6 +11,7 @@ use wc_drafts::Word;
 use wc_fields::FieldDraft;
 use wc_surface::Field;
 use wc_syntax::{Kind, Role};
+use wc_words::StringValue;
 
 /// A text that is being said (Core 1.0, 6.6.13). `take_by` says what each kept token adds.
 #[derive(Debug, Drop)]
@@ -36,9 +38,9 @@ impl<'a> TextDraft<'a> {
         alloc: Global,
         role: Role,
         word: &Word<'a>,
-        bytes: Vec<u8>,
+        value: StringValue<'a>,
     ) -> Result<(), AllocError>
-        ensures { OnOk result (self.new ≡ take_by role word.now bytes.items self.old) }
+        ensures { OnOk result (self.new ≡ take_by role word.now (bytes_in value.entry) self.old) }
     {
         match role {
             Role::Field => {
@@ -47,7 +49,7 @@ impl<'a> TextDraft<'a> {
             }
             Role::FieldEnd => self.end_field(alloc),
             Role::ExportName | Role::ModuleName | Role::ItemName | Role::Bytes => {
-                self.field.take_string(alloc, role, bytes)
+                self.field.take_string(alloc, role, value)
             }
             _ => self.field.take_word(role, word),
         }

@@ -1,6 +1,6 @@
 -- Strings whose bytes are UTF-8.
 use Rattle.std.proofs.Common.{◌≡◌, ℕ, ◌==◌, ◌||◌, Bool, true, false, ◌↔◌, IsTrue, IsUtf8, List}
-use Rattle.std.proofs.Common.{Some, None, [], ◌∷◌, ◌++◌, length, take, get_or}
+use Rattle.std.proofs.Common.{Some, None, [], ◌∷◌, ◌++◌, ◌-◌, length, take, drop, get_or}
 use Rattle.std.proofs.Common.{refl, sym, ap, subst, ◌∙◌, arith, length-append, lit<, append_assoc}
 use Rattle.std.specs.List.{list_any}
 use Rattle.std.proofs.lemmas.Str.{IsUtf8-drop, IsUtf8-take, IsCharBoundary-after_ascii, IsCharBoundary-before_ascii}
@@ -69,6 +69,32 @@ plain-name text bytes u e s =
     let body = (any-append s.body (34 ∷ []) whole).0 in
     let same : bytes ≡ s.body = same-body s.elements body in
     subst IsUtf8 (sym same) (inside s.body (subst IsUtf8 s.text_is u))
+
+take-body : (xs ys : List ℕ) → take (length xs) (xs ++ ys) ≡ xs
+take-body [] ys = refl
+take-body (x ∷ xs) ys = ap (λ (t : List ℕ). x ∷ t) (take-body xs ys)
+
+-- what is between the quotes of a string
+between : (body : List ℕ) (last : ℕ) → last ≡ length (34 ∷ (body ++ 34 ∷ [])) - 1
+    → take (last - 1) (drop 1 (34 ∷ (body ++ 34 ∷ []))) ≡ body
+between body last e =
+    let n : last - 1 ≡ length body = omega (arith, e, length-append body (34 ∷ [])) in
+    rw n (take-body body (34 ∷ []))
+
+-- a string without escapes stands for what is between its quotes
+pub plain-string : (text bytes part : List ℕ) (last : ℕ) → list_any (λ c. c == 92) text ≡ false → IsString text bytes
+    → last ≡ length text - 1 → part ≡ take (last - 1) (drop 1 text) → IsString text part
+plain-string text bytes part last e s is_last is_part =
+    let whole : any_backslash (34 ∷ (s.body ++ 34 ∷ [])) ≡ false = subst (λ (t : List ℕ). any_backslash t ≡ false) s.text_is e in
+    let body = (any-append s.body (34 ∷ []) whole).0 in
+    let same : bytes ≡ s.body = same-body s.elements body in
+    let inner : take (last - 1) (drop 1 text) ≡ s.body =
+    rw s.text_is (between s.body last (subst (λ (t : List ℕ). last ≡ length t - 1) s.text_is is_last)) in
+    record {
+      body = s.body;
+      text_is = s.text_is;
+      elements = subst (λ (t : List ℕ). Elements s.body t) (same ∙ sym inner ∙ sym is_part) s.elements;
+    }
 
 pub string-name : (text bytes : List ℕ) (r : Bool) (s : Symbol) → IsString text bytes → IsTrue r ↔ IsUtf8 bytes
     → r ≡ true → s ≡ bare kind.Name → StringIs text s

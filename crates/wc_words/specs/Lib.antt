@@ -4,5 +4,6 @@ pub mod Names
 pub mod Numbers
 pub mod Ranges
 pub mod Symbols
+pub mod Strings
 pub mod Tokens
 pub mod Words

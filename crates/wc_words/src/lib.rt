@@ -8,6 +8,7 @@ mod name;
 mod number;
 mod shape;
 mod string;
+mod string_values;
 mod symbol;
 mod token;
 mod usual;
@@ -15,6 +16,7 @@ mod utf8;
 mod word;
 
 pub use law::{literals_have_bits, one_symbol, some_symbol};
+pub use string_values::{StringValue, string_value, symbol_of_string};
 pub use symbol::{Symbol, Value};
 pub use token::symbol_of;
 pub use usual::{symbol_of_name, symbol_of_number, usual_name, usual_number};

@@ -75,10 +75,14 @@ started k token = record {
 abbrev pub name_of : List ℕ → List ℕ
 name_of bytes = if is_utf8 bytes then bytes else []
 
+-- the name of one more inline export (6.6.5 to 6.6.8)
+abbrev pub with_inline_export : List ℕ → Names → Names
+with_inline_export name n = record n { exports = n.exports ++ name ∷ [] }
+
 -- the name of an export field, or of one more inline export (6.6.5 to 6.6.9)
 abbrev pub with_export : Kind → List ℕ → Names → Names
 with_export kind.ExportWord name n = record n { item = name }
-with_export _ name n = record n { exports = n.exports ++ name ∷ [] }
+with_export _ name n = with_inline_export name n
 
 -- what a data segment holds, with these bytes behind it (6.6.12)
 abbrev pub with_bytes : List ℕ → Contents → Contents

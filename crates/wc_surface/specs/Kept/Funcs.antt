@@ -1,5 +1,5 @@
 -- Functions as fields hold them.
-use Rattle.std.specs.Prelude.{ℕ, Bool, List, [], Option, None, Some, if◌then◌else◌}
+use Rattle.std.specs.Prelude.{ℕ, Bool, List, Option, None, Some, if◌then◌else◌}
 use Rattle.wc_ast.specs.declared.func_type.FuncType.{FuncType}
 use Rattle.wc_surface.specs.declared.id.Index.{Index}
 use Rattle.wc_surface.specs.declared.id.Index.TheVariants.{Number}
@@ -10,28 +10,11 @@ use Rattle.wc_surface.specs.declared.field.ImportNames.{ImportNames}
 use Rattle.wc_surface.specs.declared.field.FuncField.{FuncField}
 use Rattle.wc_surface.specs.declared.field.FuncDesc.{FuncDesc}
 use Rattle.wc_surface.specs.declared.field.FuncDesc.TheVariants as desc
-use Rattle.wc_surface.specs.declared.kept_func.FuncMore.{FuncMore}
-use Rattle.wc_surface.specs.declared.kept_func.FuncRest.{FuncRest}
+use Rattle.wc_surface.specs.declared.func_parts.FuncParts.{FuncParts}
 use Rattle.wc_surface.specs.declared.kept_func.FuncWord.{FuncWord}
 use Rattle.wc_surface.specs.declared.kept_func.FuncSeen.{FuncSeen}
 use Rattle.wc_surface.specs.declared.kept_func.FuncSeen.TheVariants as seen
 use Rattle.wc_surface.specs.Kept.Uses.{use_with}
-
--- what the fewest have: none of it
-abbrev pub no_more : FuncMore
-no_more = record { index = None; names = []; import = None }
-
-abbrev pub more_in : Option FuncMore → FuncMore
-more_in None = no_more
-more_in (Some more) = more
-
--- what few have: none of it
-abbrev pub no_rest : FuncRest
-no_rest = record { id = None; exports = []; locals = []; more = None }
-
-abbrev pub rest_in : Option FuncRest → FuncRest
-rest_in None = no_rest
-rest_in (Some rest) = rest
 
 -- the type behind `type`: a number stands with the word
 abbrev pub index_with : FuncWord → Option Index → Option Index
@@ -42,17 +25,14 @@ abbrev pub desc_with : Option ImportNames → List Local → TextBody → FuncDe
 desc_with None locals body = desc.Code locals body
 desc_with (Some names) locals body = desc.Import names
 
--- the function of what each has, what few have and what the fewest have
-abbrev pub parts_with : FuncWord → FuncType → TextBody → FuncRest → FuncMore → FuncField
-parts_with word signature body rest more = record {
-  id = rest.id;
-  exports = rest.exports;
-  ty = use_with word.user word.token (index_with word more.index) signature more.names;
-  desc = desc_with more.import rest.locals body;
+-- the function of what each has and of what few have
+abbrev pub func_with : FuncWord → FuncType → TextBody → FuncParts → FuncField
+func_with word signature body parts = record {
+  id = parts.id;
+  exports = parts.exports;
+  ty = use_with word.user word.token (index_with word parts.index) signature parts.names;
+  desc = desc_with parts.import parts.locals body;
 }
-
-abbrev pub func_with : FuncWord → FuncType → TextBody → FuncRest → FuncField
-func_with word signature body rest = parts_with word signature body rest (more_in rest.more)
 
 -- how a function is given, where it is seen
 abbrev pub described : FuncSeen → FuncDesc

@@ -1,16 +1,9 @@
-use Rattle.std.proofs.Common.{◌≡◌, arith, subst, IsUtf8, string_bytes, rules}
-use Rattle.std.proofs.lemmas.Str.{IsUtf8-string_bytes}
-use Rattle.wc_fields.proofs.NameLemmas.{name-kept, name-dropped}
+use Rattle.std.proofs.Common.{◌≡◌, ◌∙◌, sym, ap, subst, IsUtf8}
+use Rattle.wc_words.specs.Strings.{bytes_in}
+use Rattle.wc_fields.proofs.NameLemmas.{name-kept}
 use Rattle.wc_fields.proofs.name.name_of.Goals as goal
 
-pub returns-in-Ok : goal.returns-in-Ok
-returns-in-Ok c =
-    let h = c.in-Ok.ensures.ok in
-    let e : string_bytes c.in-Ok.text ≡ c.args.bytes.items = first_of (cc, search (rules, h), grind (arith, h)) in
-    rw (c.from_string.ensures, c.in-Ok.ensures.ok)
-    (name-kept c.args.bytes.items (subst IsUtf8 e (IsUtf8-string_bytes c.in-Ok.text)))
-
-pub returns : goal.returns
-returns c =
-    rw (c.from_string-in-Err.ensures, c.new.ensures.bytes)
-    (name-dropped c.args.bytes.items (λ u. let h = c.in-Err.ensures.succeeds u in search (rules, h)))
+pub returns-in-Plain : goal.returns-in-Plain
+returns-in-Plain c =
+    let utf8 : IsUtf8 c.in-Plain.text.now = subst IsUtf8 c.as_bytes.ensures.value c.as_bytes.ensures.utf8 in
+    rw (c.piece.ensures, c.in-Plain.is) (name-kept c.in-Plain.text.now utf8)

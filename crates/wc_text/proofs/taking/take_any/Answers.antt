@@ -1,7 +1,8 @@
 use Rattle.std.proofs.lemmas.Result.{err_from_is_err_and}
 use Rattle.wc_body.specs.Standard.Nested.{nesting_limit}
 use Rattle.wc_text.proofs.Said.{said-count, said-dropped, said-kept, said-refused}
-use Rattle.wc_text.proofs.taking.take_by_table.Goals as goal
+use Rattle.wc_text.proofs.StringTokens.{no-string-stands}
+use Rattle.wc_text.proofs.taking.take_any.Goals as goal
 
 pub returns-in_err-role-clause-fault : goal.returns-in_err-role-clause-fault
 returns-in_err-role-clause-fault c =
@@ -20,4 +21,4 @@ pub returns-clause-said : goal.returns-clause-said
 returns-clause-said c = λ ts rest w e.
     said-kept w _ rest _ c.in-Some.role _ _ _ e c.requires.symbol
     (rw c.in-Some.is at (c.in_ok-role.ensures.kept nesting_limit w.kinds w.es w.read (said-count w _ rest e)))
-    c.in_ok-bytes.ensures c.in_ok-take.ensures
+    (no-string-stands _ _ c.requires.no_string) c.in_ok-take_kept.ensures
