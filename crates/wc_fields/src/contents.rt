@@ -63,14 +63,25 @@ impl<'a> Contents<'a> {
     pub(crate) fn take_value(
         &mut self,
         alloc: Global,
-        value: &StringValue<'_>,
+        value: StringValue<'_>,
     ) -> Result<(), AllocError>
-        ensures { OnOk result (self.new ≡ with_bytes (bytes_in value.now) self.old) }
+        ensures { OnOk result (self.new ≡ with_bytes (bytes_in value.entry) self.old) }
     {
         match value {
             StringValue::Plain(text) => self.take_bytes(alloc, text.as_bytes()),
-            StringValue::Bytes(bytes) => self.take_bytes(alloc, bytes.as_slice()),
+            StringValue::Bytes(bytes) => self.take_own_bytes(alloc, bytes),
         }
+    }
+
+    /// More bytes in memory of their own. The first ones keep it. The error is want of memory.
+    fn take_own_bytes(&mut self, alloc: Global, more: Vec<u8>) -> Result<(), AllocError>
+        ensures { OnOk result (self.new ≡ with_bytes more.items self.old) }
+    {
+        if self.bytes.is_empty() {
+            self.bytes = List::from_vec(more);
+            return Ok(());
+        }
+        self.take_bytes(alloc, more.as_slice())
     }
 
     /// More bytes. The error is want of memory.

@@ -89,7 +89,7 @@ impl<'a> FieldDraft<'a> {
             Role::ExportName => return self.names.take_export(alloc, self.kind, name_of(value)),
             Role::ModuleName => self.names.module = name_of(value),
             Role::ItemName => self.names.item = name_of(value),
-            Role::Bytes => return self.contents.take_value(alloc, &value),
+            Role::Bytes => return self.contents.take_value(alloc, value),
             _ => {}
         }
         Ok(())
