@@ -19,6 +19,7 @@ abbrev pub more_in : Option FuncMore → FuncMore
 more_in None = more_with None [] None
 more_in (Some more) = more
 
+-- what few have and what the fewest have, part by part
 abbrev pub spread_with : FuncRest → FuncMore → FuncParts
 spread_with rest more = record {
   id = rest.id;
