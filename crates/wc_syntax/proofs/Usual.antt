@@ -13,7 +13,7 @@ use Rattle.wc_syntax.specs.declared.place.Move.{Move}
 use Rattle.wc_syntax.specs.declared.place.Move.TheVariants.{On, Past, Into, Out}
 use Rattle.wc_syntax.specs.declared.place.Action.{Action}
 use Rattle.wc_syntax.specs.Deriving.{Event}
-use Rattle.wc_syntax.specs.Inner.Table.{step, takes_instrs, takes_folded}
+use Rattle.wc_syntax.specs.Inner.Table.{step, step_rest, rest_of, find, place_rows, or_else, takes_instrs, takes_folded}
 use Rattle.wc_syntax.specs.Inner.Usual.{is_free, takes_name, takes_open, behind_name, begun_frame, ends_by_word, is_opened}
 use Rattle.wc_syntax.specs.Inner.Usual.{opened_part, is_held, behind_index, is_literal, is_offset, is_align}
 use Rattle.wc_syntax.specs.Reading.{Standing, IsRead, one_read, is_deep, moved, action_at, kept_as}
@@ -184,6 +184,8 @@ opens frame.First false e = refl
 opens frame.FoldedRegion true e = refl
 opens frame.FoldedRegion false e = refl
 opens frame.Held deep e = refl
+opens frame.Module deep e = refl
+opens frame.Fields deep e = refl
 opens frame.Then true e = refl
 opens frame.Then false e = refl
 opens frame.Else true e = refl
@@ -194,8 +196,11 @@ part-opens : (q p : Place) (f : Frame) (deep : Bool) → opened_part q ≡ Some 
     → step q f deep kind.Open ≡ dropping (On p)
 part-opens place.Label p f deep e = let h : place.OpenUses ≡ p = cc in ap (λ (x : Place). dropping (On x)) h
 part-opens place.Uses p f deep e = let h : place.OpenUses ≡ p = cc in ap (λ (x : Place). dropping (On x)) h
+part-opens place.FuncId p f deep e = let h : place.OpenUses ≡ p = cc in ap (λ (x : Place). dropping (On x)) h
 part-opens place.Params p f deep e = let h : place.OpenParams ≡ p = cc in ap (λ (x : Place). dropping (On x)) h
 part-opens place.Results p f deep e = let h : place.OpenResults ≡ p = cc in ap (λ (x : Place). dropping (On x)) h
+part-opens place.ExportedId p f deep e = let h : place.OpenExports ≡ p = cc in ap (λ (x : Place). dropping (On x)) h
+part-opens place.Exports p f deep e = let h : place.OpenExports ≡ p = cc in ap (λ (x : Place). dropping (On x)) h
 part-opens _ p f deep e = absurd cc
 
 index-leads : (q p : Place) (f : Frame) (deep : Bool) (k : Kind) → behind_index q k ≡ Some p
@@ -308,3 +313,13 @@ offset-at s k e = offset-leads s.place s.frame (is_deep s) k e
 pub align-at : (s : Standing) (k : Kind) → is_align s.place k ≡ true
     → action_at s k ≡ keeping role.MemAlign (On place.Done)
 align-at s k e = align-leads s.place s.frame (is_deep s) k e
+
+-- what the place itself takes is read
+pub part-by : (n q : ℕ) (ks : List Kind) (es : List Event) (s t u : Standing) (k : Kind) (r : Option Action) (a : Action)
+    (p : Place) → t ≡ s → r ≡ find (place_rows t.place) k → r ≡ Some a → a.go ≡ On p → u ≡ moved (On p) t
+    → IsRead n ks es s → q ≡ length ks → IsRead n (ks ++ k ∷ []) (es ++ kept_as a.keep q k) u
+part-by n q ks es s t u k r a p e f h g i j l =
+    usual-by n q ks es s t u k a.keep (On p) e
+    (ap (λ (x : Option Action). or_else x (step_rest (rest_of t.place) t.frame (is_deep t) k)) (sym f ∙ h)
+    ∙ ap (λ (m : Move). Some (record { keep = a.keep; go = m })) g)
+    i j l

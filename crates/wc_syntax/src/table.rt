@@ -10,7 +10,7 @@ ghost use Rattle.wc_syntax.specs.Inner.Table.{rest_of, takes_instrs, takes_folde
 use crate::kind::Kind;
 use crate::place::{Action, Frame, Place};
 use frames::{frame_step, open_step};
-use places::place_step;
+pub use places::place_step;
 
 /// What is asked after the place's own row.
 #[derive(Clone, Copy, Debug, PartialEq, Eq)]

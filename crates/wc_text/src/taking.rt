@@ -39,8 +39,22 @@ fn bare(kind: Kind) -> Symbol
     }
 }
 
-/// As what a token of this kind is kept, by the whole table of the grammar. The error is the first fault, or want of
-/// memory; then the reader stands where it stood.
+/// As what a token of this kind is kept, by the whole table of the grammar.
+#[inline(never)]
+fn role_by_table(reading: &mut Reading, at: usize, kind: Kind) -> Result<Option<Role>, Refusal>
+    ensures kept { (limit : ℕ) (ks : List GrammarKind) (es : List Event) → IsRead limit ks es reading.old
+        → at ≡ length ks
+        → IfOk result (λ role. IsRead limit (ks ++ kind ∷ []) (es ++ kept_as role at kind) reading.new) }
+    ensures refused { (limit : ℕ) (ks : List GrammarKind) (es : List Event) → IsRead limit ks es reading.old
+        → at ≡ length ks
+        → IfErr result (λ refusal. (more : List GrammarKind) → IsRefusal limit (ks ++ kind ∷ more) refusal) }
+    ensures err { OnErr result (reading.new ≡ reading.old) }
+{
+    reading.take(at, kind)
+}
+
+/// As what a token of this kind is kept. The error is the first fault, or want of memory; then the reader stands where it
+/// stood.
 // It is apart from what is done with a token that is kept, since most of those that come here aren't.
 #[inline(never)]
 fn role_of(reading: &mut Reading, at: usize, kind: Kind) -> Result<Option<Role>, Refusal>
@@ -52,7 +66,10 @@ fn role_of(reading: &mut Reading, at: usize, kind: Kind) -> Result<Option<Role>,
         → IfErr result (λ refusal. (more : List GrammarKind) → IsRefusal limit (ks ++ kind ∷ more) refusal) }
     ensures err { OnErr result (reading.new ≡ reading.old) }
 {
-    reading.take(at, kind)
+    if let Some(role) = reading.take_part(kind) {
+        return Ok(role);
+    }
+    role_by_table(reading, at, kind)
 }
 
 /// Keeps any token but a string. The error is want of memory.

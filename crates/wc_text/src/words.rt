@@ -18,7 +18,8 @@ use std::alloc::Global;
 use wc_syntax::{Kind, Reading, Role};
 use wc_tokens::Token;
 use wc_words::{
-    Symbol, Value, symbol_of, symbol_of_name, symbol_of_number, usual_name, usual_number,
+    Symbol, Value, symbol_of, symbol_of_keyword, symbol_of_name, symbol_of_number, symbol_of_type,
+    usual_keyword, usual_name, usual_number, usual_type,
 };
 
 /// The name of a block, a loop or an if.
@@ -223,9 +224,9 @@ fn take_bare<'a>(
     }
 }
 
-/// A word that has to be looked up.
+/// A word that is none of the most usual ones.
 #[inline(always)]
-fn take_valued<'a>(
+fn take_rare<'a>(
     alloc: Global,
     reading: &mut Reading,
     draft: &mut TextDraft<'a>,
@@ -245,6 +246,32 @@ fn take_valued<'a>(
         Value::Exponent(_) => take_align(alloc, reading, draft, at, token, symbol),
         _ => take_bare(alloc, reading, draft, at, token, symbol),
     }
+}
+
+/// A word that is no name of an instruction and no short number.
+#[inline(always)]
+fn take_other<'a>(
+    alloc: Global,
+    reading: &mut Reading,
+    draft: &mut TextDraft<'a>,
+    at: usize,
+    token: &Token<'a>,
+) -> Result<(), SynFault>
+    requires few { at < 2 ^ 32 }
+    requires form { HasForm token.now.kind token.now.text.now }
+    requires kind { token.now.kind ≡ tokens.Word }
+    ensures said { OnOk result (SaysMore (lexeme_of token.now) at reading.old draft.old reading.new draft.new) }
+    ensures fault { IfErr result (Refuses (lexeme_of token.now) at reading.old draft.old) }
+{
+    if let Some(ty) = usual_type(token.text) {
+        let symbol = symbol_of_type(ty);
+        return take_any(alloc, reading, draft, at, token, symbol);
+    }
+    if let Some(kind) = usual_keyword(token.text) {
+        let symbol = symbol_of_keyword(kind);
+        return take_bare(alloc, reading, draft, at, token, symbol);
+    }
+    take_rare(alloc, reading, draft, at, token)
 }
 
 /// A word.
@@ -270,5 +297,5 @@ pub(crate) fn take_word<'a>(
         let symbol = symbol_of_number(number);
         return take_number(alloc, reading, draft, at, token, symbol);
     }
-    take_valued(alloc, reading, draft, at, token)
+    take_other(alloc, reading, draft, at, token)
 }

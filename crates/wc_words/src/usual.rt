@@ -1,14 +1,16 @@
-//! The most usual words: names of instructions and short numbers, found before a word is asked for all that it may say.
+//! The most usual words: names of instructions and of types, short numbers and keywords, found before a word is asked
+//! for all that it may say.
 
 ghost use Rattle.std.specs.Prelude.{◌≡◌, IfSome};
 ghost use Rattle.wc_words.specs.Names.{op_kind};
-ghost use Rattle.wc_words.specs.Symbols.{valued};
+ghost use Rattle.wc_words.specs.Symbols.{bare, valued};
 ghost use Rattle.wc_words.specs.Words.{WordIs};
 
 use crate::digits::short_decimal;
+use crate::keyword::{keyword_kind, type_named};
 use crate::name::op_kind;
-use crate::symbol::{Symbol, Value, valued};
-use wc_ops::Op;
+use crate::symbol::{Symbol, Value, bare, valued};
+use wc_ops::{Op, ValType};
 use wc_syntax::Kind;
 
 /// The instruction that the word is the name of, if it is found so. It takes no memory.
@@ -27,6 +29,22 @@ pub fn usual_number(word: &str) -> Option<u32>
     short_decimal(word.as_bytes())
 }
 
+/// The kind of the keyword that the word is, if it is found so. It takes no memory.
+#[inline(always)]
+pub fn usual_keyword(word: &str) -> Option<Kind>
+    ensures { IfSome result (λ kind. WordIs word.now (bare kind)) }
+{
+    keyword_kind(word)
+}
+
+/// The type that the word is the name of, if it is found so. It takes no memory.
+#[inline(always)]
+pub fn usual_type(word: &str) -> Option<ValType>
+    ensures { IfSome result (λ ty. WordIs word.now (valued Kind.ValType (Value.ValType ty))) }
+{
+    type_named(word)
+}
+
 /// What the name of an instruction is.
 #[inline(always)]
 pub fn symbol_of_name(op: Op) -> Symbol
@@ -41,4 +59,20 @@ pub fn symbol_of_number(number: u32) -> Symbol
     ensures { result ≡ valued Kind.Natural32 (Value.Number number) }
 {
     valued(Kind::Natural32, Value::Number(u64::from(number)))
+}
+
+/// What a keyword is.
+#[inline(always)]
+pub fn symbol_of_keyword(kind: Kind) -> Symbol
+    ensures { result ≡ bare kind }
+{
+    bare(kind)
+}
+
+/// What the name of a type is.
+#[inline(always)]
+pub fn symbol_of_type(ty: ValType) -> Symbol
+    ensures { result ≡ valued Kind.ValType (Value.ValType ty) }
+{
+    valued(Kind::ValType, Value::ValType(ty))
 }

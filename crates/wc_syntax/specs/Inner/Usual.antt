@@ -30,9 +30,11 @@ takes_name place.MemOffset = true
 takes_name place.MemAlign = true
 takes_name _ = false
 
--- a parenthesis may open an instruction in the frame
+-- a parenthesis may open a field, an instruction or a part in the frame
 abbrev pub takes_open : Frame → Bool
 takes_open frame.Held = true
+takes_open frame.Module = true
+takes_open frame.Fields = true
 takes_open f = takes_instrs f
 
 -- what may follow the name of an instruction in which none is nested
@@ -66,12 +68,15 @@ is_opened place.OpenParams = true
 is_opened place.OpenResults = true
 is_opened _ = false
 
--- the place behind a parenthesis that may be that of a part of a type use
+-- the place behind a parenthesis that may be that of a part in front of the frame's rest
 abbrev pub opened_part : Place → Option Place
 opened_part place.Label = Some place.OpenUses
 opened_part place.Uses = Some place.OpenUses
+opened_part place.FuncId = Some place.OpenUses
 opened_part place.Params = Some place.OpenParams
 opened_part place.Results = Some place.OpenResults
+opened_part place.ExportedId = Some place.OpenExports
+opened_part place.Exports = Some place.OpenExports
 opened_part _ = None
 
 -- the frame of an instruction in front of its operands

@@ -1,7 +1,7 @@
 //! The most usual tokens, those of instructions in which none is nested, read without a look at the whole table.
 
 ghost use Rattle.std.specs.Prelude.{◌≡◌, ◌++◌, ◌∷◌, [], ◌&&◌, ℕ, List, length, true, false, Some, None};
-ghost use Rattle.std.specs.Prelude.{OnErr, IfOk};
+ghost use Rattle.std.specs.Prelude.{OnErr, IfOk, IfSome};
 ghost use Rattle.wc_syntax.specs.Deriving.{Event};
 ghost use Rattle.wc_syntax.specs.Reading.{IsRead, is_deep, kept_as};
 ghost use Rattle.wc_syntax.specs.Inner.Table.{takes_instrs, takes_folded};
@@ -15,7 +15,8 @@ ghost use Rattle.wc_syntax.specs.declared.role.Role.TheVariants as roles;
 use crate::kind::Kind;
 use crate::place::{Frame, Move, Place};
 use crate::reading::Reading;
-use crate::table::{resume, takes_folded, takes_instrs};
+use crate::role::Role;
+use crate::table::{place_step, resume, takes_folded, takes_instrs};
 use std::alloc::AllocError;
 
 /// Nothing has to follow in front of the frame's rest, and no name or parenthesis may.
@@ -48,12 +49,12 @@ fn takes_name(place: Place) -> bool
     )
 }
 
-/// A parenthesis may open an instruction in the frame.
+/// A parenthesis may open a field, an instruction or a part in the frame.
 #[inline(always)]
 fn takes_open(frame: Frame) -> bool
     ensures { result ≡ takes_open frame }
 {
-    matches!(frame, Frame::Held) || takes_instrs(frame)
+    matches!(frame, Frame::Held | Frame::Module | Frame::Fields) || takes_instrs(frame)
 }
 
 /// What may follow the name of an instruction in which none is nested.
@@ -104,15 +105,16 @@ fn is_opened(place: Place) -> bool
     )
 }
 
-/// The place behind a parenthesis that may be that of a part of a type use.
+/// The place behind a parenthesis that may be that of a part in front of the frame's rest.
 #[inline(always)]
 fn opened_part(place: Place) -> Option<Place>
     ensures { result ≡ opened_part place }
 {
     match place {
-        Place::Label | Place::Uses => Some(Place::OpenUses),
+        Place::Label | Place::Uses | Place::FuncId => Some(Place::OpenUses),
         Place::Params => Some(Place::OpenParams),
         Place::Results => Some(Place::OpenResults),
+        Place::ExportedId | Place::Exports => Some(Place::OpenExports),
         _ => None,
     }
 }
@@ -246,7 +248,7 @@ impl Reading {
         false
     }
 
-    /// The parenthesis that opens an instruction, or a part of the type use in front of it.
+    /// The parenthesis that opens a field or an instruction, or a part in front of it.
     #[inline(always)]
     pub fn take_open(&mut self) -> bool
         ensures read { result ≡ true → (limit at : ℕ) (ks : List TokenKind) (es : List Event)
@@ -263,6 +265,24 @@ impl Reading {
             return true;
         }
         false
+    }
+
+    /// A token that the place itself takes, whatever is open; and as what it is kept.
+    #[inline(always)]
+    pub fn take_part(&mut self, kind: Kind) -> Option<Option<Role>>
+        ensures read { IfSome result (λ role. (limit at : ℕ) (ks : List TokenKind) (es : List Event)
+            → IsRead limit ks es self.old → at ≡ length ks
+            → IsRead limit (ks ++ kind ∷ []) (es ++ kept_as role at kind) self.new) }
+        ensures stays { result ≡ None → self.new ≡ self.old }
+    {
+        let Some(action) = place_step(self.place, kind) else {
+            return None;
+        };
+        let Move::On(place) = action.go else {
+            return None;
+        };
+        self.place = place;
+        Some(action.keep)
     }
 
     /// The parenthesis that ends the operands of an instruction in front of them.
