@@ -3,7 +3,14 @@ use Rattle.std.specs.Prelude.{◌≡◌, ℕ, zero, suc, List, [], ◌∷◌, ma
 use Rattle.wc_ops.specs.declared.val_type.ValType.{ValType}
 use Rattle.wc_ops.specs.declared.val_type.ValType.TheVariants.{I32, I64}
 use Rattle.wc_ast.specs.declared.func_type.FuncType.{FuncType}
+use Rattle.wc_surface.specs.declared.signature.KeyBytes.{KeyBytes}
+use Rattle.wc_surface.specs.declared.signature.KeyBytes.TheVariants.{Few, Many}
 use Rattle.wc_surface.specs.Standard.Keys.{func_type, key_of}
+
+-- the bytes, in place or in memory of their own
+abbrev pub key_in : KeyBytes → List ℕ
+key_in (Few bytes) = bytes.items
+key_in (Many bytes) = bytes.items
 
 -- the value type of its byte (Core 1.0, 5.3.1): 0x7F is i32, and any other one stands for i64
 abbrev pub byte_type : ℕ → ValType

@@ -4,10 +4,8 @@ use Rattle.wc_surface.proofs.signature.Signature.new.Goals as goal
 
 pub invariant_of-result : goal.invariant_of-result
 invariant_of-result c =
-    rw (c.in_ok-put_results.ensures, c.in_ok-put_types.ensures, c.new-bytes.ensures.items)
-    (key-is (func_type c.args.params.now c.args.results.now))
+    rw c.in_ok-key_bytes.ensures (key-is (func_type c.args.params.now c.args.results.now))
 
 pub returns : goal.returns
 returns c =
-    rw (c.in_ok-put_results.ensures, c.in_ok-put_types.ensures, c.new-bytes.ensures.items)
-    (key-back (func_type c.args.params.now c.args.results.now))
+    rw c.in_ok-key_bytes.ensures (key-back (func_type c.args.params.now c.args.results.now))
