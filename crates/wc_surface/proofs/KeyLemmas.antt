@@ -1,5 +1,5 @@
 -- Keys read back.
-use Rattle.std.proofs.Common.{◌≡◌, ◌<◌, List, [], ◌∷◌, ◌++◌, length, map, refl, sym, ap, ◌∙◌, arith}
+use Rattle.std.proofs.Common.{◌≡◌, List, [], ◌∷◌, ◌++◌, map, refl, sym, ap, ◌∙◌}
 use Rattle.wc_ops.specs.declared.val_type.ValType.{ValType}
 use Rattle.wc_ops.specs.declared.val_type.ValType.TheVariants.{I32, I64}
 use Rattle.wc_ast.specs.declared.func_type.FuncType.{FuncType}
