@@ -113,7 +113,8 @@ fn put_few_results(bytes: &mut ArrayVec<u8, FEW>, results: &[ValType]) -> Option
 fn many_bytes(alloc: Global, params: &[ValType], results: &[ValType]) -> Result<Vec<u8>, AllocError>
     ensures { IfOk result (λ bytes. bytes.items ≡ key_of (func_type params.now results.now)) }
 {
-    let mut bytes = Vec::new(alloc);
+    let most = params.len().saturating_add(results.len()).saturating_add(1);
+    let mut bytes = Vec::with_capacity(alloc, most)?;
     put_types(&mut bytes, params)?;
     put_results(&mut bytes, results)?;
     Ok(bytes)
