@@ -1,7 +1,7 @@
 //! Type uses that are being said.
 
 ghost use Rattle.std.specs.Prelude.{◌≡◌, IfOk, OnOk};
-ghost use Rattle.wc_drafts.specs.Standard.Uses.{started_use, take_use, use_of, short_type};
+ghost use Rattle.wc_drafts.specs.Standard.Uses.{started_use, begun_use, take_use, use_of, short_type};
 
 use crate::row::Row;
 use crate::word::{Word, identifier_of, index_of};
@@ -104,6 +104,14 @@ impl<'a> UseDraft<'a> {
             Value::ValType(ty) => self.results.push(ty),
             _ => Ok(()),
         }
+    }
+
+    /// Its word has this number.
+    #[inline(always)]
+    pub fn begin(&mut self, token: u32)
+        ensures { self.new ≡ begun_use token self.old }
+    {
+        self.token = token;
     }
 
     /// Another use begins. The memory is kept.

@@ -2,7 +2,7 @@
 
 ghost use Rattle.std.specs.Prelude.{◌≡◌, OnOk};
 ghost use Rattle.wc_words.specs.Strings.{bytes_in};
-ghost use Rattle.wc_fields.specs.Standard.Fields.{started, take_string, take_word};
+ghost use Rattle.wc_fields.specs.Standard.Fields.{started, begun, take_string, take_word};
 
 use crate::code_draft::CodeDraft;
 use crate::contents::Contents;
@@ -57,8 +57,19 @@ impl<'a> FieldDraft<'a> {
         }
     }
 
-    /// A field of this word begins, of which nothing else is said yet. It takes no memory.
-    pub fn restart(&mut self, alloc: Global, kind: Kind, token: u32)
+    /// A field of this word begins. It takes no memory.
+    #[inline(always)]
+    pub fn begin(&mut self, kind: Kind, token: u32)
+        ensures { self.new ≡ begun kind token self.old }
+    {
+        self.kind = kind;
+        self.token = token;
+        self.names.imported = first_import(kind, token);
+        self.ty.begin(token);
+    }
+
+    /// The draft is that of a field of this word, of which nothing else is said yet. It takes no memory.
+    pub(crate) fn restart(&mut self, alloc: Global, kind: Kind, token: u32)
         ensures { self.new ≡ started kind token }
     {
         self.kind = kind;

@@ -29,7 +29,7 @@ use Rattle.wc_fields.specs.declared.locals_draft.LocalsDraft.{LocalsDraft}
 use Rattle.wc_fields.specs.declared.contents.Contents.{Contents}
 use Rattle.wc_fields.specs.declared.code_draft.CodeDraft.{CodeDraft}
 use Rattle.wc_fields.specs.declared.field_draft.FieldDraft.{FieldDraft}
-use Rattle.wc_fields.specs.Standard.Fields.{started, take_string, take_word, take_part, with_use_part, with_local}
+use Rattle.wc_fields.specs.Standard.Fields.{begun, take_string, take_word, take_part, with_use_part, with_local}
 use Rattle.wc_fields.specs.Standard.Finished.{finished_by, finished, asked, func_by, table_by, memory_by, global_by}
 use Rattle.wc_fields.specs.Standard.Finished.{import_by}
 use Rattle.wc_text.specs.declared.text_draft.TextDraft.{TextDraft}
@@ -155,21 +155,13 @@ word-size d _ w = omega arith
 
 -- ---- one more token of a text
 
-started-size : (k : Kind) (token : ℕ) → draft_size (started k token) ≤ 1
-started-size kind.TypeWord token = omega arith
-started-size kind.ImportWord token = omega arith
-started-size kind.FuncWord token = omega arith
-started-size kind.TableWord token = omega arith
-started-size kind.MemoryWord token = omega arith
-started-size kind.GlobalWord token = omega arith
-started-size kind.ExportWord token = omega arith
-started-size kind.ElemWord token = omega arith
-started-size kind.DataWord token = omega arith
-started-size _ token = omega arith
+begun-size : (k : Kind) (token : ℕ) (d : FieldDraft) → draft_size (begun k token d) ≤ draft_size d + 1
+begun-size kind.ImportWord token d = omega arith
+begun-size _ token d = omega arith
 
 by-size : (r : Role) (w : Word) (bytes : List ℕ) (d : TextDraft)
     → text_size (take_by r w bytes d) ≤ text_size d + suc (length bytes)
-by-size role.Field w bytes d = omega (arith, started-size w.symbol.kind w.token)
+by-size role.Field w bytes d = omega (arith, begun-size w.symbol.kind w.token d.field)
 by-size role.FieldEnd w bytes d =
     omega (arith, sum_by-append whole_size d.fields (finished d.field ∷ []), finished-size d.field.kind d.field)
 by-size role.ExportName w bytes d = omega (arith, string-size d.field role.ExportName bytes)

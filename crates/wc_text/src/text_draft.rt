@@ -44,7 +44,7 @@ impl<'a> TextDraft<'a> {
     {
         match role {
             Role::Field => {
-                self.begin_field(alloc, word.symbol.kind, word.token);
+                self.field.begin(word.symbol.kind, word.token);
                 Ok(())
             }
             Role::FieldEnd => self.end_field(alloc),
@@ -66,16 +66,6 @@ impl<'a> TextDraft<'a> {
 
 impl<'a> TextDraft<'a> {
     ghost use Rattle.wc_text.specs.Standard.Texts.{with_field};
-    ghost use Rattle.wc_fields.specs.Standard.Fields.{started};
-
-    /// A field of this kind begins, at this token.
-    #[inline(never)]
-    fn begin_field(&mut self, alloc: Global, kind: Kind, token: u32)
-        ensures fields { self.new.fields ≡ self.old.fields }
-        ensures field { self.new.field ≡ started kind token }
-    {
-        self.field.restart(alloc, kind, token);
-    }
 
     /// The fields so far. It takes no memory.
     // They are taken out, and the rest is let go whole.

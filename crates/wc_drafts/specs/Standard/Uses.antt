@@ -27,6 +27,10 @@ started_use user token = record {
   results = [];
 }
 
+-- its word has this number
+abbrev pub begun_use : ℕ → UseDraft → UseDraft
+begun_use token u = record u { token = token }
+
 -- the name of a parameter with an identifier, behind these parameters
 abbrev pub name_behind : Option Identifier → List ValueType → List ParamName
 name_behind None params = []

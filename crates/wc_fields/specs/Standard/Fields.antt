@@ -17,7 +17,7 @@ use Rattle.wc_surface.specs.declared.type_use.User.TheVariants as user
 use Rattle.wc_surface.specs.Standard.WrittenLocals.{local}
 use Rattle.wc_drafts.specs.declared.word.Word.{Word}
 use Rattle.wc_drafts.specs.Standard.Words.{identifier_of, index_of, number_in}
-use Rattle.wc_drafts.specs.Standard.Uses.{started_use, take_use}
+use Rattle.wc_drafts.specs.Standard.Uses.{started_use, begun_use, take_use}
 use Rattle.wc_drafts.specs.Standard.Taking.{take}
 use Rattle.wc_drafts.specs.Standard.Ending.{nothing_said}
 use Rattle.wc_fields.specs.declared.names.Names.{Names}
@@ -69,6 +69,15 @@ started k token = record {
   global = first_global;
   contents = no_contents;
   code = no_code;
+}
+
+-- A field of this word and its number begins in a draft of which nothing is said.
+abbrev pub begun : Kind → ℕ → FieldDraft → FieldDraft
+begun k token d = record d {
+  kind = k;
+  token = token;
+  names = record d.names { imported = first_import k token };
+  ty = begun_use token d.ty;
 }
 
 -- a string as a name (6.3.4); in a text of the grammar each one here is UTF-8

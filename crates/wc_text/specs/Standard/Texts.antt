@@ -6,7 +6,7 @@ use Rattle.wc_syntax.specs.declared.role.Role.TheVariants as role
 use Rattle.wc_surface.specs.declared.field.Field.{Field}
 use Rattle.wc_drafts.specs.declared.word.Word.{Word}
 use Rattle.wc_text.specs.declared.text_draft.TextDraft.{TextDraft}
-use Rattle.wc_fields.specs.Standard.Fields.{started, take_string, take_word}
+use Rattle.wc_fields.specs.Standard.Fields.{started, begun, take_string, take_word}
 use Rattle.wc_fields.specs.Standard.Finished.{finished}
 
 -- a kept token: what it is to the value, the token, and what a string stands for (nothing, where it is no string)
@@ -29,7 +29,7 @@ with_word r w d = record d { field = take_word d.field r w }
 
 -- a field begins, ends, or has one more part
 abbrev pub take_by : Role → Word → List ℕ → TextDraft → TextDraft
-take_by role.Field w bytes d = record d { field = started w.symbol.kind w.token }
+take_by role.Field w bytes d = record d { field = begun w.symbol.kind w.token d.field }
 take_by role.FieldEnd w bytes d = with_field d
 take_by role.ExportName w bytes d = record d { field = take_string d.field role.ExportName bytes }
 take_by role.ModuleName w bytes d = record d { field = take_string d.field role.ModuleName bytes }
