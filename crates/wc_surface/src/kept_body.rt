@@ -55,6 +55,19 @@ impl<'a> Model for KeptBody<'a> {
 }
 
 impl<'a> KeptBody<'a> {
+    ghost use Rattle.wc_surface.specs.Kept.Bodies.{plain_body};
+
+    /// The body of instructions that name nothing by places. It takes no memory.
+    #[inline(always)]
+    pub(crate) fn of_code(code: TextCode) -> KeptBody<'a>
+        ensures { result ≡ plain_body code }
+    {
+        KeptBody {
+            code,
+            lists: KeptLists::Nothing,
+        }
+    }
+
     /// This body. The error is want of memory.
     pub fn new(alloc: Global, body: TextBody<'a>) -> Result<KeptBody<'a>, AllocError>
         ensures { IfOk result (λ kept. kept ≡ body.entry) }

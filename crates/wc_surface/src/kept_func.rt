@@ -1,6 +1,6 @@
 //! Functions as fields hold them.
 
-ghost use Rattle.std.specs.Prelude.{◌≡◌, IfOk, option_copied};
+ghost use Rattle.std.specs.Prelude.{◌≡◌, None, IfOk, IfSome, option_copied};
 ghost use Rattle.wc_surface.specs.Kept.Funcs.{index_with, desc_with};
 ghost use Rattle.wc_surface.specs.Kept.Parts.{parts_in};
 
@@ -28,6 +28,30 @@ pub struct FuncWord {
     pub(crate) token: u32,
     pub(crate) index_token: u32,
     pub(crate) index: u32,
+}
+
+impl FuncWord {
+    /// What stands with this word, where the type behind `type` is a number, or where there is none. None where it is
+    /// an identifier.
+    #[inline(always)]
+    pub fn of(user: User, token: u32, index: &Option<Index<'_>>) -> Option<FuncWord>
+        ensures user { IfSome result (λ word. word.user ≡ user) }
+        ensures token { IfSome result (λ word. word.token ≡ token) }
+        ensures index { IfSome result (λ word. index_with word None ≡ index.now) }
+    {
+        let (numbered, index_token, value) = match index {
+            None => (false, 0, 0),
+            Some(Index::Number { token, value }) => (true, *token, *value),
+            Some(Index::Named(_)) => return None,
+        };
+        Some(FuncWord {
+            user,
+            numbered,
+            token,
+            index_token,
+            index: value,
+        })
+    }
 }
 
 /// A function (Core 1.0, 6.6.5). A contract sees its parts. What it doesn't have takes no memory.
@@ -65,7 +89,21 @@ pub enum FuncSeen<'b, 'a> {
 }
 
 impl<'a> KeptFunc<'a> {
-    ghost use Rattle.wc_surface.specs.Kept.Funcs.{described};
+    ghost use Rattle.wc_surface.specs.Kept.Funcs.{described, plain_func};
+
+    /// The function of a word, of parameters and results, and of instructions alone: it has none of the parts that few
+    /// functions have, and its instructions name nothing by places. It takes no memory.
+    #[inline(always)]
+    pub fn plain(word: FuncWord, signature: Signature, code: TextCode) -> KeptFunc<'a>
+        ensures { result ≡ plain_func word signature code }
+    {
+        KeptFunc {
+            word,
+            signature,
+            body: KeptBody::of_code(code),
+            parts: KeptParts::Nothing,
+        }
+    }
 
     /// This function. The error is want of memory.
     pub fn new(alloc: Global, func: FuncField<'a>) -> Result<KeptFunc<'a>, AllocError>

@@ -31,7 +31,7 @@ pub use crate::head::{Head, HeadType, TextBody};
 pub use crate::id::{Id, Index};
 pub use crate::instr::{Operand, TextInstr};
 pub use crate::kept_body::KeptBody;
-pub use crate::kept_func::{FuncSeen, KeptFunc};
+pub use crate::kept_func::{FuncSeen, FuncWord, KeptFunc};
 pub use crate::law::one_key;
 pub use crate::local::{Local, LocalGroup, LocalsRef, TextLocals};
 pub use crate::rare::{Apart, Rare};

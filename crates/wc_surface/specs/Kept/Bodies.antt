@@ -24,3 +24,7 @@ lists_in (kept.Several lists) = lists
 abbrev pub body_with : Code TextInstr ℕ → BodyLists → TextBody
 body_with code lists = record
     { code = code; heads = lists.heads; uses = lists.uses; ids = lists.ids; labels = lists.labels }
+
+-- the body of these instructions alone
+abbrev pub plain_body : Code TextInstr ℕ → TextBody
+plain_body code = body_with code (heads_and_ids [] [])

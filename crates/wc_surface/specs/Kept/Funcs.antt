@@ -1,10 +1,13 @@
 -- Functions as fields hold them.
-use Rattle.std.specs.Prelude.{ℕ, Bool, List, Option, None, Some, if◌then◌else◌}
+use Rattle.std.specs.Prelude.{ℕ, Bool, List, [], Option, None, Some, if◌then◌else◌}
 use Rattle.wc_ast.specs.declared.func_type.FuncType.{FuncType}
+use Rattle.wc_body.specs.Standard.Nested.{Code}
+use Rattle.wc_surface.specs.declared.instr.TextInstr.{TextInstr}
 use Rattle.wc_surface.specs.declared.id.Index.{Index}
 use Rattle.wc_surface.specs.declared.id.Index.TheVariants.{Number}
 use Rattle.wc_surface.specs.declared.local.Local.{Local}
 use Rattle.wc_surface.specs.declared.type_use.User.{User}
+use Rattle.wc_surface.specs.declared.type_use.TypeUse.{TypeUse}
 use Rattle.wc_surface.specs.declared.head.TextBody.{TextBody}
 use Rattle.wc_surface.specs.declared.field.ImportNames.{ImportNames}
 use Rattle.wc_surface.specs.declared.field.FuncField.{FuncField}
@@ -15,6 +18,7 @@ use Rattle.wc_surface.specs.declared.kept_func.FuncWord.{FuncWord}
 use Rattle.wc_surface.specs.declared.kept_func.FuncSeen.{FuncSeen}
 use Rattle.wc_surface.specs.declared.kept_func.FuncSeen.TheVariants as seen
 use Rattle.wc_surface.specs.Kept.Uses.{use_with}
+use Rattle.wc_surface.specs.Kept.Bodies.{plain_body}
 
 -- the type behind `type`: a number stands with the word
 abbrev pub index_with : FuncWord → Option Index → Option Index
@@ -32,6 +36,19 @@ func_with word signature body parts = record {
   exports = parts.exports;
   ty = use_with word.user word.token (index_with word parts.index) signature parts.names;
   desc = desc_with parts.import parts.locals body;
+}
+
+-- the type use in which no parameter has an identifier, and the type behind `type` is no identifier
+abbrev pub plain_use : FuncWord → FuncType → TypeUse
+plain_use word signature = use_with word.user word.token (index_with word None) signature []
+
+-- the function of these instructions and such a type use alone
+abbrev pub plain_func : FuncWord → FuncType → Code TextInstr ℕ → FuncField
+plain_func word signature code = record {
+  id = None;
+  exports = [];
+  ty = plain_use word signature;
+  desc = desc.Code [] (plain_body code);
 }
 
 -- how a function is given, where it is seen
