@@ -1,8 +1,9 @@
 //! Instructions of a body that are being said.
 
-ghost use Rattle.std.specs.Prelude.{◌≡◌, IfOk, OnOk};
+ghost use Rattle.std.specs.Prelude.{◌≡◌, IfOk, MatchOption, IsTrue, OnOk};
+ghost use Rattle.wc_surface.specs.Kept.Bodies.{plain_body};
 ghost use Rattle.wc_drafts.specs.Standard.Taking.{take, take_name};
-ghost use Rattle.wc_drafts.specs.Standard.Ending.{nothing_said, ended};
+ghost use Rattle.wc_drafts.specs.Standard.Ending.{nothing_said, body_of, ended};
 
 use crate::awaiting::Awaiting;
 use crate::ending::all_closed;
@@ -13,7 +14,7 @@ use crate::stack::Stack;
 use crate::use_draft::UseDraft;
 use crate::word::{Word, identifier_of};
 use std::alloc::{AllocError, Global};
-use wc_surface::{CodeBuilder, Id, Operand, TextBody, TypeUse, User};
+use wc_surface::{CodeBuilder, Id, Operand, TextBody, TextCode, TypeUse, User};
 use wc_syntax::Role;
 
 /// The instructions of a body that are being said (Core 1.0, 6.5). `take` says what each kept token adds.
@@ -98,6 +99,19 @@ impl<'a> BodyDraft<'a> {
         Ok(body)
     }
 
+    /// The instructions, where they are all of the body: none of them names anything by its place. Else the body stays
+    /// what it was. The error is want of memory.
+    pub fn plain_code(&mut self) -> Result<Option<TextCode>, AllocError>
+        ensures { IfOk result (λ found.
+            MatchOption found (ended self.new ≡ ended self.old) (λ code. plain_body code ≡ ended self.old)) }
+    {
+        self.settle()?;
+        if self.is_code_alone() {
+            return Ok(Some(all_closed(&mut self.code)?));
+        }
+        Ok(None)
+    }
+
     /// Nothing is said any more. The memory of what was said beside the instructions is kept.
     pub fn restart(&mut self)
         ensures { self.new ≡ nothing_said }
@@ -117,6 +131,17 @@ impl<'a> BodyDraft<'a> {
 
 impl<'a> BodyDraft<'a> {
     ghost use Rattle.wc_drafts.specs.Standard.Saying.{settled};
+
+    /// Whether what was said is instructions alone.
+    #[inline(always)]
+    fn is_code_alone(&self) -> bool
+        ensures { IsTrue result → plain_body (body_of self.now).code ≡ body_of self.now }
+    {
+        self.heads.is_empty()
+            && self.uses.as_slice().is_empty()
+            && self.ids.as_slice().is_empty()
+            && self.labels.as_slice().is_empty()
+    }
 
     /// A name, or what ends one, behind an instruction that is whole now.
     #[inline(always)]

@@ -1,6 +1,6 @@
 //! Heads of blocks that are being said.
 
-ghost use Rattle.std.specs.Prelude.{◌≡◌, [], ◌∷◌, ◌++◌, OnOk};
+ghost use Rattle.std.specs.Prelude.{◌≡◌, ◌↔◌, [], ◌∷◌, ◌++◌, IsTrue, OnOk};
 ghost use Rattle.wc_drafts.specs.Standard.Heads.{with_else_id, with_end_id};
 
 use std::alloc::{AllocError, Global};
@@ -42,6 +42,14 @@ impl<'a> Heads<'a> {
     {
         self.items.push(head)?;
         Ok(())
+    }
+
+    /// Whether there is no head.
+    #[inline(always)]
+    pub fn is_empty(&self) -> bool
+        ensures { IsTrue result ↔ (self.now ≡ []) }
+    {
+        self.items.is_empty()
     }
 
     /// The place that the next head will have, as 32 bits hold it.

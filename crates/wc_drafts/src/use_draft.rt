@@ -1,13 +1,14 @@
 //! Type uses that are being said.
 
-ghost use Rattle.std.specs.Prelude.{◌≡◌, IfOk, OnOk};
+ghost use Rattle.std.specs.Prelude.{◌≡◌, IfOk, IfSome, OnOk};
+ghost use Rattle.wc_surface.specs.Kept.Funcs.{plain_use};
 ghost use Rattle.wc_drafts.specs.Standard.Uses.{started_use, begun_use, take_use, use_of, short_type};
 
 use crate::row::Row;
 use crate::word::{Word, identifier_of, index_of};
 use std::alloc::{AllocError, Global};
 use wc_ops::ValType;
-use wc_surface::{Id, Index, ParamName, Signature, TypeUse, User};
+use wc_surface::{FuncWord, Id, Index, ParamName, Signature, TypeUse, User};
 use wc_syntax::Role;
 use wc_words::Value;
 
@@ -54,16 +55,36 @@ impl<'a> UseDraft<'a> {
         Ok(())
     }
 
+    /// The parameters and results that are written. The error is want of memory.
+    #[inline(always)]
+    pub fn signature(&self) -> Result<Signature, AllocError>
+        ensures { IfOk result (λ signature. signature ≡ (use_of self.now).signature) }
+    {
+        Signature::new(
+            self.params.allocator(),
+            self.params.as_slice(),
+            self.results.as_slice(),
+        )
+    }
+
+    /// What stands with the word that it is of, where no parameter has an identifier, and the type behind `type` is a
+    /// number, or there is none. None where one has, or it is an identifier.
+    #[inline(always)]
+    pub fn plain(&self) -> Option<FuncWord>
+        ensures { IfSome result (λ word. use_of self.now ≡ plain_use word (use_of self.now).signature) }
+    {
+        if !self.names.as_slice().is_empty() {
+            return None;
+        }
+        FuncWord::of(self.user, self.token, &self.index)
+    }
+
     /// The type use. Then the draft begins anew. The error is want of memory.
     pub fn said(&mut self) -> Result<TypeUse<'a>, AllocError>
         ensures said { IfOk result (λ u. u ≡ use_of self.old) }
         ensures anew { OnOk result (self.new ≡ started_use self.old.user self.old.token) }
     {
-        let signature = Signature::new(
-            self.params.allocator(),
-            self.params.as_slice(),
-            self.results.as_slice(),
-        )?;
+        let signature = self.signature()?;
         let said = TypeUse {
             user: self.user,
             token: self.token,
