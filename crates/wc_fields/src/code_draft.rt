@@ -1,12 +1,13 @@
 //! Instructions of a field that are being said.
 
-ghost use Rattle.std.specs.Prelude.{◌≡◌, OnOk, IfOk};
+ghost use Rattle.std.specs.Prelude.{◌≡◌, OnOk, IfOk, MatchOption};
+ghost use Rattle.wc_surface.specs.Kept.Bodies.{plain_body};
 ghost use Rattle.wc_drafts.specs.Standard.Ending.{ended};
 ghost use Rattle.wc_fields.specs.Standard.Fields.{no_code, take_code};
 
 use std::alloc::{AllocError, Global};
 use wc_drafts::{BodyDraft, Word};
-use wc_surface::TextBody;
+use wc_surface::{TextBody, TextCode};
 use wc_syntax::Role;
 
 /// Whether an instruction has begun, and the instructions so far (Core 1.0, 6.5).
@@ -49,5 +50,14 @@ impl<'a> CodeDraft<'a> {
         ensures { IfOk result (λ body. body ≡ ended self.old.body) }
     {
         self.body.said()
+    }
+    /// The instructions that were said, where they are all of the body. Else the body stays what it was. The error is
+    /// want of memory.
+    #[inline(always)]
+    pub(crate) fn plain_code(&mut self) -> Result<Option<TextCode>, AllocError>
+        ensures { IfOk result (λ found. MatchOption found (ended self.new.body ≡ ended self.old.body)
+            (λ code. plain_body code ≡ ended self.old.body)) }
+    {
+        self.body.plain_code()
     }
 }

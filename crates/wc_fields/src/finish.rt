@@ -124,7 +124,7 @@ impl<'a> FieldDraft<'a> {
     ghost use Rattle.wc_fields.specs.Standard.Finished.{start_field};
     ghost use Rattle.wc_fields.specs.Standard.Fields.{started};
     ghost use Rattle.wc_syntax.specs.declared.kind.Kind.TheVariants.{OtherWord};
-    ghost use Rattle.std.specs.Prelude.{◌≡◌, IfOk, OnOk};
+    ghost use Rattle.std.specs.Prelude.{◌≡◌, IfOk, MatchOption, OnOk};
 
     /// The field. Then the draft is that of no field. The error is want of memory.
     pub fn said(&mut self, alloc: Global) -> Result<Field<'a>, AllocError>
@@ -143,7 +143,7 @@ impl<'a> FieldDraft<'a> {
         match self.kind {
             Kind::TypeWord => Ok(Field::FuncType(self.take_type()?)),
             Kind::ImportWord => Ok(Field::Import(Apart::new(alloc, self.take_import(alloc)?)?)),
-            Kind::FuncWord => Ok(Field::Func(KeptFunc::new(alloc, self.take_func(alloc)?)?)),
+            Kind::FuncWord => Ok(Field::Func(self.take_kept_func(alloc)?)),
             Kind::TableWord => Ok(Field::Table(self.take_table(alloc)?)),
             Kind::MemoryWord => Ok(Field::Memory(self.take_memory(alloc)?)),
             Kind::GlobalWord => Ok(Field::Global(self.take_global(alloc)?)),
@@ -178,6 +178,41 @@ impl<'a> FieldDraft<'a> {
             names: self.names.take_asked(self.token),
             desc,
         })
+    }
+
+    // Most functions of a text are plain: they are kept without the parts that few have.
+    fn take_kept_func(&mut self, alloc: Global) -> Result<KeptFunc<'a>, AllocError>
+        ensures { IfOk result (λ f. f ≡ func_field self.old) }
+    {
+        match self.take_plain_func()? {
+            Some(func) => Ok(func),
+            None => self.take_any_func(alloc),
+        }
+    }
+
+    #[inline(never)]
+    fn take_any_func(&mut self, alloc: Global) -> Result<KeptFunc<'a>, AllocError>
+        ensures { IfOk result (λ f. f ≡ func_field self.old) }
+    {
+        KeptFunc::new(alloc, self.take_func(alloc)?)
+    }
+
+    /// The function, where it is of its word, its signature and its instructions alone. Else it stays what it was.
+    #[inline(always)]
+    fn take_plain_func(&mut self) -> Result<Option<KeptFunc<'a>>, AllocError>
+        ensures { IfOk result (λ found.
+            MatchOption found (func_field self.new ≡ func_field self.old) (λ f. f ≡ func_field self.old)) }
+    {
+        if !self.names.is_unnamed() || !self.locals.locals.groups().is_empty() {
+            return Ok(None);
+        }
+        let Some(word) = self.ty.plain() else {
+            return Ok(None);
+        };
+        match self.code.plain_code()? {
+            None => Ok(None),
+            Some(code) => Ok(Some(KeptFunc::plain(word, self.ty.signature()?, code))),
+        }
     }
 
     fn take_func(&mut self, alloc: Global) -> Result<FuncField<'a>, AllocError>

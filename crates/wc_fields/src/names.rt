@@ -1,6 +1,6 @@
 //! The names of a field.
 
-ghost use Rattle.std.specs.Prelude.{◌≡◌, OnOk, []};
+ghost use Rattle.std.specs.Prelude.{◌≡◌, None, IsTrue, OnOk, []};
 ghost use Rattle.wc_fields.specs.Standard.Fields.{unnamed, with_export, with_inline_export, take_name};
 ghost use Rattle.wc_fields.specs.Standard.Finished.{asked, asked_at};
 
@@ -109,6 +109,16 @@ impl<'a> Names<'a> {
             module: replace(&mut self.module, no_name()),
             item: replace(&mut self.item, no_name()),
         }
+    }
+
+    /// Whether there is no identifier, no inline export and no word `import`.
+    #[inline(always)]
+    pub(crate) fn is_unnamed(&self) -> bool
+        ensures id { IsTrue result → self.now.id ≡ None }
+        ensures exports { IsTrue result → self.now.exports ≡ [] }
+        ensures imported { IsTrue result → self.now.imported ≡ None }
+    {
+        self.id.is_none() && self.exports.is_empty() && self.imported.is_none()
     }
 
     /// The second name of an import, or the name of an export field. It takes no memory.
