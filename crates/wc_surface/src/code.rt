@@ -1,10 +1,9 @@
 //! The instructions of a text in the order of the binary format.
 
-ghost use Rattle.std.specs.Prelude.{◌≡◌, IfOk};
-ghost use Rattle.wc_surface.specs.Kept.Entries.{entries_in};
+ghost use Rattle.std.specs.Prelude.{◌≡◌};
 
 use crate::instr::TextInstr;
-use std::alloc::{AllocError, Global};
+use std::alloc::Global;
 use std::marker::Model;
 use wc_body::Kind;
 
@@ -22,19 +21,11 @@ pub enum TextEntry {
     End,
 }
 
-/// The entries of instructions: one stands in place, others in memory for these alone.
-#[derive(Debug, Drop)]
-enum Entries {
-    One(TextEntry),
-    Many(Vec<TextEntry>),
-}
-
 /// Instructions of a text, folded ones behind their operands (Core 1.0, 6.5.7), at most `NESTING_LIMIT` nested in one
-/// another. A contract sees nested code, with the place of its head at each block. An instruction alone takes no
-/// memory.
+/// another. A contract sees nested code, with the place of its head at each block.
 #[derive(Debug, Drop)]
 pub struct TextCode {
-    row: Entries,
+    row: Vec<TextEntry>,
 }
 
 impl Model for TextCode {
@@ -48,16 +39,15 @@ impl Model for TextCode {
     ghost coded = { text_code_code };
 
     ghost use Rattle.wc_surface.specs.Standard.Marks.{nested, marks};
-    ghost use Rattle.wc_surface.specs.Kept.Entries.{entries_in};
     ghost use Rattle.wc_body.specs.Drafting.Kept.{IsWhole};
 
-    ghost view = { λ code. nested (entries_in code.row) };
+    ghost view = { λ code. nested code.row.items };
 
-    ghost invariant = { λ code. IsWhole (marks (entries_in code.row)) };
+    ghost invariant = { λ code. IsWhole (marks code.row.items) };
 }
 
 impl TextCode {
-    ghost use Rattle.std.specs.Prelude.{◌≡◌, ◌≤◌, IfOk};
+    ghost use Rattle.std.specs.Prelude.{◌≡◌, ◌≤◌};
     ghost use Rattle.wc_body.specs.Standard.Nested.{empty, flatten, nesting, nesting_limit};
     ghost use Rattle.wc_body.specs.Drafting.Kept.{IsWhole};
     ghost use Rattle.wc_surface.specs.Standard.Marks.{nested, marks};
@@ -66,19 +56,14 @@ impl TextCode {
     pub fn new(alloc: Global) -> TextCode
         ensures { result ≡ empty }
     {
-        TextCode {
-            row: Entries::Many(Vec::new(alloc)),
-        }
+        TextCode::from_row(Vec::new(alloc))
     }
 
-    /// The instructions of these entries. The error is want of memory.
-    pub(crate) fn from_row(alloc: Global, row: &[TextEntry]) -> Result<TextCode, AllocError>
-        requires { IsWhole (marks row.now) }
-        ensures { IfOk result (λ code. code ≡ nested row.now) }
+    pub(crate) fn from_row(row: Vec<TextEntry>) -> TextCode
+        requires { IsWhole (marks row.items) }
+        ensures { result ≡ nested row.items }
     {
-        Ok(TextCode {
-            row: kept_entries(alloc, row)?,
-        })
+        TextCode { row }
     }
 
     /// The entries, in order. Each `Begin` has its `End`. An `Else` stands only before an else part with an
@@ -87,20 +72,6 @@ impl TextCode {
         ensures marks { marks result.now ≡ flatten self.now }
         ensures within { nesting self.now ≤ nesting_limit }
     {
-        match &self.row {
-            Entries::One(entry) => std::slice::from_ref(entry),
-            Entries::Many(row) => row.as_slice(),
-        }
-    }
-}
-
-/// These entries where they stand: one alone takes no memory. The error is want of memory.
-#[inline(always)]
-fn kept_entries(alloc: Global, row: &[TextEntry]) -> Result<Entries, AllocError>
-    ensures { IfOk result (λ kept. entries_in kept ≡ row.now) }
-{
-    match row {
-        [entry] => Ok(Entries::One(*entry)),
-        _ => Ok(Entries::Many(Vec::from_slice(alloc, row)?)),
+        self.row.as_slice()
     }
 }
