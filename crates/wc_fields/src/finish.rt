@@ -15,7 +15,7 @@ use wc_drafts::UseDraft;
 use wc_surface::{
     Apart, DataField, ElemField, ExportField, Field, FuncDesc, FuncField, GlobalDesc, GlobalField,
     ImportDesc, ImportField, ImportNames, Index, KeptBody, KeptFunc, MemoryDesc, MemoryField, Rare,
-    StartField, TableDesc, TableField, TextLocals, TypeField, TypeUse,
+    RareList, StartField, TableDesc, TableField, TextLocals, TypeField, TypeUse,
 };
 use wc_syntax::Kind;
 
@@ -264,7 +264,7 @@ impl<'a> FieldDraft<'a> {
         let imported = self.names.take_imported();
         Ok(GlobalField {
             id: Rare::of(alloc, id)?,
-            exports,
+            exports: RareList::of(alloc, exports)?,
             ty: self.global,
             desc: global_by(alloc, imported, &mut self.code)?,
         })

@@ -1,6 +1,7 @@
 -- What the types keep.
 pub mod Keyed
 pub mod Building
+pub mod Entries
 pub mod Lengthening
 pub mod Names
 pub mod Parts

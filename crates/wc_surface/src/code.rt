@@ -1,9 +1,10 @@
 //! The instructions of a text in the order of the binary format.
 
-ghost use Rattle.std.specs.Prelude.{◌≡◌};
+ghost use Rattle.std.specs.Prelude.{◌≡◌, IfOk};
+ghost use Rattle.wc_surface.specs.Kept.Entries.{entries_in};
 
 use crate::instr::TextInstr;
-use std::alloc::Global;
+use std::alloc::{AllocError, Global};
 use std::marker::Model;
 use wc_body::Kind;
 
@@ -21,11 +22,19 @@ pub enum TextEntry {
     End,
 }
 
+/// The entries of instructions: one stands in place, others in memory for these alone.
+#[derive(Debug, Drop)]
+enum Entries {
+    One(TextEntry),
+    Many(Vec<TextEntry>),
+}
+
 /// Instructions of a text, folded ones behind their operands (Core 1.0, 6.5.7), at most `NESTING_LIMIT` nested in one
-/// another. A contract sees nested code, with the place of its head at each block.
+/// another. A contract sees nested code, with the place of its head at each block. An instruction alone takes no
+/// memory.
 #[derive(Debug, Drop)]
 pub struct TextCode {
-    row: Vec<TextEntry>,
+    row: Entries,
 }
 
 impl Model for TextCode {
@@ -39,15 +48,16 @@ impl Model for TextCode {
     ghost coded = { text_code_code };
 
     ghost use Rattle.wc_surface.specs.Standard.Marks.{nested, marks};
+    ghost use Rattle.wc_surface.specs.Kept.Entries.{entries_in};
     ghost use Rattle.wc_body.specs.Drafting.Kept.{IsWhole};
 
-    ghost view = { λ code. nested code.row.items };
+    ghost view = { λ code. nested (entries_in code.row) };
 
-    ghost invariant = { λ code. IsWhole (marks code.row.items) };
+    ghost invariant = { λ code. IsWhole (marks (entries_in code.row)) };
 }
 
 impl TextCode {
-    ghost use Rattle.std.specs.Prelude.{◌≡◌, ◌≤◌};
+    ghost use Rattle.std.specs.Prelude.{◌≡◌, ◌≤◌, IfOk};
     ghost use Rattle.wc_body.specs.Standard.Nested.{empty, flatten, nesting, nesting_limit};
     ghost use Rattle.wc_body.specs.Drafting.Kept.{IsWhole};
     ghost use Rattle.wc_surface.specs.Standard.Marks.{nested, marks};
@@ -56,14 +66,19 @@ impl TextCode {
     pub fn new(alloc: Global) -> TextCode
         ensures { result ≡ empty }
     {
-        TextCode::from_row(Vec::new(alloc))
+        TextCode {
+            row: Entries::Many(Vec::new(alloc)),
+        }
     }
 
-    pub(crate) fn from_row(row: Vec<TextEntry>) -> TextCode
-        requires { IsWhole (marks row.items) }
-        ensures { result ≡ nested row.items }
+    /// The instructions of these entries. The error is want of memory.
+    pub(crate) fn from_row(alloc: Global, row: &[TextEntry]) -> Result<TextCode, AllocError>
+        requires { IsWhole (marks row.now) }
+        ensures { IfOk result (λ code. code ≡ nested row.now) }
     {
-        TextCode { row }
+        Ok(TextCode {
+            row: kept_entries(alloc, row)?,
+        })
     }
 
     /// The entries, in order. Each `Begin` has its `End`. An `Else` stands only before an else part with an
@@ -72,6 +87,20 @@ impl TextCode {
         ensures marks { marks result.now ≡ flatten self.now }
         ensures within { nesting self.now ≤ nesting_limit }
     {
-        self.row.as_slice()
+        match &self.row {
+            Entries::One(entry) => std::slice::from_ref(entry),
+            Entries::Many(row) => row.as_slice(),
+        }
+    }
+}
+
+/// These entries where they stand: one alone takes no memory. The error is want of memory.
+#[inline(always)]
+fn kept_entries(alloc: Global, row: &[TextEntry]) -> Result<Entries, AllocError>
+    ensures { IfOk result (λ kept. entries_in kept ≡ row.now) }
+{
+    match row {
+        [entry] => Ok(Entries::One(*entry)),
+        _ => Ok(Entries::Many(Vec::from_slice(alloc, row)?)),
     }
 }

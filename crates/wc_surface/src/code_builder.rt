@@ -144,9 +144,9 @@ impl CodeBuilder {
         Ok(())
     }
 
-    /// The instructions, in order, in memory for these alone. Then nothing is built, and the builder's memory is kept for
-    /// what comes next. After an error the builder is as it was: `Mark` where something is open, and `Memory` only where
-    /// memory was refused.
+    /// The instructions, in order, in memory for these alone; one alone takes none. Then nothing is built, and the
+    /// builder's memory is kept for what comes next. After an error the builder is as it was: `Mark` where something is
+    /// open, and `Memory` only where memory was refused.
     pub fn finish(&mut self) -> Result<TextCode, BuildFault>
         ensures ok { IfOk result (λ code. self.old ≡ whole code) }
         ensures anew { OnOk result (self.new ≡ whole empty) }
@@ -157,9 +157,9 @@ impl CodeBuilder {
         if self.depth() > 0 {
             return Err(BuildFault::Mark);
         }
-        let row = Vec::from_slice(*self.row.allocator(), self.row.as_slice())?;
+        let code = TextCode::from_row(*self.row.allocator(), self.row.as_slice())?;
         self.clear();
-        Ok(TextCode::from_row(row))
+        Ok(code)
     }
 
     /// Nothing is built any more. The memory is kept.

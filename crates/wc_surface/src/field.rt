@@ -5,7 +5,7 @@ use crate::id::{Id, Index};
 use crate::kept_body::KeptBody;
 use crate::kept_func::KeptFunc;
 use crate::local::TextLocals;
-use crate::rare::{Apart, Rare};
+use crate::rare::{Apart, Rare, RareList};
 use crate::segment::{DataField, ElemField};
 use crate::signature::Signature;
 use crate::text_name::TextName;
@@ -125,7 +125,7 @@ pub enum MemoryDesc<'a> {
 pub struct GlobalField<'a> {
     pub id: Rare<Id<'a>>,
     /// The names under which it is exported.
-    pub exports: List<TextName<'a>>,
+    pub exports: RareList<TextName<'a>>,
     pub ty: GlobalType,
     pub desc: GlobalDesc<'a>,
 }

@@ -3,6 +3,7 @@
 
 pub mod code;
 pub mod code_builder;
+mod few_bytes;
 pub mod field;
 pub mod func_parts;
 pub mod head;
@@ -34,7 +35,7 @@ pub use crate::kept_body::KeptBody;
 pub use crate::kept_func::{FuncSeen, FuncWord, KeptFunc};
 pub use crate::law::one_key;
 pub use crate::local::{Local, LocalGroup, LocalsRef, TextLocals};
-pub use crate::rare::{Apart, Rare};
+pub use crate::rare::{Apart, Rare, RareList};
 pub use crate::segment::{DataField, ElemField};
 pub use crate::signature::Signature;
 pub use crate::surface::Surface;

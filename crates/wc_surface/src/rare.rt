@@ -4,6 +4,7 @@ ghost use Rattle.std.specs.Prelude.{◌≡◌, None, Some, IfOk, option_copied};
 
 use std::alloc::{AllocError, Global};
 use std::marker::Model;
+use wc_ast::List;
 
 /// A value that stands in memory of its own. A contract sees the value.
 #[derive(Debug, Drop)]
@@ -93,5 +94,48 @@ impl<T: Drop> Rare<T> {
             None => Ok(Rare::none()),
             Some(value) => Rare::some(alloc, value),
         }
+    }
+}
+
+/// A list that seldom has items: it stands in memory of its own, and where it has none, it takes no memory. A contract
+/// sees the items.
+#[derive(Debug, Drop)]
+pub struct RareList<T> {
+    list: Rare<List<T>>,
+}
+
+impl<T> Model for RareList<T> {
+    ghost use Rattle.std.specs.Prelude.{List};
+    ghost use Rattle.wc_surface.specs.Kept.Rare.{items_in};
+
+    ghost Value = { List T };
+
+    ghost view = { λ rare. items_in rare.list };
+}
+
+impl<T> RareList<T> {
+    /// The items, in order.
+    #[inline(always)]
+    pub fn as_slice(&self) -> &[T]
+        ensures { result.now ≡ self.now }
+    {
+        match self.list.get() {
+            None => &[],
+            Some(list) => list.as_slice(),
+        }
+    }
+}
+
+impl<T: Drop> RareList<T> {
+    /// This list. The error is want of memory.
+    pub fn of(alloc: Global, list: List<T>) -> Result<RareList<T>, AllocError>
+        ensures { IfOk result (λ rare. rare ≡ list) }
+    {
+        if list.is_empty() {
+            return Ok(RareList { list: Rare::none() });
+        }
+        Ok(RareList {
+            list: Rare::some(alloc, list)?,
+        })
     }
 }

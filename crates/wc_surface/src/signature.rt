@@ -4,24 +4,21 @@ ghost use Rattle.std.specs.Prelude.{◌≡◌, ◌++◌, ◌∷◌, IfOk, OnOk, 
 ghost use Rattle.wc_surface.specs.Kept.Keyed.{key_in};
 ghost use Rattle.wc_surface.specs.Standard.Keys.{func_type, type_byte, type_bytes, result_bytes, key_of};
 
+use crate::few_bytes::FewBytes;
 use crate::rare::Apart;
-use arrayvec::ArrayVec;
 use std::alloc::{AllocError, Global};
 use std::marker::Model;
 use wc_ops::ValType;
 
-/// How many bytes of a key lie in place at most.
-const FEW: usize = 8;
-
 /// The bytes of a key: in place, or in memory of their own.
 #[derive(Debug, Drop)]
 enum KeyBytes {
-    Few(ArrayVec<u8, FEW>),
+    Few(FewBytes),
     Many(Apart<Vec<u8>>),
 }
 
 /// Parameters and results as they are written (Core 1.0, 6.4.3). A contract sees the function type. It is kept as its
-/// key, one row of bytes. One of up to 8 bytes takes no memory of its own.
+/// key, one row of bytes. One of up to 14 bytes takes no memory of its own.
 #[derive(Debug, Drop)]
 pub struct Signature {
     bytes: KeyBytes,
@@ -40,7 +37,7 @@ impl Model for Signature {
 }
 
 impl Signature {
-    /// The function type of these parameters and results. A key of up to 8 bytes takes no memory. The error is want of
+    /// The function type of these parameters and results. A key of up to 14 bytes takes no memory. The error is want of
     /// memory.
     pub fn new(
         alloc: Global,
@@ -79,33 +76,33 @@ fn key_bytes(alloc: Global, params: &[ValType], results: &[ValType]) -> Result<K
 
 /// The key of these parameters and results, where it lies in place.
 #[inline(always)]
-fn few_bytes(params: &[ValType], results: &[ValType]) -> Option<ArrayVec<u8, FEW>>
-    ensures { IfSome result (λ bytes. bytes.items ≡ key_of (func_type params.now results.now)) }
+fn few_bytes(params: &[ValType], results: &[ValType]) -> Option<FewBytes>
+    ensures { IfSome result (λ bytes. bytes ≡ key_of (func_type params.now results.now)) }
 {
-    let mut bytes = ArrayVec::new();
+    let mut bytes = FewBytes::new();
     put_few_types(&mut bytes, params)?;
     put_few_results(&mut bytes, results)?;
     Some(bytes)
 }
 
 #[inline(always)]
-fn put_few_types(bytes: &mut ArrayVec<u8, FEW>, types: &[ValType]) -> Option<()>
-    ensures { OnSome result (bytes.new.items ≡ bytes.old.items ++ type_bytes types.now) }
+fn put_few_types(bytes: &mut FewBytes, types: &[ValType]) -> Option<()>
+    ensures { OnSome result (bytes.new ≡ bytes.old ++ type_bytes types.now) }
 {
     for value_type in types {
-        bytes.try_push(byte_of(*value_type)).ok()?;
+        bytes.try_push(byte_of(*value_type))?;
     }
     Some(())
 }
 
 #[inline(always)]
-fn put_few_results(bytes: &mut ArrayVec<u8, FEW>, results: &[ValType]) -> Option<()>
-    ensures { OnSome result (bytes.new.items ≡ bytes.old.items ++ result_bytes results.now) }
+fn put_few_results(bytes: &mut FewBytes, results: &[ValType]) -> Option<()>
+    ensures { OnSome result (bytes.new ≡ bytes.old ++ result_bytes results.now) }
 {
     if results.is_empty() {
         return Some(());
     }
-    bytes.try_push(0).ok()?;
+    bytes.try_push(0)?;
     put_few_types(bytes, results)
 }
 

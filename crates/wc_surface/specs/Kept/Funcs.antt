@@ -1,12 +1,11 @@
 -- Functions as fields hold them.
-use Rattle.std.specs.Prelude.{ℕ, Bool, List, [], Option, None, Some, if◌then◌else◌}
+use Rattle.std.specs.Prelude.{ℕ, List, [], Option, None, Some, if◌then◌else◌}
 use Rattle.wc_ast.specs.declared.func_type.FuncType.{FuncType}
 use Rattle.wc_body.specs.Standard.Nested.{Code}
 use Rattle.wc_surface.specs.declared.instr.TextInstr.{TextInstr}
 use Rattle.wc_surface.specs.declared.id.Index.{Index}
 use Rattle.wc_surface.specs.declared.id.Index.TheVariants.{Number}
 use Rattle.wc_surface.specs.declared.local.Local.{Local}
-use Rattle.wc_surface.specs.declared.type_use.User.{User}
 use Rattle.wc_surface.specs.declared.type_use.TypeUse.{TypeUse}
 use Rattle.wc_surface.specs.declared.head.TextBody.{TextBody}
 use Rattle.wc_surface.specs.declared.field.ImportNames.{ImportNames}

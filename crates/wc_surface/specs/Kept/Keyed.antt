@@ -9,7 +9,7 @@ use Rattle.wc_surface.specs.Standard.Keys.{func_type, key_of}
 
 -- the bytes, in place or in memory of their own
 abbrev pub key_in : KeyBytes → List ℕ
-key_in (Few bytes) = bytes.items
+key_in (Few bytes) = bytes
 key_in (Many bytes) = bytes.items
 
 -- the value type of its byte (Core 1.0, 5.3.1): 0x7F is i32, and any other one stands for i64

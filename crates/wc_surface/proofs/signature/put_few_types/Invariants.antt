@@ -4,4 +4,4 @@ use Rattle.wc_surface.proofs.signature.put_few_types.Given as goal
 
 abbrev pub invariant-loop-value_type : goal.invariant-loop-value_type
 invariant-loop-value_type l =
-    l.bytes.items ≡ l.initial.bytes.items ++ type_bytes (take l.value_type-index l.types)
+    l.bytes ≡ l.initial.bytes ++ type_bytes (take l.value_type-index l.types)

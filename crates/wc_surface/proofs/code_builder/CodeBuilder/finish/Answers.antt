@@ -7,10 +7,10 @@ use Rattle.wc_surface.proofs.code_builder.CodeBuilder.finish.Goals as goal
 pub from_row-requires : goal.from_row-requires
 from_row-requires c =
     let z : length (drafted c.self.inside.row.items).around ≡ 0 = rw c.self.view_is (omega arith) in
-    rw (c.in_ok-row.ensures.items, c.as_slice.ensures.value) (building-whole part_in _ _ c.self.invariant.building z).0
+    rw c.as_slice.ensures.value (building-whole part_in _ _ c.self.invariant.building z).0
 
 pub returns-clause-ok : goal.returns-clause-ok
 returns-clause-ok c =
     let z : length (drafted c.self.inside.row.items).around ≡ 0 = rw c.self.view_is (omega arith) in
-    rw (← c.self.view_is, c.from_row.ensures, c.in_ok-row.ensures.items, c.as_slice.ensures.value)
+    rw (← c.self.view_is, c.in_ok-code.ensures, c.as_slice.ensures.value)
     ((building-whole part_in _ _ c.self.invariant.building z).1)
