@@ -1,7 +1,7 @@
 -- Declarations one after another.
 use Rattle.std.proofs.Common.{◌≡◌, ℕ, ◌+◌, ◌<◌, List, [], ◌∷◌, ◌++◌, length, drop, get_or, map, Option, Some, None}
 use Rattle.std.proofs.Common.{refl, sym, ap, ◌∙◌, append_assoc}
-use Rattle.std.proofs.lemmas.List.{map-append, append-nil}
+use Rattle.std.proofs.lemmas.List.{map-append}
 use Rattle.wc_targets.specs.declared.why.NameWhy.{NameWhy}
 use Rattle.wc_targets.specs.declared.why.NameWhy.TheVariants.{DuplicateId}
 use Rattle.wc_spaces.specs.declared.noted.Fault.{Fault}

@@ -1,13 +1,11 @@
 -- Types one after another.
-use Rattle.std.proofs.Common.{◌≡◌, ℕ, ◌+◌, ◌<◌, ◌≤◌, Bool, true, false, cond, List, [], ◌∷◌, ◌++◌, length, drop}
+use Rattle.std.proofs.Common.{◌≡◌, ℕ, ◌+◌, ◌<◌, ◌≤◌, List, [], ◌∷◌, ◌++◌, length, drop}
 use Rattle.std.proofs.Common.{get_or, map}
-use Rattle.std.proofs.Common.{is_some, sum_by, refl, sym, ap, ◌∙◌, subst, arith, length-append}
-use Rattle.std.proofs.lemmas.List.{map-append}
+use Rattle.std.proofs.Common.{sum_by, refl, sym, ap, ◌∙◌, arith, length-append}
 use Rattle.std.proofs.lemmas.List.Sums.{sum_by-cons}
 use Rattle.wc_ast.specs.declared.func_type.FuncType.{FuncType}
 use Rattle.wc_spaces.specs.declared.types.Types.{Types}
 use Rattle.wc_spaces.specs.Kept.Types.{AreTypes}
-use Rattle.wc_spaces.specs.Standard.Types as keys
 use Rattle.wc_surface.specs.Standard.Keys.{key_of}
 use Rattle.wc_surface.specs.Standard.Sizes.{use_size, func_size, global_size, import_size, inner_size, field_size}
 use Rattle.wc_surface.specs.declared.type_use.TypeUse.{TypeUse}
@@ -19,8 +17,8 @@ use Rattle.wc_surface.specs.declared.field.FuncDesc.{FuncDesc}
 use Rattle.wc_surface.specs.declared.field.FuncDesc.TheVariants as func
 use Rattle.wc_surface.specs.declared.field.GlobalDesc.{GlobalDesc}
 use Rattle.wc_surface.specs.declared.field.GlobalDesc.TheVariants as global
-use Rattle.wc_declared.specs.Standard.Types.{import_uses, func_uses, global_uses, uses_of, all_uses, type_index}
-use Rattle.wc_declared.specs.Standard.Types.{with_type, with_use, with_uses}
+use Rattle.wc_declared.specs.Standard.Types.{import_uses, func_uses, global_uses, uses_of, all_uses}
+use Rattle.wc_declared.specs.Standard.Types.{with_use, with_uses}
 use Rattle.wc_declared.proofs.Faults.{next}
 
 -- types behind others

@@ -4,6 +4,8 @@ pub mod Ordering
 pub mod Growing
 pub mod Naming
 pub mod Beyond
+pub mod Joining
 pub mod Staging
+pub mod Walking
 pub mod ImportsFirst
 pub mod ReadBack

@@ -3,3 +3,4 @@ pub mod Found
 pub mod Seen
 pub mod Rest
 pub mod Declaring
+pub mod Gathered

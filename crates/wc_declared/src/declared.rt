@@ -1,24 +1,18 @@
 //! What a text declares.
 
-ghost use Rattle.std.specs.Prelude.{◌≡◌, ◌<◌, ◌^◌, None, IfOk, IfErr, OnOk, length};
-ghost use Rattle.wc_spaces.specs.Standard.Least.{least_from};
-ghost use Rattle.wc_declared.specs.Standard.Stages.{declaration_faults, first_fault};
-ghost use Rattle.wc_declared.specs.Standard.Spaces.{space_faults};
-ghost use Rattle.wc_declared.specs.Kept.Declaring.{AreSpaces, IsDeclared, IsFault, IsNoted};
+ghost use Rattle.std.specs.Prelude.{◌≡◌, None, IfOk, IfErr};
+ghost use Rattle.wc_declared.specs.Standard.Stages.{first_fault};
+ghost use Rattle.wc_declared.specs.Kept.Declaring.{IsDeclared, IsFault, IsNoted};
 
 use crate::fault::NameFault;
-use crate::inner::note_inner;
+use crate::gathering::{Gathered, gather};
 use crate::judging::{index_of, judge_fields};
 use crate::keyed::type_of_key;
-use crate::kind::SpaceKind;
 use crate::listing::final_types;
-use crate::order::{note_late, note_second};
-use crate::room::room_for;
-use crate::spaces::space;
 use std::alloc::{AllocError, Global};
 use wc_ast::{FuncType, List};
 use wc_spaces::{Noted, Space, Types};
-use wc_surface::{Field, Surface, UseRef};
+use wc_surface::{Surface, UseRef};
 use wc_targets::NameWhy;
 
 /// The index spaces of a text (Core 1.0, 6.6.1).
@@ -69,47 +63,6 @@ impl<'a> Declared<'a> {
     }
 }
 
-fn all_spaces<'a>(
-    alloc: Global,
-    fields: &'a [Field<'_>],
-    noted: &mut Noted<NameWhy>,
-) -> Result<Spaces<'a>, AllocError>
-    requires { length fields.now < 2 ^ 32 }
-    ensures spaces { IfOk result (AreSpaces fields.now) }
-    ensures noted { OnOk result (noted.new.first ≡ least_from noted.old.first (space_faults fields.now)) }
-{
-    let room = room_for(fields);
-    let types = space(alloc, SpaceKind::Type, room.types, fields, noted)?;
-    let funcs = space(alloc, SpaceKind::Func, room.funcs, fields, noted)?;
-    let tables = space(alloc, SpaceKind::Table, room.tables, fields, noted)?;
-    let memories = space(alloc, SpaceKind::Memory, room.memories, fields, noted)?;
-    let globals = space(alloc, SpaceKind::Global, room.globals, fields, noted)?;
-    Ok(Spaces {
-        types,
-        funcs,
-        tables,
-        memories,
-        globals,
-    })
-}
-
-/// The index spaces. What is wrong with declarations is noted.
-fn judged_spaces<'a>(
-    alloc: Global,
-    fields: &'a [Field<'_>],
-    noted: &mut Noted<NameWhy>,
-) -> Result<Spaces<'a>, AllocError>
-    requires { length fields.now < 2 ^ 32 }
-    ensures spaces { IfOk result (AreSpaces fields.now) }
-    ensures noted { OnOk result (noted.new.first ≡ least_from noted.old.first (declaration_faults fields.now)) }
-{
-    let spaces = all_spaces(alloc, fields, noted)?;
-    note_late(fields, noted);
-    note_second(fields, noted);
-    note_inner(alloc, fields, noted)?;
-    Ok(spaces)
-}
-
 /// No fault, or the one that is noted.
 fn answer(noted: &Noted<NameWhy>) -> Result<(), NameFault>
     ensures none { IfOk result (λ _. noted.now.first ≡ None) }
@@ -133,10 +86,10 @@ pub fn declare<'a>(alloc: Global, surface: &'a Surface<'_>) -> Result<Declared<'
 {
     let fields = surface.fields();
     let mut declarations = Noted::nothing();
-    let spaces = judged_spaces(alloc, fields, &mut declarations)?;
+    let Gathered { spaces, types } = gather(alloc, fields, &mut declarations)?;
     answer(&declarations)?;
     let mut uses = Noted::nothing();
-    let types = final_types(alloc, fields)?;
+    let types = final_types(types, fields)?;
     judge_fields(&types, &spaces.types, fields, &mut uses);
     answer(&uses)?;
     Ok(Declared { spaces, types })

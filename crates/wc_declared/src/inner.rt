@@ -1,7 +1,6 @@
 //! Identifiers inside functions, and how many locals they declare.
 
 ghost use Rattle.std.specs.Prelude.{◌≡◌, ◌++◌, ◌∷◌, [], ℕ, List, Option, Some, OnOk, if◌then◌else◌};
-ghost use Rattle.std.specs.List.{flat_map};
 ghost use Rattle.wc_spaces.specs.Standard.Least.{least_from};
 ghost use Rattle.wc_surface.specs.Standard.WrittenLocals.{locals_of as group_locals, written_out, AreNumbered};
 ghost use Rattle.wc_targets.specs.declared.why.NameWhy.TheVariants.{DuplicateId};
@@ -140,7 +139,7 @@ fn note_beyond(groups: &[LocalGroup<'_>], noted: &mut Noted<NameWhy>)
 }
 
 /// Notes what is wrong inside a field.
-fn note_field<'a>(
+pub(crate) fn note_field<'a>(
     alloc: Global,
     field: &'a Field<'_>,
     noted: &mut Noted<NameWhy>,
@@ -152,19 +151,5 @@ fn note_field<'a>(
     let groups = groups_of(field);
     note_locals(&mut seen, groups, noted)?;
     note_beyond(groups, noted);
-    Ok(())
-}
-
-/// Notes what is wrong inside fields.
-pub(crate) fn note_inner<'a>(
-    alloc: Global,
-    fields: &'a [Field<'_>],
-    noted: &mut Noted<NameWhy>,
-) -> Result<(), AllocError>
-    ensures { OnOk result (noted.new.first ≡ least_from noted.old.first (flat_map inner_faults fields.now)) }
-{
-    for field in fields {
-        note_field(alloc, field, noted)?;
-    }
     Ok(())
 }

@@ -3,6 +3,7 @@
 
 pub mod declared;
 pub mod fault;
+pub mod gathering;
 pub mod inner;
 pub mod judging;
 pub mod keyed;

@@ -6,15 +6,15 @@ ghost use Rattle.wc_ast.specs.declared.func_type.FuncType.{FuncType};
 ghost use Rattle.wc_spaces.specs.Kept.Types.{AreTypes, count_of};
 ghost use Rattle.wc_surface.specs.Standard.Keys.{key_of};
 ghost use Rattle.wc_surface.specs.Standard.Sizes.{field_size};
-ghost use Rattle.wc_declared.specs.Standard.Types.{written_type, uses_of, with_use, with_uses, types_of};
+ghost use Rattle.wc_declared.specs.Standard.Types.{written_type, written_types, uses_of, with_use, with_uses, types_of};
 
 use crate::parts::{own_use, uses_inside};
-use std::alloc::{AllocError, Global};
+use std::alloc::AllocError;
 use wc_spaces::Types;
 use wc_surface::{Field, TypeUse, UseRef};
 
 /// Adds the type that a field defines.
-fn add_written<'a>(types: &mut Types<'a>, field: &'a Field<'_>) -> Result<(), AllocError>
+pub(crate) fn add_written<'a>(types: &mut Types<'a>, field: &'a Field<'_>) -> Result<(), AllocError>
     requires { count_of types.old < 2 ^ 32 }
     ensures types { (ts : List FuncType) → AreTypes (map key_of ts) types.old
         → OnOk result (AreTypes (map key_of (ts ++ written_type field.now)) types.new) }
@@ -79,29 +79,17 @@ fn add_inner<'a>(types: &mut Types<'a>, field: &'a Field<'_>) -> Result<(), Allo
     add_uses(types, uses_inside(field))
 }
 
-/// The types that fields define.
-fn written_types<'a>(alloc: Global, fields: &'a [Field<'_>]) -> Result<Types<'a>, AllocError>
-    requires { length fields.now < 2 ^ 32 }
-    ensures types { IfOk result
-        (AreTypes (map key_of (Rattle.wc_declared.specs.Standard.Types.written_types fields.now))) }
-    ensures count { IfOk result (λ types. count_of types ≤ length fields.now) }
-{
-    let mut types = Types::new(alloc);
-    for field in fields {
-        add_written(&mut types, field)?;
-    }
-    Ok(types)
-}
-
-/// All types of a text.
+/// All types of a text, where these are the ones that its fields define. The error is want of memory.
 pub(crate) fn final_types<'a>(
-    alloc: Global,
+    types: Types<'a>,
     fields: &'a [Field<'_>],
 ) -> Result<Types<'a>, AllocError>
-    requires { sum_by field_size fields.now < 2 ^ 32 }
+    requires sized { sum_by field_size fields.now < 2 ^ 32 }
+    requires types { AreTypes (map key_of (written_types fields.now)) types }
+    requires count { count_of types ≤ length fields.now }
     ensures { IfOk result (AreTypes (map key_of (types_of fields.now))) }
 {
-    let mut types = written_types(alloc, fields)?;
+    let mut types = types;
     for field in fields {
         add_inner(&mut types, field)?;
     }

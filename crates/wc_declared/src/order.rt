@@ -1,9 +1,10 @@
 //! The order of fields.
 
-ghost use Rattle.std.specs.Prelude.{◌≡◌, false};
+ghost use Rattle.std.specs.Prelude.{◌≡◌};
 ghost use Rattle.wc_spaces.specs.Standard.Least.{least_from};
-ghost use Rattle.wc_declared.specs.Standard.Order.{func_sort, table_sort, memory_sort, global_sort, late, late_after};
-ghost use Rattle.wc_declared.specs.Standard.Order.{second, second_after, defines, starts};
+ghost use Rattle.wc_declared.specs.Standard.Order.{func_sort, table_sort, memory_sort, global_sort};
+ghost use Rattle.wc_declared.specs.Standard.Order.{late, second, defines, starts};
+ghost use Rattle.wc_declared.specs.Kept.Gathered.{Follows};
 
 use wc_spaces::Noted;
 use wc_surface::{Field, FuncSeen, GlobalDesc, KeptFunc, MemoryDesc, TableDesc};
@@ -19,6 +20,19 @@ pub enum Sort {
     /// A start function, with the number of its word.
     Start(u32),
     Other,
+}
+
+/// What was seen of the order of fields, and what is wrong with it.
+#[derive(Clone, Copy, Debug)]
+pub struct Order {
+    /// A definition was seen.
+    pub defined: bool,
+    /// A start was seen.
+    pub started: bool,
+    /// Imports behind a definition.
+    pub late: Noted<NameWhy>,
+    /// Starts behind another.
+    pub second: Noted<NameWhy>,
 }
 
 fn sort_of_func<'a>(func: &'a KeptFunc<'_>) -> Sort
@@ -109,26 +123,13 @@ fn is_start(sort: Sort) -> bool
     }
 }
 
-/// Notes each import behind a definition.
-pub(crate) fn note_late<'a>(fields: &'a [Field<'_>], noted: &mut Noted<NameWhy>)
-    ensures { noted.new.first ≡ least_from noted.old.first (late_after false fields.now) }
+/// Judges the place of one more field.
+pub(crate) fn note_order<'a>(order: &mut Order, field: &'a Field<'_>)
+    ensures { Follows field.now order.old order.new }
 {
-    let mut seen = false;
-    for field in fields {
-        let sort = sort_of(field);
-        judge_late(seen, sort, noted);
-        seen = seen | is_definition(sort);
-    }
-}
-
-/// Notes each start behind another.
-pub(crate) fn note_second<'a>(fields: &'a [Field<'_>], noted: &mut Noted<NameWhy>)
-    ensures { noted.new.first ≡ least_from noted.old.first (second_after false fields.now) }
-{
-    let mut seen = false;
-    for field in fields {
-        let sort = sort_of(field);
-        judge_second(seen, sort, noted);
-        seen = seen | is_start(sort);
-    }
+    let sort = sort_of(field);
+    judge_late(order.defined, sort, &mut order.late);
+    judge_second(order.started, sort, &mut order.second);
+    order.defined = order.defined | is_definition(sort);
+    order.started = order.started | is_start(sort);
 }

@@ -1,15 +1,14 @@
 //! Index spaces.
 
-ghost use Rattle.std.specs.Prelude.{◌≡◌, ◌<◌, ◌≤◌, ◌+◌, ◌++◌, ◌∷◌, [], ◌^◌, ℕ, List, Option, IfOk, OnOk, length};
+ghost use Rattle.std.specs.Prelude.{◌≡◌, ◌<◌, ◌≤◌, ◌+◌, ◌++◌, ◌∷◌, [], ◌^◌, ℕ, List, Option, OnOk};
 ghost use Rattle.std.specs.Prelude.{option_copied};
 ghost use Rattle.wc_spaces.specs.Standard.Least.{least_from};
 ghost use Rattle.wc_spaces.specs.Kept.Spaces.{IsSpace, size_of};
-ghost use Rattle.wc_declared.specs.Standard.Spaces.{brings, declares, space as all_declared, texts, repeated_after};
-ghost use Rattle.wc_declared.specs.Standard.Spaces.{repeated, text_in};
+ghost use Rattle.wc_declared.specs.Standard.Spaces.{brings, declares, texts, repeated_after, text_in};
 ghost use Rattle.wc_declared.specs.Kept.Found.{found};
 
 use crate::kind::SpaceKind;
-use std::alloc::{AllocError, Global};
+use std::alloc::AllocError;
 use wc_spaces::{Noted, Space};
 use wc_surface::{Field, Id, ImportDesc};
 use wc_targets::NameWhy;
@@ -78,7 +77,7 @@ fn add_one<'a>(
 }
 
 /// Adds what a field declares.
-fn add_found<'a>(
+pub(crate) fn add_found<'a>(
     space: &mut Space<'a>,
     declared: Option<Option<&'a Id<'a>>>,
     noted: &mut Noted<NameWhy>,
@@ -94,25 +93,4 @@ fn add_found<'a>(
         None => Ok(()),
         Some(id) => add_one(space, id, noted),
     }
-}
-
-/// All that the fields declare in the index space, where about so many identifiers are to come. What has the identifier
-/// of one before it is noted.
-pub fn space<'a>(
-    alloc: Global,
-    kind: SpaceKind,
-    identifiers: usize,
-    fields: &'a [Field<'_>],
-    noted: &mut Noted<NameWhy>,
-) -> Result<Space<'a>, AllocError>
-    requires { length fields.now < 2 ^ 32 }
-    ensures space { IfOk result (λ space. IsSpace (texts (all_declared kind fields.now)) space) }
-    ensures noted { OnOk result (noted.new.first
-        ≡ least_from noted.old.first (repeated (all_declared kind fields.now))) }
-{
-    let mut space = Space::with_room(alloc, identifiers)?;
-    for field in fields {
-        add_found(&mut space, declared(kind, field), noted)?;
-    }
-    Ok(space)
 }

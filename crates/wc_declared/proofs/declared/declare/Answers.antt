@@ -4,8 +4,8 @@ use Rattle.wc_surface.specs.declared.field.Field.{Field}
 use Rattle.wc_declared.proofs.Growing.{few-types}
 use Rattle.wc_declared.proofs.declared.declare.Goals as goal
 
-pub judged_spaces-requires : goal.judged_spaces-requires
-judged_spaces-requires c =
+pub gather-requires : goal.gather-requires
+gather-requires c =
     let sized : sum_by field_size c.fields-fields.result.now < 2 ^ 32 =
     subst (λ (x : List Field). sum_by field_size x < 2 ^ 32) (sym c.fields-fields.ensures.fields) c.fields-fields.ensures.sized.sized in
     omega (arith, few-types c.fields-fields.result.now, sized)

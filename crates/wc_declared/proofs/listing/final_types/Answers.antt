@@ -4,13 +4,10 @@ use Rattle.wc_declared.specs.Standard.Types.{types_of, uses_of, all_uses, writte
 use Rattle.wc_declared.proofs.Growing.{listed-more, fields-next, few-types}
 use Rattle.wc_declared.proofs.listing.final_types.Goals as goal
 
-pub written_types-requires : goal.written_types-requires
-written_types-requires c = omega (arith, few-types c.args.fields.now)
-
 pub loop-field-init : goal.loop-field-init
 loop-field-init c = record {
-  few = omega (arith, few-types c.args.fields.now, c.in_ok-types.ensures.count);
-  listing = record { so_far = written_types c.args.fields.now; listed = c.in_ok-types.ensures.types; whole = refl };
+  few = omega (arith, few-types c.args.fields.now, c.requires.sized, c.requires.count);
+  listing = record { so_far = written_types c.args.fields.now; listed = c.requires.types; whole = refl };
 }
 
 pub loop-field-preserved : goal.loop-field-preserved
