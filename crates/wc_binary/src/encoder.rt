@@ -30,7 +30,15 @@ const PREAMBLE: [u8; 8] = [0x00, 0x61, 0x73, 0x6d, 0x01, 0x00, 0x00, 0x00];
 pub fn encode(alloc: Global, m: &Module) -> Result<Vec<u8>, EncFault>
     ensures { EncodesModule m.now result }
 {
-    let mut out = Vec::new(alloc);
+    encode_in(Vec::new(alloc), m)
+}
+
+/// The same, in memory that held other bytes, which are dropped: it grows only where there is too little of it.
+pub fn encode_in(memory: Vec<u8>, m: &Module) -> Result<Vec<u8>, EncFault>
+    ensures { EncodesModule m.now result }
+{
+    let mut out = memory;
+    out.clear();
     out.extend_from_slice(&PREAMBLE)?;
     write_sections(&mut out, m)?;
     Ok(out)

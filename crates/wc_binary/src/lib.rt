@@ -14,7 +14,7 @@ mod tables;
 mod value_type;
 
 pub use decoder::{decode, decode_from};
-pub use encoder::{encode, encoded_length};
+pub use encoder::{encode, encode_in, encoded_length};
 pub use fault::{BinFault, BinWhy, EncFault};
 pub use law::{
     always_canonical, always_judged, module_or_fault, one_canonical, one_fault, one_module,

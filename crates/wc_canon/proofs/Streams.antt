@@ -19,6 +19,7 @@ use Rattle.wc_canon.specs.declared.fault.Refusal.TheVariants.{Binary, Lex, Synta
 use Rattle.wc_canon.specs.declared.fault.RunFault.{RunFault}
 use Rattle.wc_canon.specs.declared.fault.RunFault.TheVariants.{Refused, Read, Write, Memory}
 use Rattle.wc_canon.specs.declared.running.Job.TheVariants as job
+use Rattle.wc_canon.specs.declared.from_reader.Found.{Found}
 use Rattle.wc_canon.specs.Input.{is_binary, Denotes, KeepsRules, IsAccepted}
 use Rattle.wc_canon.specs.Run.{IsAnswerOf, IsOutputOf, Judges, RefusesNear, ReadsCut}
 use Rattle.wc_canon.specs.Inner.Faults.{reading_refusal, decoding_fault, refusing_fault}
@@ -45,7 +46,8 @@ judges-error P Q a f (Err g) p h =
 -- what was told in place of a module
 pub module-unread : {W : Type 0} (Q : W → Type 0) (a : Option (List ℕ)) (f : RunFault) (r : Result W RunFault)
     → JudgesModule a (Err f) → IsErrAnd r (λ g. g ≡ f) → Judges a Q r
-module-unread Q a f r p h = judges-error {V = Module × Bool} (λ m. IfSome a (λ x. Denotes x m.0 × (m.1 ≡ is_binary x))) Q a f r p h
+module-unread Q a f r p h =
+    judges-error {V = Found} (λ m. IfSome a (λ x. Denotes x m.«module» × (m.binary ≡ is_binary x))) Q a f r p h
 
 -- ---- the module is refused, or its answer is known
 
@@ -132,10 +134,12 @@ begins-as None old front s some e c = tt
 begins-as (Some u) None front s some e c = absurd c
 begins-as (Some u) (Some v) front s some e c = ap is_binary c ∙ begins-alike front v some ∙ e
 
-pub text-judged : (x : Option (List ℕ)) (bytes : List ℕ) (m : Module) → IfSome x (λ u. u ≡ bytes)
-    → IfSome x (λ u. is_binary u ≡ false) → Txt bytes m → JudgesModule x (Ok (m, false))
-text-judged None bytes m e s p = tt
-text-judged (Some u) bytes m e s p = (text-denotes u m s (subst (λ b. Txt b m) (sym e) p), sym s)
+pub text-judged : (x : Option (List ℕ)) (bytes : List ℕ) (found : Found) → IfSome x (λ u. u ≡ bytes)
+    → IfSome x (λ u. is_binary u ≡ false) → Txt bytes found.«module» → found.binary ≡ false
+    → JudgesModule x (Ok found)
+text-judged None bytes m e s p q = tt
+text-judged (Some u) bytes m e s p q =
+    (text-denotes u m.«module» s (subst (λ b. Txt b m.«module») (sym e) p), q ∙ sym s)
 
 text-unread : (x : Option (List ℕ)) (bytes : List ℕ) (f : TextFault) → IfSome x (λ u. u ≡ bytes)
     → IfSome x (λ u. is_binary u ≡ false) → IsFault bytes f → JudgesModule x (Err (refusing_fault (reading_refusal f)))
@@ -151,7 +155,7 @@ text-unread (Some u) bytes (text.Syntax token at why) e s (inl h) = absurd (cc)
 text-unread (Some u) bytes (text.Names token at why) e s (inl h) = absurd (cc)
 text-unread x bytes text.Memory e s p = tt
 
-pub text-refused : (x : Option (List ℕ)) (bytes : List ℕ) (f : TextFault) (r : Result (Module × Bool) RunFault)
+pub text-refused : (x : Option (List ℕ)) (bytes : List ℕ) (f : TextFault) (r : Result Found RunFault)
     → IfSome x (λ u. u ≡ bytes) → IfSome x (λ u. is_binary u ≡ false) → IsFault bytes f
     → IsErrAnd r (λ g. g ≡ refusing_fault (reading_refusal f)) → JudgesModule x r
 text-refused x bytes f (Ok v) e s p h = absurd h
@@ -183,10 +187,10 @@ of-all None old front P c p = tt
 of-all (Some u) None front P c p = absurd c
 of-all (Some u) (Some v) front P c p = subst P (sym c) p
 
-pub binary-judged : (x : Option (List ℕ)) (m : Module) → IfSome x (λ u. is_binary u ≡ true) → IfSome x (λ u. Bin u m)
-    → JudgesModule x (Ok (m, true))
-binary-judged None m s p = tt
-binary-judged (Some u) m s p = (binary-denotes u m s p, sym s)
+pub binary-judged : (x : Option (List ℕ)) (found : Found) → IfSome x (λ u. is_binary u ≡ true)
+    → IfSome x (λ u. Bin u found.«module») → found.binary ≡ true → JudgesModule x (Ok found)
+binary-judged None m s p q = tt
+binary-judged (Some u) m s p q = (binary-denotes u m.«module» s p, q ∙ sym s)
 
 binary-unread : (x : Option (List ℕ)) (e : BinFault) → IfSome x (λ u. is_binary u ≡ true)
     → IfSome x (λ u. Decodes u (Err e)) → JudgesModule x (Err (decoding_fault e))
@@ -195,7 +199,7 @@ binary-unread (Some u) (Bad at why) s p = has-binary-fault u at why s p
 binary-unread x (Unread at) s p = tt
 binary-unread x NoMemoryToDecode s p = tt
 
-pub binary-refused : (x : Option (List ℕ)) (e : BinFault) (r : Result (Module × Bool) RunFault)
+pub binary-refused : (x : Option (List ℕ)) (e : BinFault) (r : Result Found RunFault)
     → IfSome x (λ u. is_binary u ≡ true) → IfSome x (λ u. Decodes u (Err e)) → IsErrAnd r (λ g. g ≡ decoding_fault e)
     → JudgesModule x r
 binary-refused x e (Ok v) s p h = absurd h

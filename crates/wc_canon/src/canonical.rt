@@ -8,7 +8,7 @@ ghost use Rattle.wc_canon.specs.Inner.Steps.{IsModuleFault, IsSized};
 use crate::fault::Refusal;
 use std::alloc::Global;
 use wc_ast::Module;
-use wc_binary::{encode, encoded_length};
+use wc_binary::{encode_in, encoded_length};
 use wc_check::check;
 
 /// That the module breaks no rule.
@@ -33,13 +33,17 @@ pub(crate) fn judge_spelled(alloc: Global, module: &Module) -> Result<(), Refusa
     }
 }
 
-/// The canonical bytes of the module, where it breaks no rule.
-pub(crate) fn canonical_bytes(alloc: Global, module: &Module) -> Result<Vec<u8>, Refusal>
+/// The canonical bytes of the module, where it breaks no rule. They have this memory, and more where it is too little.
+pub(crate) fn canonical_bytes(
+    alloc: Global,
+    memory: Vec<u8>,
+    module: &Module,
+) -> Result<Vec<u8>, Refusal>
     ensures keeps { IfOk result (λ b. KeepsRules «module».now) }
     ensures canonical { IfOk result (λ b. Canon b.items «module».now) }
     ensures shortest { IfOk result (λ b. IsShortestOf b.items «module».now) }
     ensures err { IfErr result (IsModuleFault «module».now) }
 {
     judge_module(alloc, module)?;
-    Ok(encode(alloc, module)?)
+    Ok(encode_in(memory, module)?)
 }

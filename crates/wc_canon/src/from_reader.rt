@@ -24,6 +24,16 @@ use wc_source::read;
 /// How many bytes a read is offered.
 const PIECE: usize = 4096;
 
+/// The module of an input.
+#[derive(Drop)]
+pub(crate) struct Found {
+    pub(crate) module: Module,
+    /// Whether the input is a binary.
+    pub(crate) binary: bool,
+    /// What nobody reads any more: the answer may have its memory.
+    pub(crate) memory: Vec<u8>,
+}
+
 /// The front, and then the reader's bytes to its end.
 fn read_rest<R: Read>(alloc: Global, front: &[u8], r: &mut Device<R>) -> Result<Vec<u8>, RunFault>
     requires well { has_failed r.old ≡ false }
@@ -57,13 +67,12 @@ fn read_rest<R: Read>(alloc: Global, front: &[u8], r: &mut Device<R>) -> Result<
     }
 }
 
-/// The module of the text that begins with `front` and goes on with the reader's bytes, to its end. The second part of
-/// the answer is false: it is no binary.
+/// The module of the text that begins with `front` and goes on with the reader's bytes, to its end.
 fn read_text<R: Read>(
     alloc: Global,
     front: &[u8],
     r: &mut Device<R>,
-) -> Result<(Module, bool), RunFault>
+) -> Result<Found, RunFault>
     requires well { has_failed r.old ≡ false }
     requires counted { length front.now ≡ read_count r.old }
     requires some { 0 < length front.now }
@@ -83,16 +92,20 @@ fn read_text<R: Read>(
     ensures memory { ¬ (IsErrOf result (RunFault.Refused refusals.Memory)) }
 {
     let text = read_rest(alloc, front, r)?;
-    Ok((read(alloc, &text)?, false))
+    let module = read(alloc, &text)?;
+    Ok(Found {
+        module,
+        binary: false,
+        memory: text,
+    })
 }
 
-/// The module of the binary that begins with `front` and goes on with the reader's bytes, to its end. The second part
-/// of the answer is true.
+/// The module of the binary that begins with `front` and goes on with the reader's bytes, to its end.
 fn read_binary<R: Read>(
     alloc: Global,
     front: &[u8],
     r: &mut Device<R>,
-) -> Result<(Module, bool), RunFault>
+) -> Result<Found, RunFault>
     requires well { has_failed r.old ≡ false }
     requires short { length front.now ≤ buffer_size }
     requires counted { length front.now ≡ read_count r.old }
@@ -112,27 +125,34 @@ fn read_binary<R: Read>(
     ensures unwritten { is_write_fault result ≡ false }
     ensures memory { ¬ (IsErrOf result (RunFault.Refused refusals.Memory)) }
 {
-    Ok((decode_from(alloc, front, r)?, true))
+    Ok(Found {
+        module: decode_from(alloc, front, r)?,
+        binary: true,
+        memory: Vec::new(alloc),
+    })
 }
 
 /// The module of a text without a byte, which is the empty one.
-fn read_nothing(alloc: Global) -> Result<(Module, bool), RunFault>
+fn read_nothing(alloc: Global) -> Result<Found, RunFault>
     ensures judges { JudgesModule (Some []) result }
     ensures near { ReadsNear 0 result [] }
     ensures read { is_read_fault result ≡ false }
     ensures unwritten { is_write_fault result ≡ false }
     ensures memory { ¬ (IsErrOf result (RunFault.Refused refusals.Memory)) }
 {
-    Ok((read(alloc, &[])?, false))
+    Ok(Found {
+        module: read(alloc, &[])?,
+        binary: false,
+        memory: Vec::new(alloc),
+    })
 }
 
-/// The module that the reader's bytes denote, to the reader's end, and whether they are a binary; or else their first
-/// fault. One piece is read, and its first byte tells a binary, which is read no further than its fault shows; a text
+/// The module that the reader's bytes denote, to the reader's end, or else their first fault. One piece is read, and its first byte tells a binary, which is read no further than its fault shows; a text
 /// is read to its end.
 pub(crate) fn read_module<R: Read>(
     alloc: Global,
     r: &mut Device<R>,
-) -> Result<(Module, bool), RunFault>
+) -> Result<Found, RunFault>
     requires well { has_failed r.old ≡ false }
     requires unread { read_count r.old ≡ 0 }
     ensures judges { JudgesModule (R.remaining (device_inner r.old)) result }

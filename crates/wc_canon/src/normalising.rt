@@ -37,5 +37,5 @@ pub fn normalise(alloc: Global, input: &[u8]) -> Result<Vec<u8>, Refusal>
     ensures shortest { is_binary input.now ≡ true → IfOk result (λ b. IsOrLonger input.now b.items) }
 {
     let module = denoted_module(alloc, input)?;
-    canonical_bytes(alloc, &module)
+    canonical_bytes(alloc, Vec::new(alloc), &module)
 }

@@ -43,7 +43,7 @@ pub fn normalise_from<R: Read>(alloc: Global, r: &mut Device<R>) -> Result<Vec<u
     ensures memory { ¬ (IsErrOf result (RunFault.Refused refusals.Memory)) }
 {
     let found = read_module(alloc, r)?;
-    Ok(canonical_bytes(alloc, &found.0)?)
+    Ok(canonical_bytes(alloc, found.memory, &found.module)?)
 }
 
 /// That the module of an input breaks no rule, and that some bytes spell it, which of a binary needs no second look.
@@ -78,7 +78,7 @@ pub fn accept_from<R: Read>(alloc: Global, r: &mut Device<R>) -> Result<(), RunF
     ensures memory { ¬ (IsErrOf result (RunFault.Refused refusals.Memory)) }
 {
     let found = read_module(alloc, r)?;
-    judge(alloc, found.1, &found.0)?;
+    judge(alloc, found.binary, &found.module)?;
     Ok(())
 }
 
@@ -102,6 +102,6 @@ pub fn text_from<R: Read>(alloc: Global, r: &mut Device<R>) -> Result<String, Ru
     ensures memory { ¬ (IsErrOf result (RunFault.Refused refusals.Memory)) }
 {
     let found = read_module(alloc, r)?;
-    judge_spelled(alloc, &found.0)?;
-    Ok(text_of(alloc, &found.0)?)
+    judge_spelled(alloc, &found.module)?;
+    Ok(text_of(alloc, &found.module)?)
 }

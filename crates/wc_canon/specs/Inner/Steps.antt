@@ -6,6 +6,7 @@ use Rattle.wc_canon.specs.declared.fault.Refusal.{Refusal}
 use Rattle.wc_canon.specs.declared.fault.Refusal.TheVariants.{Binary, Lex, Syntax, Names, Check, Oversize}
 use Rattle.wc_canon.specs.declared.fault.Refusal.TheVariants.{Memory as NoMemory}
 use Rattle.wc_canon.specs.declared.fault.RunFault.{RunFault}
+use Rattle.wc_canon.specs.declared.from_reader.Found.{Found}
 use Rattle.wc_canon.specs.Input.{is_binary, Denotes, KeepsRules, BreaksFirst}
 use Rattle.wc_canon.specs.Run.{Judges, RefusesNear}
 
@@ -26,8 +27,9 @@ IsSized true m = ⊤
 IsSized false m = (b : List ℕ) × Canon b m
 
 -- the module of the input and whether this is a binary, where its bytes are known; or f is its fault, where they are
-abbrev pub JudgesModule : Option (List ℕ) → Result (Module × Bool) RunFault → Type 0
-JudgesModule input r = Judges input (λ p. IfSome input (λ x. Denotes x p.0 × (p.1 ≡ is_binary x))) r
+abbrev pub JudgesModule : Option (List ℕ) → Result Found RunFault → Type 0
+JudgesModule input r =
+    Judges input (λ found. IfSome input (λ x. Denotes x found.«module» × (found.binary ≡ is_binary x))) r
 
 -- a module was answered after all bytes, and a fault as RefusesNear says
 abbrev pub ReadsNear : {V : Type 0} → ℕ → Result V RunFault → List ℕ → Type 0

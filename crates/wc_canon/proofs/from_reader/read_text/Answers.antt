@@ -7,22 +7,22 @@ returns-in_err-text-clause-cut g c = λ x all.
     text-cut-told x _ _ (begins-as x _ _ _ c.requires.some c.requires.is_text all)
     (λ at is. c.in_err-text.ensures.cut at is x all) c.from_residual.ensures.1
 
-pub returns-in_err-read-clause-judges : goal.returns-in_err-read-clause-judges
-returns-in_err-read-clause-judges g c = λ x all.
+pub returns-in_err-module-clause-judges : goal.returns-in_err-module-clause-judges
+returns-in_err-module-clause-judges g c = λ x all.
     let whole = all-read x _ _ _ (c.in_ok-text.ensures.whole x all) c.in_ok-text.ensures.all c.deref.ensures.value in
-    text-refused x _ _ _ whole (begins-as x _ _ _ c.requires.some c.requires.is_text all) c.in_err-read.ensures.fault
-    c.from_residual-in_err-read.ensures.1
+    text-refused x _ _ _ whole (begins-as x _ _ _ c.requires.some c.requires.is_text all) c.in_err-module.ensures.fault
+    c.from_residual-in_err-module.ensures.1
 
 pub returns-clause-judges : goal.returns-clause-judges
 returns-clause-judges g c = λ x all.
     let whole = all-read x _ _ _ (c.in_ok-text.ensures.whole x all) c.in_ok-text.ensures.all c.deref.ensures.value in
-    text-judged x _ _ whole (begins-as x _ _ _ c.requires.some c.requires.is_text all) c.in_ok-read.ensures.ok
+    text-judged x _ _ whole (begins-as x _ _ _ c.requires.some c.requires.is_text all) c.in_ok-module.ensures.ok refl
 
-pub returns-in_err-read-clause-near : goal.returns-in_err-read-clause-near
-returns-in_err-read-clause-near g c = λ x all.
+pub returns-in_err-module-clause-near : goal.returns-in_err-module-clause-near
+returns-in_err-module-clause-near g c = λ x all.
     let seen = c.deref.ensures.value in
     let whole = all-read x _ _ _ (c.in_ok-text.ensures.whole x all) c.in_ok-text.ensures.all seen in
-    near-read x _ _ _ (all-counted x _ _ _ whole seen c.in_ok-text.ensures.count) c.from_residual-in_err-read.ensures.1
+    near-read x _ _ _ (all-counted x _ _ _ whole seen c.in_ok-text.ensures.count) c.from_residual-in_err-module.ensures.1
 
 pub returns-clause-near : goal.returns-clause-near
 returns-clause-near g c = λ x all.

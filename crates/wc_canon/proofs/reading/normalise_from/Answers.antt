@@ -1,5 +1,4 @@
-use Rattle.std.proofs.Common.{Bool}
-use Rattle.wc_ast.specs.declared.module.Module.{Module}
+use Rattle.wc_canon.specs.declared.from_reader.Found.{Found}
 use Rattle.wc_canon.proofs.Streams.{module-unread, not-answered, answered, near-refused}
 use Rattle.wc_canon.proofs.FailedReads.{cut-refused, refused-fails-at}
 use Rattle.wc_canon.proofs.reading.normalise_from.Goals as goal
@@ -20,7 +19,7 @@ returns-clause-judges g c =
 
 pub returns-in_err-canonical_bytes-clause-near : goal.returns-in_err-canonical_bytes-clause-near
 returns-in_err-canonical_bytes-clause-near g c =
-    near-refused {W = Module × Bool} _ _ _ c.in_ok-found.found _ _ c.in_err-canonical_bytes.ensures.err
+    near-refused {W = Found} _ _ _ c.in_ok-found.found _ _ c.in_err-canonical_bytes.ensures.err
     c.in_ok-found.ensures.near c.from_residual-in_err-canonical_bytes.ensures.1
 
 pub returns-in_err-canonical_bytes-clause-first_failure : goal.returns-in_err-canonical_bytes-clause-first_failure

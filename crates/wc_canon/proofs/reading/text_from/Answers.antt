@@ -1,5 +1,4 @@
-use Rattle.std.proofs.Common.{Bool}
-use Rattle.wc_ast.specs.declared.module.Module.{Module}
+use Rattle.wc_canon.specs.declared.from_reader.Found.{Found}
 use Rattle.wc_canon.specs.declared.fault.Refusal.TheVariants.{Memory}
 use Rattle.wc_canon.proofs.Streams.{module-unread, not-answered, printed, near-refused}
 use Rattle.wc_canon.proofs.FailedReads.{cut-refused, refused-fails-at, refused-reads-at}
@@ -21,7 +20,7 @@ returns-clause-judges g c =
 
 pub returns-in_err-judge_spelled-clause-near : goal.returns-in_err-judge_spelled-clause-near
 returns-in_err-judge_spelled-clause-near g c =
-    near-refused {W = Module × Bool} _ _ _ c.in_ok-found.found _ _ c.in_err-judge_spelled.ensures.err
+    near-refused {W = Found} _ _ _ c.in_ok-found.found _ _ c.in_err-judge_spelled.ensures.err
     c.in_ok-found.ensures.near c.from_residual-in_err-judge_spelled.ensures.1
 
 pub returns-in_err-judge_spelled-clause-first_failure : goal.returns-in_err-judge_spelled-clause-first_failure
@@ -34,7 +33,7 @@ returns-in_err-judge_spelled-clause-cut g c = cut-refused _ _ _ c.from_residual-
 -- of the printing memory alone is told
 pub returns-in_err-text_of-clause-near : goal.returns-in_err-text_of-clause-near
 returns-in_err-text_of-clause-near g c =
-    near-refused {W = Module × Bool} _ _ c.in_ok-found.found.0 c.in_ok-found.found Memory _ tt
+    near-refused {W = Found} _ _ c.in_ok-found.found.«module» c.in_ok-found.found Memory _ tt
     c.in_ok-found.ensures.near c.from_residual-in_err-text_of.ensures.1
 
 pub returns-in_err-text_of-clause-read_at : goal.returns-in_err-text_of-clause-read_at

@@ -1,7 +1,7 @@
 use Rattle.std.proofs.Common.{refl}
 use Rattle.std.proofs.lemmas.Result.{err_from_is_err_and}
 use Rattle.wc_binary.proofs.spelling.Encoding.{module-fails, module-written}
-use Rattle.wc_binary.proofs.encoder.encode.Goals as goal
+use Rattle.wc_binary.proofs.encoder.encode_in.Goals as goal
 
 pub returns-in_err-write_sections : goal.returns-in_err-write_sections
 returns-in_err-write_sections c =
@@ -14,5 +14,5 @@ pub returns : goal.returns
 returns c =
     let s = c.in_ok-write_sections.ensures in
     let front = c.in_ok-extend_from_slice.ensures.items in
-    let start = c.new-out.ensures.items in
+    let start = c.clear.ensures.items in
     module-written c.args.m.now s.0 _ (rw (s.1, front, start) refl)
