@@ -4,8 +4,8 @@ ghost use Rattle.std.specs.Prelude.{◌≡◌, ◌+◌, ◌<◌, ◌≤◌, ℕ,
 ghost use Rattle.std.specs.Prelude.{◌==◌, if◌then◌else◌, IsTrue, IfSome, length, take, drop, slice_index};
 ghost use Rattle.wc_tokens.specs.Standard.Digits.{IsDigit, digit_of};
 ghost use Rattle.wc_tokens.specs.Standard.Strings.{IsPlain, Element, Elements, EndsElements};
-ghost use Rattle.wc_tokens.specs.Reading.Simple.{IsSimple, IsSimpleAt, IsLinked, IsLinkedAt, IsBegunAt, IsValueOf, simple_len};
-ghost use Rattle.wc_tokens.specs.Reading.Simple.{IsNotedAt, AreNoted, apart, left_over};
+ghost use Rattle.wc_tokens.specs.Reading.Simple.{IsSimple, IsSimpleAt, IsLinked, IsLinkedAt, IsBegunAt, simple_len};
+ghost use Rattle.wc_tokens.specs.Reading.Simple.{IsValueOf, AreNoted, left_over};
 
 use crate::values::{hexadecimal_digit, plain_byte};
 
@@ -100,6 +100,7 @@ pub fn after_simple(text: &[u8]) -> &[u8]
     ensures shorter { length result.now ≤ length text.now }
     ensures same_end { (rest : List ℕ) → EndsElements result.now rest → EndsElements text.now rest }
 {
+    let text = &text[plain_chunks(text)..];
     let mut at = simple_chunks(text);
     while at + 2 < text.len() && is_simple(text[at], text[at + 1], text[at + 2]) {
         at += 1;
@@ -182,7 +183,7 @@ fn digit_value(byte: u8) -> u8
 /// The byte that the simple element stands for which begins with these bytes, if one does.
 #[inline(always)]
 fn simple_value(byte: u8, next: u8, last: u8) -> u8
-    ensures { IsSimple byte next last → IsValueOf byte next last result }
+    ensures { IsValueOf byte next last result }
 {
     if byte == b'\\' {
         16 * digit_value(next) + digit_value(last)

@@ -1,5 +1,6 @@
 -- Bytes that begin a simple element of a string.
-use Rattle.std.specs.Prelude.{◌≡◌, ℕ, zero, suc, ◌+◌, ◌<◌, ◌==◌, ◌&&◌, not, ◌⊎◌, List, [], ◌∷◌, take, slice_index, if◌then◌else◌}
+use Rattle.std.specs.Prelude.{◌≡◌, ℕ, zero, suc, ◌+◌, ◌<◌, ◌==◌, ◌&&◌, not, ◌⊎◌, if◌then◌else◌}
+use Rattle.std.specs.Prelude.{List, [], ◌∷◌, take, slice_index}
 use Rattle.wc_tokens.specs.Standard.Digits.{IsDigit}
 use Rattle.wc_tokens.specs.Standard.Strings.{IsPlain, Element}
 
@@ -41,7 +42,8 @@ apart a b = if not (a == 92) && not (b == 92) then 1 else 0
 
 -- what is noted of a place in a text: its value, and whether an element begins two places behind it
 pub record IsNotedAt (text values starts : List ℕ) (k : ℕ) : Type 0 where
-  pub value : IsValueOf (slice_index text k) (slice_index text (k + 1)) (slice_index text (k + 2)) (slice_index values k)
+  pub value :
+      IsValueOf (slice_index text k) (slice_index text (k + 1)) (slice_index text (k + 2)) (slice_index values k)
   pub start : slice_index starts (k + 2) ≡ apart (slice_index text k) (slice_index text (k + 1))
 
 -- these many places were noted, and what is so at the first two
