@@ -100,7 +100,6 @@ pub fn after_simple(text: &[u8]) -> &[u8]
     ensures shorter { length result.now ≤ length text.now }
     ensures same_end { (rest : List ℕ) → EndsElements result.now rest → EndsElements text.now rest }
 {
-    let text = &text[plain_chunks(text)..];
     let mut at = simple_chunks(text);
     while at + 2 < text.len() && is_simple(text[at], text[at + 1], text[at + 2]) {
         at += 1;
@@ -299,6 +298,46 @@ fn read_places(text: &[u8], bytes: &mut [u8; ROOM]) -> Run
     }
 }
 
+/// The byte behind a simple element: of its first byte, the one next to it, and the third from it.
+// It is computed of both that it may be, so that what comes next needn't wait for which of them it is.
+#[inline(always)]
+fn behind_simple(byte: u8, next: u8, far: u8) -> u8
+    ensures { result ≡ (if byte == 92 then far else next) }
+{
+    let escape = byte == b'\\';
+    let other = byte != b'\\';
+    escape as u8 * far + other as u8 * next
+}
+
+/// Reads simple elements at the front of a text, two a round, and writes the bytes that they stand for.
+#[inline(always)]
+fn read_pairs(text: &[u8], bytes: &mut [u8; ROOM]) -> Run
+    ensures within { result.len ≤ length text.now }
+    ensures room { result.made ≤ 256 }
+    ensures elements { Elements (take result.len text.now) (take result.made bytes.new) }
+{
+    // Two elements have six bytes at most.
+    let limit = text.len().saturating_sub(5);
+    let mut len = 0;
+    let mut made = 0;
+    while made + 1 < ROOM && len < limit {
+        let (byte, next, last, far) = (text[len], text[len + 1], text[len + 2], text[len + 3]);
+        let behind = behind_simple(byte, next, far);
+        let Some(first) = simple_of(byte, next, last) else {
+            return Run { len, made };
+        };
+        let at = len + first.len;
+        let Some(second) = simple_of(behind, text[at + 1], text[at + 2]) else {
+            return Run { len, made };
+        };
+        bytes[made] = first.value;
+        bytes[made + 1] = second.value;
+        len = at + second.len;
+        made += 2;
+    }
+    Run { len, made }
+}
+
 /// Reads simple elements at the front of a text, and writes the bytes that they stand for. It stops before the last two
 /// bytes at the latest.
 pub fn read_simple(text: &[u8], bytes: &mut [u8; ROOM]) -> Run
@@ -308,14 +347,13 @@ pub fn read_simple(text: &[u8], bytes: &mut [u8; ROOM]) -> Run
 {
     // The last two bytes are left, since behind neither of them stand two.
     let limit = text.len().saturating_sub(2);
-    if CHUNK <= limit && is_simple(text[0], text[1], text[2]) {
+    if CHUNK <= limit && is_linked_chunk(text, 0) {
         let run = read_places(text, bytes);
         if run.len > 0 {
             return run;
         }
     }
-    let mut len = 0;
-    let mut made = 0;
+    let Run { mut len, mut made } = read_pairs(text, bytes);
     while made < ROOM && len < limit {
         let Some(simple) = simple_of(text[len], text[len + 1], text[len + 2]) else {
             return Run { len, made };

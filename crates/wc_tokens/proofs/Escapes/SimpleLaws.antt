@@ -1,6 +1,7 @@
 -- Simple elements, and where the elements of a string end.
 use Rattle.std.proofs.Common.{◌≡◌, ◌≢◌, ℕ, zero, suc, ◌+◌, ◌-◌, ◌*◌, ◌<◌, ◌≤◌, List, [], ◌∷◌, ◌++◌, length, take, drop, get_or, set}
 use Rattle.std.proofs.Common.{Some, None, refl, sym, ap, subst, ◌∙◌, append_assoc, length-drop, inl, inr, lit≤, arith}
+use Rattle.std.proofs.Common.{Bool, true, false, ◌==◌, if◌then◌else◌, length-set}
 use Rattle.std.specs.List.{between}
 use Rattle.std.proofs.lemmas.List.Edits.{length-between, get_or-between}
 use Rattle.std.proofs.lemmas.Bool.{cases_lt}
@@ -11,7 +12,7 @@ use Rattle.std.proofs.Math.Seq.{take-add}
 use Rattle.wc_tokens.specs.Standard.Digits.{digit_of, IsDigit}
 use Rattle.wc_tokens.specs.Standard.Strings.{IsPlain, Element, plain, byte, Elements, none, more, EndsElements}
 use Rattle.wc_tokens.specs.Reading.Elements.{ValueAndRest, read_element}
-use Rattle.wc_tokens.specs.Reading.Simple.{IsSimpleAt}
+use Rattle.wc_tokens.specs.Reading.Simple.{IsSimpleAt, simple_len}
 use Rattle.wc_tokens.proofs.Escapes.ElementLaws.{Elements-append, Elements-one, read-Element, read-plain, read_element-is, NoElement-read}
 
 -- ---- one more element in front
@@ -181,6 +182,30 @@ Elements-simple text bytes len one made value es e within l =
         let last : at + 2 + 1 ≡ at + 3 = omega arith in
         let behind = rw same at b ∙ ap (λ (t : List ℕ). get_or text (at + 1) 0 ∷ t) (rw last at c) in
         a ∙ ap (λ (t : List ℕ). get_or text at 0 ∷ t) behind
+
+-- the byte behind a simple element, of the two that it may be
+pub behind-is : (text : List ℕ) (at len c b : ℕ) → len ≡ simple_len c
+    → b ≡ (if c == 92 then get_or text (at + 3) 0 else get_or text (at + 1) 0) → b ≡ get_or text (at + len) 0
+behind-is text at len c b = go (c == 92)
+  where
+    go : (t : Bool) → len ≡ (if t then 3 else 1) → b ≡ (if t then get_or text (at + 3) 0 else get_or text (at + 1) 0)
+        → b ≡ get_or text (at + len) 0
+    go true e f = rw e f
+    go false e f = rw e f
+
+-- two more behind those that were read
+pub Elements-pair : (text bytes : List ℕ) (len one two made value next behind : ℕ)
+    → Elements (take len text) (take made bytes) → ReadAt text len (get_or text len 0) one value
+    → behind ≡ get_or text (len + one) 0
+    → ReadAt text (len + one) behind two next
+    → len + one + 2 < length text → made + 1 < length bytes
+    → Elements (take (len + one + two) text) (take (made + 2) (set (set bytes made value) (made + 1) next))
+Elements-pair text bytes len one two made value next behind es e is f within l =
+    let first = Elements-simple text bytes len one made value es e (omega (arith, within)) (omega (arith, l)) in
+    let room : made + 1 < length (set bytes made value) = omega (arith, l, length-set bytes made value) in
+    let count : made + 1 + 1 ≡ made + 2 = omega arith in
+    rw count at
+    (Elements-simple text (set bytes made value) (len + one) two (made + 1) next first (rw is at f) within room)
 
 -- a text is as long behind a place as it is without the front
 pub length-take_rest : (text : List ℕ) (at : ℕ) → length (take (length text - at) (drop at text)) ≡ length text - at

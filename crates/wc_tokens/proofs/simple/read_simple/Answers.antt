@@ -1,15 +1,6 @@
 use Rattle.std.proofs.Common.{length-set, ◌∙◌, arith}
-use Rattle.wc_tokens.specs.Standard.Strings.{none}
 use Rattle.wc_tokens.proofs.Escapes.SimpleLaws.{Elements-simple}
 use Rattle.wc_tokens.proofs.simple.read_simple.Goals as goal
-
-pub loop-made-init : goal.loop-made-init
-loop-made-init c = record {
-  made = omega arith;
-  within = omega arith;
-  room = c.if-limit-ge-CHUNK.array_long;
-  elements = none;
-}
 
 pub loop-made-preserved : goal.loop-made-preserved
 loop-made-preserved c = record {
