@@ -347,7 +347,7 @@ pub fn read_simple(text: &[u8], bytes: &mut [u8; ROOM]) -> Run
 {
     // The last two bytes are left, since behind neither of them stand two.
     let limit = text.len().saturating_sub(2);
-    if CHUNK <= limit && is_linked_chunk(text, 0) {
+    if CHUNK <= limit && begins_linked(text) && is_linked_chunk(text, 0) {
         let run = read_places(text, bytes);
         if run.len > 0 {
             return run;
