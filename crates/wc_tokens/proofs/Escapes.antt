@@ -2,3 +2,4 @@ pub mod ElementLaws
 pub mod StringLaws
 pub mod SimpleLaws
 pub mod ChunkLaws
+pub mod PlaceLaws

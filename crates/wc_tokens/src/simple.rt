@@ -2,9 +2,10 @@
 
 ghost use Rattle.std.specs.Prelude.{◌≡◌, ◌+◌, ◌<◌, ◌≤◌, ℕ, List, [], ◌∷◌};
 ghost use Rattle.std.specs.Prelude.{◌==◌, if◌then◌else◌, IsTrue, IfSome, length, take, drop, slice_index};
-ghost use Rattle.wc_tokens.specs.Standard.Digits.{IsDigit};
+ghost use Rattle.wc_tokens.specs.Standard.Digits.{IsDigit, digit_of};
 ghost use Rattle.wc_tokens.specs.Standard.Strings.{IsPlain, Element, Elements, EndsElements};
 ghost use Rattle.wc_tokens.specs.Reading.Simple.{IsSimple, IsSimpleAt, IsLinked, IsLinkedAt, IsBegunAt, simple_len};
+ghost use Rattle.wc_tokens.specs.Reading.Simple.{IsValueOf, AreNoted, left_over};
 
 use crate::values::{hexadecimal_digit, plain_byte};
 
@@ -12,7 +13,10 @@ use crate::values::{hexadecimal_digit, plain_byte};
 const CHUNK: usize = 16;
 
 /// The most bytes that a run stands for.
-pub const ROOM: usize = 128;
+pub const ROOM: usize = 256;
+
+/// How many places are looked at together, and the two behind them.
+const STARTS: usize = 258;
 
 /// A byte that stands for itself.
 #[inline(always)]
@@ -164,6 +168,136 @@ pub struct Run {
     pub made: usize,
 }
 
+/// The value of a hexadecimal digit.
+// It is computed, so that a processor can do it to many bytes at once.
+#[inline(always)]
+fn digit_value(byte: u8) -> u8
+    ensures within { result < 16 }
+    ensures digit { IsDigit 16 byte → result ≡ digit_of byte }
+{
+    let letter = if byte >= 64 { 9 } else { 0 };
+    (byte % 16 + letter) % 16
+}
+
+/// The byte that the simple element stands for which begins with these bytes, if one does.
+#[inline(always)]
+fn simple_value(byte: u8, next: u8, last: u8) -> u8
+    ensures { IsValueOf byte next last result }
+{
+    if byte == b'\\' {
+        16 * digit_value(next) + digit_value(last)
+    } else {
+        byte
+    }
+}
+
+/// Notes of each place of a chunk the byte that a simple element there stands for, and whether one begins two places
+/// behind it, and tells whether the bytes of the chunk are each linked to the two behind them.
+// All are looked at, whatever the first ones are, so that a processor can do it to many at once.
+#[inline(always)]
+fn note_chunk(text: &[u8], from: usize, values: &mut [u8; ROOM], starts: &mut [u8; STARTS]) -> bool
+    requires within { from + 18 ≤ length text.now }
+    requires room { from + 16 ≤ 256 }
+    requires noted { AreNoted text.now values.now starts.now from }
+    ensures linked { IsTrue result → (k : ℕ) → k < 16 → IsLinkedAt text.now (from + k) }
+    ensures noted { AreNoted text.now values.new starts.new (from + 16) }
+{
+    let mut all = true;
+    for k in 0..CHUNK {
+        let at = from + k;
+        let (byte, next, last) = (text[at], text[at + 1], text[at + 2]);
+        all &= is_linked(byte, next, last);
+        values[at] = simple_value(byte, next, last);
+        starts[at + 2] = ((byte != b'\\') & (next != b'\\')) as u8;
+    }
+    all
+}
+
+/// Notes places at the front of a text, each of a simple element or of the digits of one, and tells how many they are.
+#[inline(always)]
+fn note_places(text: &[u8], values: &mut [u8; ROOM], starts: &mut [u8; STARTS]) -> usize
+    requires { 2 ≤ length text.now }
+    ensures room { result ≤ 256 }
+    ensures within { result + 2 ≤ length text.now }
+    ensures simple { (k : ℕ) → k < result → IsSimpleAt text.now k }
+    ensures noted { AreNoted text.now values.new starts.new result }
+{
+    starts[0] = 1;
+    starts[1] = (text[0] != b'\\') as u8;
+    if !begins_linked(text) {
+        return 0;
+    }
+    let mut at = 0;
+    while at + CHUNK <= ROOM
+        && at + CHUNK + 2 <= text.len()
+        && note_chunk(text, at, values, starts)
+    {
+        at += CHUNK;
+    }
+    at
+}
+
+/// How many bytes stand from a place on of an element that begins before it.
+#[inline(always)]
+fn left_over(text: &[u8], at: usize) -> usize
+    requires { (2 ≤ at) × (at ≤ length text.now) }
+    ensures within { result ≤ 2 }
+    ensures value { result ≡ left_over text.now at }
+{
+    if text[at - 1] == b'\\' {
+        2
+    } else {
+        (text[at - 2] == b'\\') as usize
+    }
+}
+
+/// Writes the values of the places where elements begin.
+// Each is written, and the next one over it where no element begins: which it is can't be foretold.
+#[inline(always)]
+fn put_begun(
+    text: &[u8],
+    places: usize,
+    values: &[u8; ROOM],
+    starts: &[u8; STARTS],
+    bytes: &mut [u8; ROOM],
+) -> usize
+    requires room { places ≤ 256 }
+    requires within { places + 2 ≤ length text.now }
+    requires simple { (k : ℕ) → k < places → IsSimpleAt text.now k }
+    requires noted { AreNoted text.now values.now starts.now places }
+    ensures room { result ≤ places }
+    ensures elements { Elements (take (places + left_over text.now places) text.now) (take result bytes.new) }
+{
+    let mut made = 0;
+    for k in 0..places {
+        bytes[made] = values[k];
+        made += starts[k] as usize;
+    }
+    made
+}
+
+/// Reads simple elements at the front of a text, of many places at once, and writes the bytes that they stand for.
+// Whether an element begins at a place hangs on the two before it alone.
+#[inline(never)]
+fn read_places(text: &[u8], bytes: &mut [u8; ROOM]) -> Run
+    requires { 2 ≤ length text.now }
+    ensures within { result.len ≤ length text.now }
+    ensures room { result.made ≤ 256 }
+    ensures elements { Elements (take result.len text.now) (take result.made bytes.new) }
+{
+    let mut values = [0; ROOM];
+    let mut starts = [0; STARTS];
+    let places = note_places(text, &mut values, &mut starts);
+    if places < 2 {
+        return Run { len: 0, made: 0 };
+    }
+    let made = put_begun(text, places, &values, &starts, bytes);
+    Run {
+        len: places + left_over(text, places),
+        made,
+    }
+}
+
 /// The byte behind a simple element: of its first byte, the one next to it, and the third from it.
 // It is computed of both that it may be, so that what comes next needn't wait for which of them it is.
 #[inline(always)]
@@ -179,7 +313,7 @@ fn behind_simple(byte: u8, next: u8, far: u8) -> u8
 #[inline(always)]
 fn read_pairs(text: &[u8], bytes: &mut [u8; ROOM]) -> Run
     ensures within { result.len ≤ length text.now }
-    ensures room { result.made ≤ 128 }
+    ensures room { result.made ≤ 256 }
     ensures elements { Elements (take result.len text.now) (take result.made bytes.new) }
 {
     // Two elements have six bytes at most.
@@ -208,11 +342,17 @@ fn read_pairs(text: &[u8], bytes: &mut [u8; ROOM]) -> Run
 /// bytes at the latest.
 pub fn read_simple(text: &[u8], bytes: &mut [u8; ROOM]) -> Run
     ensures within { result.len ≤ length text.now }
-    ensures room { result.made ≤ 128 }
+    ensures room { result.made ≤ 256 }
     ensures elements { Elements (take result.len text.now) (take result.made bytes.new) }
 {
     // The last two bytes are left, since behind neither of them stand two.
     let limit = text.len().saturating_sub(2);
+    if CHUNK <= limit && begins_linked(text) && is_linked_chunk(text, 0) {
+        let run = read_places(text, bytes);
+        if run.len > 0 {
+            return run;
+        }
+    }
     let Run { mut len, mut made } = read_pairs(text, bytes);
     while made < ROOM && len < limit {
         let Some(simple) = simple_of(text[len], text[len + 1], text[len + 2]) else {

@@ -73,7 +73,7 @@ unfolding digit_of
 zero-digit = lit≤ tt
 
 -- a digit stands for itself where no backslash stands before it
-IsPlain-digit : (c : ℕ) → IsDigit 16 c → IsPlain c
+pub IsPlain-digit : (c : ℕ) → IsDigit 16 c → IsPlain c
 IsPlain-digit c h = (
   (elim (cases_lt c 32) [ inl l ↦ absurd (omega (arith, h, low-digit c l)) | inr l ↦ l ]),
   is-no-digit c 127 h delete-digit,

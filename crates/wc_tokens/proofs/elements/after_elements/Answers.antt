@@ -1,11 +1,14 @@
-use Rattle.std.proofs.Common.{ap, sym, ◌∙◌, option_map, arith}
+use Rattle.std.proofs.Common.{ap, sym, ◌∙◌, option_map, arith, inl}
+use Rattle.std.proofs.lemmas.List.{take_rest}
 use Rattle.wc_tokens.specs.Reading.Elements.{first_element, bytes_of}
 use Rattle.wc_tokens.proofs.Escapes.ElementLaws.{read_element-shorter}
-use Rattle.wc_tokens.proofs.Escapes.SimpleLaws.{EndsElements-read, EndsElements-here}
+use Rattle.wc_tokens.proofs.Escapes.SimpleLaws.{EndsElements-read, EndsElements-here, EndsElements-simple}
 use Rattle.wc_tokens.proofs.elements.after_elements.Goals as goal
 
 pub loop-element-init : goal.loop-element-init
-loop-element-init c = c.after_simple-rest.ensures.same_end
+loop-element-init c = λ end e.
+    EndsElements-simple c.args.text.now c.plain_chunks.result (λ k lt. inl (c.plain_chunks.ensures.plain k lt)) end
+    (rw (take_rest c.args.text.now c.plain_chunks.result) at (c.after_simple-rest.ensures.same_end end e))
 
 pub loop-element-preserved : goal.loop-element-preserved
 loop-element-preserved c = λ end e.

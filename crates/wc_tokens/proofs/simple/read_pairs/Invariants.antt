@@ -4,11 +4,11 @@ use Rattle.wc_tokens.proofs.simple.read_pairs.Given as goal
 
 abbrev pub invariant-loop-made : goal.invariant-loop-made
 invariant-loop-made l = record {
-  made : l.made ≤ 128;
+  made : l.made ≤ 256;
   within : l.len ≤ length l.text;
-  room : length l.bytes ≡ 128;
+  room : length l.bytes ≡ 256;
   elements : Elements (take l.len l.text) (take l.made l.bytes);
 }
 
 abbrev pub decreases-loop-made : goal.decreases-loop-made
-decreases-loop-made l = 128 - l.made
+decreases-loop-made l = 256 - l.made
