@@ -5,8 +5,7 @@ use Rattle.std.proofs.Common.{◌≡◌, ℕ, ◌+◌, ◌-◌, ◌*◌, ◌^◌
 use Rattle.std.proofs.Common.{inl, inr, refl, sym, subst, ap, ◌∙◌, arith}
 use Rattle.std.proofs.lemmas.List.{length-append, take-take, take-append-drop, take_at}
 use Rattle.wc_leb128.specs.Standard.Integers.{U, IsAtFront}
-use Rattle.wc_binary.specs.Standard.Values.{IsByte, u32}
-use Rattle.wc_binary.specs.Reading.NextItem.{BeginsWith}
+use Rattle.wc_binary.specs.Standard.Values.{IsByte}
 use Rattle.wc_binary.specs.Reading.Reading.{got, unsigned_at}
 use Rattle.wc_binary.specs.Reading.Source.{Input, AreAhead, Passes, Takes, TakesRest, Gave}
 use Rattle.wc_binary.proofs.phrases.Unsigned.{unsigned-spelled}
@@ -63,9 +62,11 @@ pub rest-gives : (N start first v : ℕ) (old new : Input) → old.place ≡ sta
 rest-gives N start first v old new e (a, s, t) = (
   t.0,
   λ k.
-      let place : start + length (first ∷ a) ≡ new.place = omega (arith, e, t.1) in
-      ((t.2 k).0, ap (λ (z : List ℕ). unsigned_at N start (first ∷ z)) (t.2 k).1
-      ∙ unsigned-spelled N start (first ∷ a) new.left v s ∙ ap (λ (q : ℕ). got v q new.left) place),
+      let place : start + length (first ∷ a) ≡ new.place = omega (arith, e, t.1) in (
+        (t.2 k).0,
+        ap (λ (z : List ℕ). unsigned_at N start (first ∷ z)) (t.2 k).1
+            ∙ unsigned-spelled N start (first ∷ a) new.left v s ∙ ap (λ (q : ℕ). got v q new.left) place,
+      ),
 )
 
 -- ---- one byte after the other

@@ -1,5 +1,4 @@
-use Rattle.std.proofs.Common.{◌≡◌, ◌<◌, ◌≤◌, ◌-◌, ◌+◌, ◌*◌, refl, arith, rules}
-use Rattle.wc_leb128.specs.Standard.Integers.{U, IsAtFront}
+use Rattle.std.proofs.Common.{◌<◌, ◌-◌, ◌+◌, ◌*◌, refl, arith, rules}
 use Rattle.wc_binary.specs.Standard.Values.{u32}
 use Rattle.wc_binary.proofs.reading.Rests.{last-behind, next-behind}
 use Rattle.wc_binary.proofs.decoder.front.u32_behind.Goals as goal

@@ -1,5 +1,4 @@
-use Rattle.std.proofs.Common.{◌≡◌, ◌≤◌, ◌-◌, length, refl, arith}
-use Rattle.wc_leb128.specs.Standard.Integers.{U, IsAtFront}
+use Rattle.std.proofs.Common.{◌≡◌, ◌-◌, length, refl, arith}
 use Rattle.wc_binary.specs.Standard.Values.{u32}
 use Rattle.wc_binary.proofs.reading.Rests.{rest-taken, rest-within}
 use Rattle.wc_binary.proofs.decoder.integer.unsigned_ahead.Goals as goal
