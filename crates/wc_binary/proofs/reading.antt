@@ -4,6 +4,7 @@ pub mod Going
 pub mod Behind
 pub mod SignedBytes
 pub mod UnsignedBytes
+pub mod Rests
 pub mod Feeding
 pub mod Entries
 pub mod FrontEntries

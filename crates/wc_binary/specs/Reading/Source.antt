@@ -82,6 +82,11 @@ Takes old new bytes =
     GoesOn old new × (new.place ≡ old.place + length bytes)
     × (IsTrue old.known → IsTrue new.known × (old.left ≡ bytes ++ new.left)) × AllByRecursion IsByte bytes
 
+-- the other bytes of a spelling were taken, whose first one this is; or nothing was
+abbrev pub TakesRest : {A : Type 0} → (List ℕ → A → Type 0) → ℕ → Input → Input → Option A → Type 0
+TakesRest Spells first old new (Some v) = (rest : List ℕ) × Spells (first ∷ rest) v × Takes old new rest
+TakesRest Spells first old new None = new ≡ old
+
 -- these so many bytes are the next ones
 abbrev pub AreAhead : Input → ℕ → List ℕ → Type 0
 AreAhead i count bytes =
