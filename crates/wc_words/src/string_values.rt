@@ -6,7 +6,6 @@ ghost use Rattle.wc_words.specs.Strings.{bytes_in};
 ghost use Rattle.wc_words.specs.Tokens.{StringIs};
 
 use crate::symbol::{Symbol, bare};
-use simdutf8::compat::from_utf8;
 use std::alloc::{AllocError, Global};
 use wc_syntax::Kind;
 use wc_tokens::{Token, string_bytes};
@@ -36,10 +35,11 @@ pub fn string_value<'a>(alloc: Global, token: &Token<'a>) -> Result<StringValue<
 fn own_value<'a>(bytes: Vec<u8>) -> StringValue<'a>
     ensures { bytes_in result ≡ bytes.items }
 {
-    if let Err(_) = from_utf8(bytes.as_slice()) {
-        return StringValue::Bytes(bytes);
+    // That of a segment is mostly no text, and is left at its first fault.
+    match String::from_utf8(bytes) {
+        Ok(text) => StringValue::Own(text),
+        Err(error) => StringValue::Bytes(error.into_bytes()),
     }
-    StringValue::Own(unsafe { String::from_utf8_unchecked(bytes) })
 }
 
 /// What stands between the quotes of a string, where nothing is escaped.
@@ -65,7 +65,7 @@ pub fn symbol_of_string(value: &StringValue<'_>) -> Symbol
             bare(Kind::Name)
         }
         StringValue::Own(_) => bare(Kind::Name),
-        StringValue::Bytes(bytes) => match from_utf8(bytes.as_slice()) {
+        StringValue::Bytes(bytes) => match str::from_utf8(bytes.as_slice()) {
             Ok(_) => bare(Kind::Name),
             Err(_) => bare(Kind::Text),
         },
