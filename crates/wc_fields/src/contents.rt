@@ -69,6 +69,7 @@ impl<'a> Contents<'a> {
     {
         match value {
             StringValue::Plain(text) => self.take_bytes(alloc, text.as_bytes()),
+            StringValue::Own(text) => self.take_own_bytes(alloc, text.into_bytes()),
             StringValue::Bytes(bytes) => self.take_own_bytes(alloc, bytes),
         }
     }

@@ -17,6 +17,7 @@ pub(crate) fn name_of(value: StringValue<'_>) -> TextName<'_>
             let _ = text.as_bytes();
             TextName::piece(text)
         }
+        StringValue::Own(text) => TextName::own(text),
         StringValue::Bytes(bytes) => name_of_bytes(bytes),
     }
 }

@@ -1,5 +1,5 @@
 -- What a word says as a name.
-use Rattle.std.proofs.Common.{◌≡◌, ℕ, IsTrue, List, refl, sym, ap, ◌∙◌, inl, inr}
+use Rattle.std.proofs.Common.{◌≡◌, ℕ, List, refl, inl, inr}
 use Rattle.wc_ops.specs.declared.op.Op.{Op}
 use Rattle.wc_ops.specs.declared.op.OpName.TheVariants.{Known, Float, Unknown}
 use Rattle.wc_ops.specs.Standard.NameMeaning.{IsOpName}

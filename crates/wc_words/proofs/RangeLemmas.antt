@@ -7,19 +7,18 @@ use Rattle.wc_ops.specs.declared.op.Op.TheVariants as op
 use Rattle.wc_ops.specs.declared.val_type.ValType.TheVariants as type
 use Rattle.wc_tokens.specs.declared.token.TokenKind.{TokenKind}
 use Rattle.wc_tokens.specs.declared.token.TokenKind.TheVariants as token
-use Rattle.wc_tokens.specs.Standard.Numbers.{Natural, Signed, Unsigned, Plus, Minus, Literal, unsigned, plus, minus}
+use Rattle.wc_tokens.specs.Standard.Numbers.{Signed, Unsigned, Plus, Minus, Literal, unsigned, plus, minus}
 use Rattle.wc_tokens.specs.Standard.Numbers.{FitsBits, bits_of}
 use Rattle.wc_syntax.specs.declared.kind.Kind.{Kind}
 use Rattle.wc_syntax.specs.declared.kind.Kind.TheVariants as kind
 use Rattle.wc_words.specs.declared.symbol.Symbol.{Symbol}
 use Rattle.wc_words.specs.declared.symbol.Value.TheVariants.{Nothing, Number, Instruction}
-use Rattle.wc_words.specs.Symbols.{bare}
 use Rattle.wc_words.specs.Numbers.{NaturalIs, below_32, below_64, above, HasSign, SignedIs, of_32, of_64, beyond}
 use Rattle.wc_words.specs.Numbers.{OffsetIs, offset_number, offset_range, offset_form}
 use Rattle.wc_words.specs.Numbers.{AlignIs, align_power, align_no_power, align_range, align_form}
 use Rattle.wc_words.specs.Names.{op_kind, keyword, KeywordIs, word, i32, i64, f32, f64, NameIs, keyword_is, instruction}
 use Rattle.wc_words.specs.Names.{float}
-use Rattle.wc_words.specs.Words.{Says, natural, signed, offset, align, name, WordIs, known, other}
+use Rattle.wc_words.specs.Words.{natural, signed, offset, align, name, WordIs, known, other}
 use Rattle.wc_words.specs.Tokens.{StringIs, name as string_name, no_name, TokenIs}
 use Rattle.wc_words.specs.Ranges.{FitsKind}
 use Rattle.wc_words.specs.Literals.{IsLiteral32, IsLiteral64}

@@ -1,14 +1,14 @@
 -- A word says one number.
-use Rattle.std.proofs.Common.{◌≡◌, ℕ, ◌^◌, ◌<◌, ◌≤◌, List, [], ◌∷◌, refl, sym, ap, subst, ◌∙◌, inl, inr, arith}
+use Rattle.std.proofs.Common.{◌≡◌, ℕ, ◌^◌, ◌<◌, List, refl, sym, ap, subst, ◌∙◌, inl, inr, arith}
 use Rattle.std.proofs.lemmas.Bool.{cases_lt}
 use Rattle.std.proofs.lemmas.Nat.{pow_below}
-use Rattle.wc_tokens.specs.Standard.Numbers.{Natural, Signed, Unsigned, Plus, Minus, Literal, unsigned, plus, minus}
+use Rattle.wc_tokens.specs.Standard.Numbers.{Signed, Unsigned, Plus, Minus, Literal, unsigned, plus, minus}
 use Rattle.wc_tokens.specs.Standard.Numbers.{FitsBits, bits_of}
 use Rattle.wc_tokens.proofs.Integers.Literals.{same-Natural}
 use Rattle.wc_syntax.specs.declared.kind.Kind.TheVariants as kind
 use Rattle.wc_words.specs.declared.symbol.Symbol.{Symbol}
 use Rattle.wc_words.specs.declared.symbol.Value.TheVariants.{Number, Offset, Exponent}
-use Rattle.wc_words.specs.Symbols.{bare, valued}
+use Rattle.wc_words.specs.Symbols.{valued}
 use Rattle.wc_words.specs.Numbers.{NaturalIs, below_32, below_64, above, HasSign, SignedIs, of_32, of_64, beyond}
 use Rattle.wc_words.specs.Numbers.{OffsetIs, offset_number, offset_range, offset_form}
 use Rattle.wc_words.specs.Numbers.{AlignIs, align_power, align_no_power, align_range, align_form}

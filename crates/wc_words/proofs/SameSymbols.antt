@@ -1,5 +1,5 @@
 -- A token is one symbol.
-use Rattle.std.proofs.Common.{◌≡◌, ℕ, List, ◌++◌, codes, refl, sym, ap, subst, ◌∙◌}
+use Rattle.std.proofs.Common.{◌≡◌, ℕ, List, ◌++◌, codes, refl, sym, subst, ◌∙◌}
 use Rattle.wc_words.specs.declared.symbol.Symbol.{Symbol}
 use Rattle.wc_words.specs.declared.shape.Shape.{Shape}
 use Rattle.wc_words.specs.declared.shape.Shape.TheVariants as shape

@@ -1,5 +1,5 @@
 -- What a word may say by its first characters.
-use Rattle.std.proofs.Common.{◌≡◌, ◌≢◌, ℕ, ◌<◌, ◌≤◌, nat_eq, nat_le, Bool, true, false, ◌||◌, IsTrue, List, [], ◌∷◌}
+use Rattle.std.proofs.Common.{◌≡◌, ◌≢◌, ℕ, ◌<◌, ◌≤◌, nat_eq, nat_le, Bool, true, false, List, [], ◌∷◌}
 use Rattle.std.proofs.Common.{◌++◌, length, take, drop, codes, get_or, lit<, IsUtf8, if◌then◌else◌}
 use Rattle.std.proofs.Common.{Option, Some, None, refl, sym, ap, subst, ◌∙◌, ◌⊎◌, inl, inr, arith}
 use Rattle.std.specs.Str.{bytes_eq}
@@ -26,7 +26,7 @@ use Rattle.wc_syntax.specs.declared.kind.Kind.TheVariants as kind
 use Rattle.wc_words.specs.declared.symbol.Symbol.{Symbol}
 use Rattle.wc_words.specs.declared.shape.Shape.{Shape}
 use Rattle.wc_words.specs.declared.shape.Shape.TheVariants as shape
-use Rattle.wc_words.specs.Symbols.{bare, OrOther}
+use Rattle.wc_words.specs.Symbols.{OrOther}
 use Rattle.wc_words.specs.Numbers.{NaturalIs, below_32, below_64, above, HasSign, SignedIs, of_32, of_64, beyond}
 use Rattle.wc_words.specs.Numbers.{OffsetIs, AlignIs}
 use Rattle.wc_words.specs.Names.{keyword, KeywordIs, word, i32, i64, f32, f64, NameIs, keyword_is, instruction, float}

@@ -1,6 +1,6 @@
 -- The numbers of constants (Core 1.0, 6.3.1 and 6.5.6).
-use Rattle.std.specs.Prelude.{◌≡◌, ℕ, ◌%◌, ◌^◌, List, ◌⊎◌}
-use Rattle.wc_tokens.specs.Standard.Numbers.{Signed, Literal, FitsBits, bits_of}
+use Rattle.std.specs.Prelude.{◌≡◌, ℕ, ◌%◌, ◌^◌, ◌⊎◌}
+use Rattle.wc_tokens.specs.Standard.Numbers.{Signed, bits_of}
 use Rattle.wc_syntax.specs.declared.kind.Kind.TheVariants as kind
 use Rattle.wc_words.specs.declared.symbol.Symbol.{Symbol}
 use Rattle.wc_words.specs.declared.symbol.Value.TheVariants.{Number}

@@ -1,20 +1,21 @@
 //! What strings stand for (Core 1.0, 6.3.3).
 
-ghost use Rattle.std.specs.Prelude.{ℕ, List, IfOk, IfSome};
+ghost use Rattle.std.specs.Prelude.{◌≡◌, ℕ, List, IfOk, IfSome};
 ghost use Rattle.wc_tokens.specs.Standard.Strings.{IsString};
 ghost use Rattle.wc_words.specs.Strings.{bytes_in};
 ghost use Rattle.wc_words.specs.Tokens.{StringIs};
 
 use crate::symbol::{Symbol, bare};
-use simdutf8::basic::from_utf8;
 use std::alloc::{AllocError, Global};
 use wc_syntax::Kind;
 use wc_tokens::{Token, string_bytes};
 
-/// What a string stands for: a piece of the text where nothing is escaped, else bytes of its own.
+/// What a string stands for: a piece of the text where nothing is escaped, else text of its own, or bytes that are no
+/// UTF-8.
 #[derive(Debug, Drop)]
 pub enum StringValue<'a> {
     Plain(&'a str),
+    Own(String),
     Bytes(Vec<u8>),
 }
 
@@ -26,7 +27,18 @@ pub fn string_value<'a>(alloc: Global, token: &Token<'a>) -> Result<StringValue<
 {
     match plain_part(token.text) {
         Some(text) => Ok(StringValue::Plain(text)),
-        None => Ok(StringValue::Bytes(string_bytes(alloc, token)?)),
+        None => Ok(own_value(string_bytes(alloc, token)?)),
+    }
+}
+
+/// These bytes, as text where they are UTF-8, so that nobody needs to look at them again.
+fn own_value<'a>(bytes: Vec<u8>) -> StringValue<'a>
+    ensures { bytes_in result ≡ bytes.items }
+{
+    // That of a segment is mostly no text, and is left at its first fault.
+    match String::from_utf8(bytes) {
+        Ok(text) => StringValue::Own(text),
+        Err(error) => StringValue::Bytes(error.into_bytes()),
     }
 }
 
@@ -52,7 +64,8 @@ pub fn symbol_of_string(value: &StringValue<'_>) -> Symbol
             let _ = text.as_bytes();
             bare(Kind::Name)
         }
-        StringValue::Bytes(bytes) => match from_utf8(bytes.as_slice()) {
+        StringValue::Own(_) => bare(Kind::Name),
+        StringValue::Bytes(bytes) => match str::from_utf8(bytes.as_slice()) {
             Ok(_) => bare(Kind::Name),
             Err(_) => bare(Kind::Text),
         },

@@ -1,5 +1,5 @@
 -- What a word may say by its first characters.
-use Rattle.std.specs.Prelude.{ℕ, nat_eq, nat_le, ◌==◌, ◌&&◌, ◌||◌, List, [], ◌∷◌, codes, if◌then◌else◌}
+use Rattle.std.specs.Prelude.{ℕ, nat_eq, nat_le, ◌==◌, ◌&&◌, List, [], ◌∷◌, codes, if◌then◌else◌}
 use Rattle.std.specs.List.{starts_with}
 use Rattle.wc_words.specs.declared.shape.Shape.{Shape}
 use Rattle.wc_words.specs.declared.shape.Shape.TheVariants.{Natural, Plus, Minus, Offset, Align, Name}

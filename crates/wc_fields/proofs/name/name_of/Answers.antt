@@ -1,4 +1,5 @@
-use Rattle.std.proofs.Common.{◌≡◌, ◌∙◌, sym, ap, subst, IsUtf8}
+use Rattle.std.proofs.Common.{◌≡◌, ◌∙◌, sym, ap, subst, IsUtf8, string_bytes}
+use Rattle.std.proofs.lemmas.Str.{IsUtf8-string_bytes}
 use Rattle.wc_words.specs.Strings.{bytes_in}
 use Rattle.wc_fields.proofs.NameLemmas.{name-kept}
 use Rattle.wc_fields.proofs.name.name_of.Goals as goal
@@ -7,3 +8,7 @@ pub returns-in-Plain : goal.returns-in-Plain
 returns-in-Plain c =
     let utf8 : IsUtf8 c.in-Plain.text.now = subst IsUtf8 c.as_bytes.ensures.value c.as_bytes.ensures.utf8 in
     rw (c.piece.ensures, c.in-Plain.is) (name-kept c.in-Plain.text.now utf8)
+
+pub returns-in-Own : goal.returns-in-Own
+returns-in-Own c =
+    rw (c.own.ensures, c.in-Own.is) (name-kept (string_bytes c.in-Own.text) (IsUtf8-string_bytes c.in-Own.text))

@@ -1,5 +1,5 @@
 use Rattle.std.proofs.Common.{get_or, arith, refl}
-use Rattle.wc_words.proofs.DigitLemmas.{Short-more, Short-smaller, Short-whole}
+use Rattle.wc_words.proofs.DigitLemmas.{Short-more, Short-whole}
 use Rattle.wc_words.proofs.digits.short_decimal.Goals as goal
 
 pub loop-byte-preserved : goal.loop-byte-preserved

@@ -1,4 +1,3 @@
-use Rattle.std.proofs.Common.{arith}
 use Rattle.wc_words.proofs.NumberLemmas.{align-power, align-none, align-range, align-form}
 use Rattle.wc_words.proofs.number.alignment.Goals as goal
 

@@ -1,4 +1,4 @@
-use Rattle.std.proofs.Common.{◌≡◌, ◌≢◌, ℕ, ◌<◌, ◌^◌}
+use Rattle.std.proofs.Common.{◌≢◌, ℕ, ◌<◌, ◌^◌}
 use Rattle.wc_words.proofs.number.exponent_of.Given as goal
 
 -- no smaller power is the number

@@ -1,4 +1,3 @@
-use Rattle.std.proofs.Common.{arith}
 use Rattle.wc_words.proofs.NumberLemmas.{offset-number, offset-range, offset-form}
 use Rattle.wc_words.proofs.number.offset.Goals as goal
 

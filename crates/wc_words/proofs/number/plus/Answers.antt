@@ -1,4 +1,3 @@
-use Rattle.std.proofs.Common.{arith}
 use Rattle.wc_words.proofs.NumberLemmas.{short-plus, tail-is}
 use Rattle.wc_words.proofs.number.plus.Goals as goal
 

@@ -1,4 +1,4 @@
-use Rattle.std.proofs.Common.{refl, sym, ◌∙◌, ap, ℕ, List, ◌==◌}
+use Rattle.std.proofs.Common.{refl, sym, ◌∙◌, ap, ◌==◌}
 use Rattle.std.specs.List.{list_any}
 use Rattle.wc_words.proofs.StringLemmas.{plain-name}
 use Rattle.wc_words.proofs.string.is_name.Goals as goal

@@ -1,6 +1,5 @@
-use Rattle.std.proofs.Common.{sym, inl, ap, ◌∙◌}
+use Rattle.std.proofs.Common.{sym, inl}
 use Rattle.wc_words.specs.declared.shape.Shape.TheVariants as shape
-use Rattle.wc_words.specs.Inner.Shapes.{shape_of}
 use Rattle.wc_words.proofs.WordLemmas.{word-is, offset-begins, align-begins, behind-offset, behind-align}
 use Rattle.wc_words.proofs.word.word.Goals as goal
 
