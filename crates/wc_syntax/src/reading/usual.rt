@@ -178,7 +178,8 @@ impl Reading {
     /// The name of an instruction in which none is nested, in a list of instructions.
     #[inline(always)]
     pub fn take_plain(&mut self, kind: Kind) -> bool
-        ensures exact { result ≡ is_some (behind_name kind) && takes_name self.old.place && takes_instrs self.old.frame }
+        ensures exact { result ≡ is_some (behind_name kind) && takes_name self.old.place
+            && takes_instrs self.old.frame }
         ensures read { result ≡ true → (limit at : ℕ) (ks : List TokenKind) (es : List Event)
             → IsRead limit ks es self.old → at ≡ length ks
             → IsRead limit (ks ++ kind ∷ []) (es ++ kept_as (Some roles.Plain) at kind) self.new }
