@@ -53,8 +53,8 @@ fn role_by_table(reading: &mut Reading, at: usize, kind: Kind) -> Result<Option<
     reading.take(at, kind)
 }
 
-/// As what a token of this kind is kept. The error is the first fault, or want of memory; then the reader stands where it
-/// stood.
+/// As what a token of this kind is kept. The error is the first fault, or want of memory; then the reader stands where
+/// it stood.
 // It is apart from what is done with a token that is kept, since most of those that come here aren't.
 #[inline(never)]
 fn role_of(reading: &mut Reading, at: usize, kind: Kind) -> Result<Option<Role>, Refusal>
