@@ -1,4 +1,4 @@
-use Rattle.std.proofs.Common.{sym, subst, ◌∙◌, OnOk}
+use Rattle.std.proofs.Common.{subst, OnOk}
 use Rattle.wc_tokens.specs.Standard.Tokens.{lexeme_of}
 use Rattle.wc_body.specs.Standard.Nested.{nesting_limit}
 use Rattle.wc_syntax.specs.Reading.{Standing}
