@@ -11,4 +11,5 @@ pub mod States
 pub mod Ends
 pub mod Parses
 pub mod Usual
+pub mod Parts
 pub mod Exactness

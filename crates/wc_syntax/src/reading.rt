@@ -1,5 +1,6 @@
 //! A text read token by token.
 
+mod parts;
 mod usual;
 
 ghost use Rattle.std.specs.Prelude.{◌≡◌, ◌++◌, ◌∷◌, [], ℕ, List, length, true, false, IfOk, IfErr, OnOk, OnErr};

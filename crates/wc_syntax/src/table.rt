@@ -21,7 +21,7 @@ pub enum Rest {
 }
 
 #[inline(always)]
-fn rest_of(place: Place) -> Rest
+pub fn rest_of(place: Place) -> Rest
     ensures { result ≡ rest_of place }
 {
     match place {

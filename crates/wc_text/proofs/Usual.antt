@@ -8,14 +8,18 @@ use Rattle.wc_syntax.specs.declared.kind.Kind.{Kind}
 use Rattle.wc_syntax.specs.declared.kind.Kind.TheVariants as kind
 use Rattle.wc_syntax.specs.declared.role.Role.{Role}
 use Rattle.wc_syntax.specs.declared.role.Role.TheVariants as role
+use Rattle.wc_syntax.specs.declared.place.Place.{Place}
+use Rattle.wc_syntax.specs.declared.place.Place.TheVariants as place
+use Rattle.wc_syntax.specs.Inner.Parts.{type_role}
 use Rattle.wc_syntax.specs.Reading.{Standing, IsRead, kept_as}
 use Rattle.wc_words.specs.declared.symbol.Symbol.{Symbol}
 use Rattle.wc_words.specs.Symbols.{bare}
 use Rattle.wc_words.specs.Tokens.{TokenIs}
 use Rattle.wc_words.specs.Words.{WordIs}
+use Rattle.wc_drafts.specs.declared.word.Word.{Word}
 use Rattle.wc_drafts.specs.Standard.Tokens.{kept_token}
 use Rattle.wc_text.specs.declared.text_draft.TextDraft.{TextDraft}
-use Rattle.wc_text.specs.Standard.Texts.{take_by}
+use Rattle.wc_text.specs.Standard.Texts.{take_by, with_word}
 use Rattle.wc_text.specs.Standard.Meaning.{StandsFor}
 use Rattle.wc_text.specs.Kept.SaidSoFar.{IsSaid}
 use Rattle.wc_text.proofs.Said.{said-dropped, said-kept}
@@ -60,17 +64,26 @@ said-open {ts} {n} w t rest o s' e k h r =
     said-dropped w t rest o s' e h
     (subst (λ (x : Kind). IsRead nesting_limit (w.kinds ++ x ∷ []) (w.es ++ kept_as None n x) s') (sym q) r)
 
-pub said-held-end : {ts : List Lexeme} {n : ℕ} {s : Standing} {d : TextDraft} (w : IsSaid ts n s d) (t : Lexeme)
+pub said-end : {ts : List Lexeme} {n : ℕ} {s : Standing} {d : TextDraft} (w : IsSaid ts n s d) (t : Lexeme)
     (rest : List Lexeme)
-    (o : Symbol) (s' : Standing) (d' : TextDraft) → drop n ts ≡ t ∷ rest → t.kind ≡ token.Close
+    (o : Symbol) (s' : Standing) → drop n ts ≡ t ∷ rest → t.kind ≡ token.Close → TokenIs t.kind t.text o
+    → IsRead nesting_limit (w.kinds ++ kind.Close ∷ []) (w.es ++ kept_as None n kind.Close) s' → IsSaid ts (n + 1) s' d
+said-end {ts} {n} w t rest o s' e k h r =
+    let q : o.kind ≡ kind.Close = ap (λ (x : Symbol). x.kind) (close-is t.kind t.text o k h) in
+    said-dropped w t rest o s' e h
+    (subst (λ (x : Kind). IsRead nesting_limit (w.kinds ++ x ∷ []) (w.es ++ kept_as None n x) s') (sym q) r)
+
+pub said-kept-end : {ts : List Lexeme} {n : ℕ} {s : Standing} {d : TextDraft} (w : IsSaid ts n s d) (t : Lexeme)
+    (rest : List Lexeme)
+    (o : Symbol) (r : Role) (s' : Standing) (d' : TextDraft) → drop n ts ≡ t ∷ rest → t.kind ≡ token.Close
     → TokenIs t.kind t.text o
-    → IsRead nesting_limit (w.kinds ++ kind.Close ∷ []) (w.es ++ kept_as (Some role.HeldEnd) n kind.Close) s'
-    → d' ≡ take_by role.HeldEnd (kept_token n o t.text) [] d → IsSaid ts (n + 1) s' d'
-said-held-end {ts} {n} w t rest o s' d' e k h r q =
+    → IsRead nesting_limit (w.kinds ++ kind.Close ∷ []) (w.es ++ kept_as (Some r) n kind.Close) s'
+    → d' ≡ take_by r (kept_token n o t.text) [] d → IsSaid ts (n + 1) s' d'
+said-kept-end {ts} {n} w t rest o r s' d' e k h i q =
     let c : o.kind ≡ kind.Close = ap (λ (x : Symbol). x.kind) (close-is t.kind t.text o k h) in
-    said-kept w t rest o role.HeldEnd [] s' d' e h
-    (subst (λ (x : Kind). IsRead nesting_limit (w.kinds ++ x ∷ []) (w.es ++ kept_as (Some role.HeldEnd) n x) s') (sym c)
-    r) (no-bytes t.kind token.Close t.text k refl) q
+    said-kept w t rest o r [] s' d' e h
+    (subst (λ (x : Kind). IsRead nesting_limit (w.kinds ++ x ∷ []) (w.es ++ kept_as (Some r) n x) s') (sym c) i)
+    (no-bytes t.kind token.Close t.text k refl) q
 
 pub said-word : {ts : List Lexeme} {n : ℕ} {s : Standing} {d : TextDraft} (w : IsSaid ts n s d) (t : Lexeme)
     (rest : List Lexeme)
@@ -92,3 +105,33 @@ said-id {ts} {n} w t rest o r s' d' e k h i q =
     said-kept w t rest o r [] s' d' e h
     (subst (λ (x : Kind). IsRead nesting_limit (w.kinds ++ x ∷ []) (w.es ++ kept_as (Some r) n x) s') (sym c) i)
     (no-bytes t.kind token.Id t.text k refl) q
+
+-- a word of this very kind
+pub said-word-of : {ts : List Lexeme} {n : ℕ} {s : Standing} {d : TextDraft} (w : IsSaid ts n s d) (t : Lexeme)
+    (rest : List Lexeme)
+    (o : Symbol) (x : Kind) (r : Role) (s' : Standing) (d' : TextDraft) → drop n ts ≡ t ∷ rest → t.kind ≡ token.Word
+    → TokenIs t.kind t.text o → o.kind ≡ x
+    → IsRead nesting_limit (w.kinds ++ x ∷ []) (w.es ++ kept_as (Some r) n x) s'
+    → d' ≡ take_by r (kept_token n o t.text) [] d → IsSaid ts (n + 1) s' d'
+said-word-of {ts} {n} w t rest o x r s' d' e k h f i q =
+    said-word w t rest o r s' d' e k h
+    (subst (λ (y : Kind). IsRead nesting_limit (w.kinds ++ y ∷ []) (w.es ++ kept_as (Some r) n y) s') (sym f) i) q
+
+-- the type of a value is a part of a field and no string
+pub type-is-word : (p : Place) (r : Role) (w : Word) (d d' : TextDraft) → Some r ≡ type_role p → d' ≡ with_word r w d
+    → d' ≡ take_by r w [] d
+type-is-word place.Param r w d d' e f =
+    let h : role.ParamType ≡ r = cc in subst (λ (x : Role). d' ≡ with_word x w d → d' ≡ take_by x w [] d) h (λ g. g) f
+type-is-word place.NamedParam r w d d' e f =
+    let h : role.ParamType ≡ r = cc in subst (λ (x : Role). d' ≡ with_word x w d → d' ≡ take_by x w [] d) h (λ g. g) f
+type-is-word place.ParamTypes r w d d' e f =
+    let h : role.ParamType ≡ r = cc in subst (λ (x : Role). d' ≡ with_word x w d → d' ≡ take_by x w [] d) h (λ g. g) f
+type-is-word place.ResultTypes r w d d' e f =
+    let h : role.ResultType ≡ r = cc in subst (λ (x : Role). d' ≡ with_word x w d → d' ≡ take_by x w [] d) h (λ g. g) f
+type-is-word place.Local r w d d' e f =
+    let h : role.LocalType ≡ r = cc in subst (λ (x : Role). d' ≡ with_word x w d → d' ≡ take_by x w [] d) h (λ g. g) f
+type-is-word place.NamedLocal r w d d' e f =
+    let h : role.LocalType ≡ r = cc in subst (λ (x : Role). d' ≡ with_word x w d → d' ≡ take_by x w [] d) h (λ g. g) f
+type-is-word place.LocalTypes r w d d' e f =
+    let h : role.LocalType ≡ r = cc in subst (λ (x : Role). d' ≡ with_word x w d → d' ≡ take_by x w [] d) h (λ g. g) f
+type-is-word _ r w d d' e f = absurd cc

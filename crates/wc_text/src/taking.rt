@@ -53,8 +53,8 @@ fn role_by_table(reading: &mut Reading, at: usize, kind: Kind) -> Result<Option<
     reading.take(at, kind)
 }
 
-/// As what a token of this kind is kept. The error is the first fault, or want of memory; then the reader stands where it
-/// stood.
+/// As what a token of this kind is kept. The error is the first fault, or want of memory; then the reader stands where
+/// it stood.
 // It is apart from what is done with a token that is kept, since most of those that come here aren't.
 #[inline(never)]
 fn role_of(reading: &mut Reading, at: usize, kind: Kind) -> Result<Option<Role>, Refusal>
@@ -74,7 +74,7 @@ fn role_of(reading: &mut Reading, at: usize, kind: Kind) -> Result<Option<Role>,
 
 /// Keeps any token but a string. The error is want of memory.
 #[inline(never)]
-fn take_kept<'a>(
+pub(crate) fn take_kept<'a>(
     alloc: Global,
     draft: &mut TextDraft<'a>,
     role: Role,
@@ -159,6 +159,33 @@ fn take_open<'a>(
     take_any(alloc, reading, draft, at, token, symbol)
 }
 
+/// A closing parenthesis that ends a part of a field, or a field.
+#[inline(always)]
+fn take_end_of_part<'a>(
+    alloc: Global,
+    reading: &mut Reading,
+    draft: &mut TextDraft<'a>,
+    at: usize,
+    token: &Token<'a>,
+    symbol: Symbol,
+) -> Result<(), SynFault>
+    requires few { at < 2 ^ 32 }
+    requires form { HasForm token.now.kind token.now.text.now }
+    requires kind { token.now.kind ≡ tokens.Close }
+    requires symbol { TokenIs token.now.kind token.now.text.now symbol }
+    ensures said { OnOk result (SaysMore (lexeme_of token.now) at reading.old draft.old reading.new draft.new) }
+    ensures fault { IfErr result (Refuses (lexeme_of token.now) at reading.old draft.old) }
+{
+    if reading.take_part_end() {
+        return Ok(());
+    }
+    if reading.take_field_end() {
+        take_kept(alloc, draft, Role::FieldEnd, at, symbol, token.text)?;
+        return Ok(());
+    }
+    take_any(alloc, reading, draft, at, token, symbol)
+}
+
 /// A closing parenthesis.
 #[inline(always)]
 fn take_close<'a>(
@@ -179,7 +206,7 @@ fn take_close<'a>(
         keep(draft, Role::HeldEnd, at, symbol, token.text)?;
         return Ok(());
     }
-    take_any(alloc, reading, draft, at, token, symbol)
+    take_end_of_part(alloc, reading, draft, at, token, symbol)
 }
 
 /// A string, by the whole table of the grammar: whether it is a name is seen from what it stands for.

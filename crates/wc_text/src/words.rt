@@ -12,7 +12,7 @@ ghost use Rattle.wc_words.specs.Tokens.{TokenIs};
 ghost use Rattle.wc_text.specs.Kept.SaidSoFar.{SaysMore, Refuses};
 
 use crate::fault::SynFault;
-use crate::taking::{keep, take_any};
+use crate::taking::{keep, take_any, take_kept};
 use crate::text_draft::TextDraft;
 use std::alloc::Global;
 use wc_syntax::{Kind, Reading, Role};
@@ -97,6 +97,10 @@ fn take_number<'a>(
     }
     if reading.take_literal(symbol.kind) {
         keep(draft, Role::Literal, at, symbol, token.text)?;
+        return Ok(());
+    }
+    if reading.take_type_index(symbol.kind) {
+        keep(draft, Role::TypeIndex, at, symbol, token.text)?;
         return Ok(());
     }
     take_any(alloc, reading, draft, at, token, symbol)
@@ -201,6 +205,57 @@ fn take_end<'a>(
     take_any(alloc, reading, draft, at, token, symbol)
 }
 
+/// The word `func`.
+#[inline(always)]
+fn take_func<'a>(
+    alloc: Global,
+    reading: &mut Reading,
+    draft: &mut TextDraft<'a>,
+    at: usize,
+    token: &Token<'a>,
+    symbol: Symbol,
+) -> Result<(), SynFault>
+    requires few { at < 2 ^ 32 }
+    requires form { HasForm token.now.kind token.now.text.now }
+    requires kind { token.now.kind ≡ tokens.Word }
+    requires symbol { TokenIs token.now.kind token.now.text.now symbol }
+    requires func { symbol.kind ≡ kinds.FuncWord }
+    ensures said { OnOk result (SaysMore (lexeme_of token.now) at reading.old draft.old reading.new draft.new) }
+    ensures fault { IfErr result (Refuses (lexeme_of token.now) at reading.old draft.old) }
+{
+    if reading.take_func()? {
+        take_kept(alloc, draft, Role::Field, at, symbol, token.text)?;
+        return Ok(());
+    }
+    take_any(alloc, reading, draft, at, token, symbol)
+}
+
+/// The word of a part of a type use, or of locals.
+#[inline(always)]
+fn take_part_word<'a>(
+    alloc: Global,
+    reading: &mut Reading,
+    draft: &mut TextDraft<'a>,
+    at: usize,
+    token: &Token<'a>,
+    symbol: Symbol,
+) -> Result<(), SynFault>
+    requires few { at < 2 ^ 32 }
+    requires form { HasForm token.now.kind token.now.text.now }
+    requires kind { token.now.kind ≡ tokens.Word }
+    requires symbol { TokenIs token.now.kind token.now.text.now symbol }
+    ensures said { OnOk result (SaysMore (lexeme_of token.now) at reading.old draft.old reading.new draft.new) }
+    ensures fault { IfErr result (Refuses (lexeme_of token.now) at reading.old draft.old) }
+{
+    if reading.take_part_word(symbol.kind) {
+        return Ok(());
+    }
+    if reading.take_first_word(symbol.kind) {
+        return Ok(());
+    }
+    take_any(alloc, reading, draft, at, token, symbol)
+}
+
 /// A word with no value.
 #[inline(always)]
 fn take_bare<'a>(
@@ -220,6 +275,10 @@ fn take_bare<'a>(
 {
     match symbol.kind {
         Kind::EndWord => take_end(alloc, reading, draft, at, token, symbol),
+        Kind::FuncWord => take_func(alloc, reading, draft, at, token, symbol),
+        Kind::TypeWord | Kind::ParamWord | Kind::ResultWord | Kind::LocalWord => {
+            take_part_word(alloc, reading, draft, at, token, symbol)
+        }
         _ => take_any(alloc, reading, draft, at, token, symbol),
     }
 }
@@ -248,6 +307,31 @@ fn take_rare<'a>(
     }
 }
 
+/// The name of a type.
+#[inline(always)]
+fn take_type<'a>(
+    alloc: Global,
+    reading: &mut Reading,
+    draft: &mut TextDraft<'a>,
+    at: usize,
+    token: &Token<'a>,
+    symbol: Symbol,
+) -> Result<(), SynFault>
+    requires few { at < 2 ^ 32 }
+    requires form { HasForm token.now.kind token.now.text.now }
+    requires kind { token.now.kind ≡ tokens.Word }
+    requires symbol { TokenIs token.now.kind token.now.text.now symbol }
+    requires ty { symbol.kind ≡ kinds.ValType }
+    ensures said { OnOk result (SaysMore (lexeme_of token.now) at reading.old draft.old reading.new draft.new) }
+    ensures fault { IfErr result (Refuses (lexeme_of token.now) at reading.old draft.old) }
+{
+    if let Some(role) = reading.take_type() {
+        keep(draft, role, at, symbol, token.text)?;
+        return Ok(());
+    }
+    take_any(alloc, reading, draft, at, token, symbol)
+}
+
 /// A word that is no name of an instruction and no short number.
 #[inline(always)]
 fn take_other<'a>(
@@ -265,7 +349,7 @@ fn take_other<'a>(
 {
     if let Some(ty) = usual_type(token.text) {
         let symbol = symbol_of_type(ty);
-        return take_any(alloc, reading, draft, at, token, symbol);
+        return take_type(alloc, reading, draft, at, token, symbol);
     }
     if let Some(kind) = usual_keyword(token.text) {
         let symbol = symbol_of_keyword(kind);

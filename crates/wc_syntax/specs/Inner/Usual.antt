@@ -2,10 +2,14 @@
 use Rattle.std.specs.Prelude.{Bool, true, false, Option, Some, None}
 use Rattle.wc_syntax.specs.declared.kind.Kind.{Kind}
 use Rattle.wc_syntax.specs.declared.kind.Kind.TheVariants as kind
+use Rattle.wc_syntax.specs.declared.role.Role.{Role}
 use Rattle.wc_syntax.specs.declared.place.Place.{Place}
 use Rattle.wc_syntax.specs.declared.place.Place.TheVariants as place
 use Rattle.wc_syntax.specs.declared.place.Frame.{Frame}
 use Rattle.wc_syntax.specs.declared.place.Frame.TheVariants as frame
+use Rattle.wc_syntax.specs.declared.place.Move.{Move}
+use Rattle.wc_syntax.specs.declared.place.Move.TheVariants.{On}
+use Rattle.wc_syntax.specs.declared.place.Action.{Action}
 use Rattle.wc_syntax.specs.Inner.Table.{takes_instrs}
 
 -- nothing has to follow in front of the frame's rest, and no name or parenthesis may
@@ -112,3 +116,13 @@ abbrev pub is_align : Place → Kind → Bool
 is_align place.MemOffset kind.MemAlign = true
 is_align place.MemAlign kind.MemAlign = true
 is_align _ _ = false
+
+-- what is kept of a token, where it only leads on in the same frame
+abbrev pub if_on : Move → Option Role → Option (Option Role)
+if_on (On p) kept = Some kept
+if_on _ kept = None
+
+-- the same, where it leads anywhere
+abbrev pub kept_on : Option Action → Option (Option Role)
+kept_on None = None
+kept_on (Some a) = if_on a.go a.keep

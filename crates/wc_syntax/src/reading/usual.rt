@@ -1,13 +1,13 @@
 //! The most usual tokens, those of instructions in which none is nested, read without a look at the whole table.
 
-ghost use Rattle.std.specs.Prelude.{◌≡◌, ◌++◌, ◌∷◌, [], ◌&&◌, ℕ, List, length, true, false, Some, None};
-ghost use Rattle.std.specs.Prelude.{OnErr, IfOk, IfSome};
+ghost use Rattle.std.specs.Prelude.{◌≡◌, ◌++◌, ◌∷◌, [], ◌&&◌, ◌||◌, not, ℕ, List, length, true, false, Some, None};
+ghost use Rattle.std.specs.Prelude.{OnErr, IfOk, IfSome, is_some};
 ghost use Rattle.wc_syntax.specs.Deriving.{Event};
 ghost use Rattle.wc_syntax.specs.Reading.{IsRead, is_deep, kept_as};
-ghost use Rattle.wc_syntax.specs.Inner.Table.{takes_instrs, takes_folded};
+ghost use Rattle.wc_syntax.specs.Inner.Table.{takes_instrs, takes_folded, find, place_rows};
 ghost use Rattle.wc_syntax.specs.Inner.Usual.{is_free, takes_name, takes_open, behind_name, begun_frame, ends_by_word};
 ghost use Rattle.wc_syntax.specs.Inner.Usual.{is_opened, opened_part, is_held, behind_index};
-ghost use Rattle.wc_syntax.specs.Inner.Usual.{is_literal, is_offset, is_align};
+ghost use Rattle.wc_syntax.specs.Inner.Usual.{is_literal, is_offset, is_align, kept_on};
 ghost use Rattle.wc_syntax.specs.declared.kind.Kind.{Kind as TokenKind};
 ghost use Rattle.wc_syntax.specs.declared.kind.Kind.TheVariants as kinds;
 ghost use Rattle.wc_syntax.specs.declared.role.Role.TheVariants as roles;
@@ -178,6 +178,8 @@ impl Reading {
     /// The name of an instruction in which none is nested, in a list of instructions.
     #[inline(always)]
     pub fn take_plain(&mut self, kind: Kind) -> bool
+        ensures exact { result ≡ is_some (behind_name kind) && takes_name self.old.place
+            && takes_instrs self.old.frame }
         ensures read { result ≡ true → (limit at : ℕ) (ks : List TokenKind) (es : List Event)
             → IsRead limit ks es self.old → at ≡ length ks
             → IsRead limit (ks ++ kind ∷ []) (es ++ kept_as (Some roles.Plain) at kind) self.new }
@@ -197,6 +199,8 @@ impl Reading {
     /// The same behind a parenthesis. The error is want of memory, and then the reader stands where it stood.
     #[inline(always)]
     pub fn take_held(&mut self, kind: Kind) -> Result<bool, AllocError>
+        ensures exact { IfOk result (λ found. found ≡ is_some (behind_name kind) && is_opened self.old.place
+            && takes_folded self.old.frame && not (is_deep self.old)) }
         ensures read { IfOk result (λ found. found ≡ true → (limit at : ℕ) (ks : List TokenKind) (es : List Event)
             → IsRead limit ks es self.old → at ≡ length ks
             → IsRead limit (ks ++ kind ∷ []) (es ++ kept_as (Some roles.HeldPlain) at kind) self.new) }
@@ -217,6 +221,8 @@ impl Reading {
     /// reader stands where it stood.
     #[inline(always)]
     pub fn take_begin(&mut self, kind: Kind) -> Result<bool, AllocError>
+        ensures exact { IfOk result (λ found. found ≡ is_some (begun_frame kind) && takes_name self.old.place
+            && takes_instrs self.old.frame && not (is_deep self.old)) }
         ensures read { IfOk result (λ found. found ≡ true → (limit at : ℕ) (ks : List TokenKind) (es : List Event)
             → IsRead limit ks es self.old → at ≡ length ks
             → IsRead limit (ks ++ kind ∷ []) (es ++ kept_as (Some roles.Begin) at kind) self.new) }
@@ -236,6 +242,7 @@ impl Reading {
     /// The `end` of one of these.
     #[inline(always)]
     pub fn take_end(&mut self) -> bool
+        ensures exact { result ≡ takes_name self.old.place && ends_by_word self.old.frame }
         ensures read { result ≡ true → (limit at : ℕ) (ks : List TokenKind) (es : List Event)
             → IsRead limit ks es self.old → at ≡ length ks
             → IsRead limit (ks ++ kinds.EndWord ∷ []) (es ++ kept_as (Some roles.End) at kinds.EndWord) self.new }
@@ -251,6 +258,8 @@ impl Reading {
     /// The parenthesis that opens a field or an instruction, or a part in front of it.
     #[inline(always)]
     pub fn take_open(&mut self) -> bool
+        ensures exact { result ≡ (is_free self.old.place && takes_open self.old.frame)
+            || is_some (opened_part self.old.place) }
         ensures read { result ≡ true → (limit at : ℕ) (ks : List TokenKind) (es : List Event)
             → IsRead limit ks es self.old → at ≡ length ks
             → IsRead limit (ks ++ kinds.Open ∷ []) (es ++ kept_as None at kinds.Open) self.new }
@@ -270,6 +279,7 @@ impl Reading {
     /// A token that the place itself takes, whatever is open; and as what it is kept.
     #[inline(always)]
     pub fn take_part(&mut self, kind: Kind) -> Option<Option<Role>>
+        ensures exact { result ≡ kept_on (find (place_rows self.old.place) kind) }
         ensures read { IfSome result (λ role. (limit at : ℕ) (ks : List TokenKind) (es : List Event)
             → IsRead limit ks es self.old → at ≡ length ks
             → IsRead limit (ks ++ kind ∷ []) (es ++ kept_as role at kind) self.new) }
@@ -288,6 +298,7 @@ impl Reading {
     /// The parenthesis that ends the operands of an instruction in front of them.
     #[inline(always)]
     pub fn take_held_end(&mut self) -> bool
+        ensures exact { result ≡ is_free self.old.place && is_held self.old.frame }
         ensures read { result ≡ true → (limit at : ℕ) (ks : List TokenKind) (es : List Event)
             → IsRead limit ks es self.old → at ≡ length ks
             → IsRead limit (ks ++ kinds.Close ∷ []) (es ++ kept_as (Some roles.HeldEnd) at kinds.Close) self.new }
@@ -303,6 +314,7 @@ impl Reading {
     /// The number or the identifier of an index.
     #[inline(always)]
     pub fn take_index(&mut self, kind: Kind) -> bool
+        ensures exact { result ≡ is_some (behind_index self.old.place kind) }
         ensures read { result ≡ true → (limit at : ℕ) (ks : List TokenKind) (es : List Event)
             → IsRead limit ks es self.old → at ≡ length ks
             → IsRead limit (ks ++ kind ∷ []) (es ++ kept_as (Some roles.Index) at kind) self.new }
@@ -318,6 +330,7 @@ impl Reading {
     /// The number of a constant, of 32 bits.
     #[inline(always)]
     pub fn take_literal(&mut self, kind: Kind) -> bool
+        ensures exact { result ≡ is_literal self.old.place kind }
         ensures read { result ≡ true → (limit at : ℕ) (ks : List TokenKind) (es : List Event)
             → IsRead limit ks es self.old → at ≡ length ks
             → IsRead limit (ks ++ kind ∷ []) (es ++ kept_as (Some roles.Literal) at kind) self.new }
@@ -333,6 +346,7 @@ impl Reading {
     /// The offset of a load or a store.
     #[inline(always)]
     pub fn take_offset(&mut self, kind: Kind) -> bool
+        ensures exact { result ≡ is_offset self.old.place kind }
         ensures read { result ≡ true → (limit at : ℕ) (ks : List TokenKind) (es : List Event)
             → IsRead limit ks es self.old → at ≡ length ks
             → IsRead limit (ks ++ kind ∷ []) (es ++ kept_as (Some roles.MemOffset) at kind) self.new }
@@ -348,6 +362,7 @@ impl Reading {
     /// The alignment of a load or a store.
     #[inline(always)]
     pub fn take_align(&mut self, kind: Kind) -> bool
+        ensures exact { result ≡ is_align self.old.place kind }
         ensures read { result ≡ true → (limit at : ℕ) (ks : List TokenKind) (es : List Event)
             → IsRead limit ks es self.old → at ≡ length ks
             → IsRead limit (ks ++ kind ∷ []) (es ++ kept_as (Some roles.MemAlign) at kind) self.new }

@@ -22,9 +22,19 @@ returns-then-take_literal-clause-said c = λ ts rest w e.
     (said-count w _ rest e))
     c.in_ok-keep-2.ensures
 
+pub returns-then-take_type_index-clause-said : goal.returns-then-take_type_index-clause-said
+returns-then-take_type_index-clause-said c = λ ts rest w e.
+    said-word w _ rest _ role.TypeIndex _ _ e c.requires.kind c.requires.symbol
+    (c.take_type_index.ensures.read c.if-take_type_index.true nesting_limit c.args.at w.kinds w.es
+    (subst (λ (s : Standing). IsRead nesting_limit w.kinds w.es s)
+    (sym (c.take_literal.ensures.stays c.if-take_literal.false ∙ c.take_index.ensures.stays c.if-take_index.false)) w.read)
+    (said-count w _ rest e))
+    c.in_ok-keep-3.ensures
+
 pub returns-clause-said : goal.returns-clause-said
 returns-clause-said c =
     subst
     (λ (s : Standing). OnOk c.take_any.result
     (SaysMore (lexeme_of c.args.token.now) c.args.at s c.args.draft.now c.take_any.new.reading c.take_any.new.draft))
-    (c.take_literal.ensures.stays c.if-take_literal.false ∙ c.take_index.ensures.stays c.if-take_index.false) c.take_any.ensures.said
+    (c.take_type_index.ensures.stays c.if-take_type_index.false ∙ c.take_literal.ensures.stays c.if-take_literal.false
+    ∙ c.take_index.ensures.stays c.if-take_index.false) c.take_any.ensures.said
