@@ -15,7 +15,7 @@ use crate::token::TokenKind;
 /// What stands at the front of a text.
 #[derive(Clone, Copy)]
 pub enum Head<'a> {
-    /// A blank or a comment, and what follows it.
+    /// A comment, and what follows it.
     Gap(&'a [u8]),
     /// A token, and what follows it.
     Token(TokenKind, &'a [u8]),
