@@ -3,8 +3,8 @@
 ghost use Rattle.std.specs.Prelude.{◌≡◌, ◌≤◌, ◌+◌, ◌⊎◌, ℕ, List, ◌∷◌, length, take, drop, MatchOption, true};
 ghost use Rattle.std.specs.List.{AllByRecursion};
 ghost use Rattle.wc_tokens.specs.Standard.Gaps.{Inside};
-ghost use Rattle.wc_tokens.specs.Standard.Lexemes.{is_idchar, IsIdchar, BeginsNoIdchar};
-ghost use Rattle.wc_tokens.specs.Reading.Heads.{BlanksEnd, LineEnds, RunEnds, IsHead, IsHeadOrEnd};
+ghost use Rattle.wc_tokens.specs.Standard.Lexemes.{IsIdchar, BeginsNoIdchar};
+ghost use Rattle.wc_tokens.specs.Reading.Heads.{IsFront, IsFrontOrEnd, LineEnds, RunEnds, IsHead};
 
 use crate::bytes::behind;
 use crate::classes::{is_blank, is_idchar};
@@ -15,7 +15,7 @@ use crate::token::TokenKind;
 /// What stands at the front of a text.
 #[derive(Clone, Copy)]
 pub enum Head<'a> {
-    /// A blank or a comment, and what follows it.
+    /// A comment, and what follows it.
     Gap(&'a [u8]),
     /// A token, and what follows it.
     Token(TokenKind, &'a [u8]),
@@ -23,16 +23,35 @@ pub enum Head<'a> {
     Stuck(&'a [u8], LexWhy),
 }
 
-/// What follows the blanks at the front of a text.
+/// The first byte behind blanks.
+#[derive(Clone, Copy)]
+pub struct Front<'a> {
+    /// The text from it on.
+    pub here: &'a [u8],
+    /// The byte.
+    pub first: u8,
+    /// What follows it.
+    pub rest: &'a [u8],
+}
+
+/// The first byte behind the blanks at the front of a text, or `None` where there are only blanks.
 #[inline(always)]
-pub fn after_blanks(text: &[u8]) -> &[u8]
-    ensures { BlanksEnd text.now result.now }
+pub fn behind_blanks(text: &[u8]) -> Option<Front<'_>>
+    ensures { IsFrontOrEnd text.now result }
 {
     let mut at = 0;
-    while at < text.len() && is_blank(text[at]) {
+    while at < text.len() {
+        let first = text[at];
+        if !is_blank(first) {
+            return Some(Front {
+                here: &text[at..],
+                first,
+                rest: &text[at + 1..],
+            });
+        }
         at += 1;
     }
-    &text[at..]
+    None
 }
 
 /// What follows a line.
@@ -144,37 +163,46 @@ fn string<'a>(text: &'a [u8], rest: &'a [u8]) -> Head<'a>
     }
 }
 
-/// A word or an identifier.
-#[inline(always)]
-fn run<'a>(text: &'a [u8], first: u8, rest: &'a [u8]) -> Head<'a>
-    requires front { text.now ≡ first ∷ rest.now }
-    requires idchar { is_idchar first ≡ true }
-    ensures { IsHead text.now result }
+/// What follows the run of idchars of an identifier.
+// It is apart, since most runs are words.
+#[inline(never)]
+fn after_name(text: &[u8]) -> &[u8]
+    ensures { RunEnds text.now result.now }
 {
-    let after = after_run(rest);
-    if first == b'$' && after.len() < rest.len() {
+    after_run(text)
+}
+
+/// An identifier whose `$` stands before the text, or that `$` alone, which is a word.
+#[inline(always)]
+fn identifier(rest: &[u8]) -> Head<'_>
+    ensures { IsHead (36 ∷ rest.now) result }
+{
+    let after = after_name(rest);
+    if after.len() < rest.len() {
         return Head::Token(TokenKind::Id, after);
     }
     Head::Token(TokenKind::Word, after)
 }
 
-/// What stands at the front of a text, or `None` at its end.
+/// What stands at the front of a text that a byte begins which is no blank.
 #[inline(always)]
-pub fn next_head(text: &[u8]) -> Option<Head<'_>>
-    ensures { IsHeadOrEnd text.now result }
+pub fn head_of(front: Front<'_>) -> Head<'_>
+    requires { IsFront front }
+    ensures { IsHead front.entry.here.now result }
 {
-    let (first, rest) = text.split_first()?;
-    if is_idchar(*first) {
-        return Some(run(text, *first, rest));
+    let text = front.here;
+    let rest = front.rest;
+    if is_idchar(front.first) {
+        if front.first == b'$' {
+            return identifier(rest);
+        }
+        return Head::Token(TokenKind::Word, after_run(rest));
     }
-    if is_blank(*first) {
-        return Some(Head::Gap(rest));
-    }
-    match *first {
-        b'(' => Some(parenthesis(text, rest)),
-        b')' => Some(Head::Token(TokenKind::Close, rest)),
-        b';' => Some(semicolon(text, rest)),
-        b'"' => Some(string(text, rest)),
-        _ => Some(Head::Stuck(text, LexWhy::Character)),
+    match front.first {
+        b'(' => parenthesis(text, rest),
+        b')' => Head::Token(TokenKind::Close, rest),
+        b';' => semicolon(text, rest),
+        b'"' => string(text, rest),
+        _ => Head::Stuck(text, LexWhy::Character),
     }
 }

@@ -3,7 +3,7 @@
 ghost use Rattle.wc_tokens.specs.Reading.Nexts.{IsNext};
 
 use crate::fault::LexWhy;
-use crate::heads::{Head, after_blanks, next_head};
+use crate::heads::{Head, behind_blanks, head_of};
 use crate::token::TokenKind;
 
 /// What comes next in a text, behind its gaps.
@@ -22,11 +22,11 @@ pub enum Next<'a> {
 pub fn next_of(text: &[u8]) -> Next<'_>
     ensures { IsNext text.now result }
 {
-    let mut here = after_blanks(text);
-    while let Some(head) = next_head(here) {
-        match head {
-            Head::Gap(after) => here = after_blanks(after),
-            Head::Token(kind, after) => return Next::Token(kind, here, after),
+    let mut next = behind_blanks(text);
+    while let Some(front) = next {
+        match head_of(front) {
+            Head::Gap(after) => next = behind_blanks(after),
+            Head::Token(kind, after) => return Next::Token(kind, front.here, after),
             Head::Stuck(at, why) => return Next::Stuck(at, why),
         }
     }

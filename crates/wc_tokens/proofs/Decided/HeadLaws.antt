@@ -108,6 +108,10 @@ Stuck-escape text rest (c ∷ end) e s l n =
 
 -- ---- runs
 
+pub idchar-dollar : is_idchar 36 ≡ true
+unfolding is_idchar
+idchar-dollar = refl
+
 kind-id : (run : List ℕ) → 0 < length run → kind_of_run (36 ∷ run) ≡ Id
 kind-id [] l = absurd (omega arith)
 kind-id (d ∷ run) l = refl

@@ -1,18 +1,16 @@
 -- What is left of a text, once gaps and tokens were read.
-use Rattle.std.proofs.Common.{◌≡◌, ℕ, true, ◌<◌, ◌≤◌, List, [], ◌∷◌, ◌++◌, length, Result, Ok, Err, IfOk}
-use Rattle.std.proofs.Common.{IfErr, IsErrAnd, MatchResult, refl, sym, ap, subst, ◌∙◌, append_assoc}
+use Rattle.std.proofs.Common.{◌≡◌, ℕ, ◌<◌, ◌≤◌, List, [], ◌∷◌, ◌++◌, length, Result, Ok, Err, IfOk}
+use Rattle.std.proofs.Common.{IfErr, IsErrAnd, MatchResult, refl, sym, ap, ◌∙◌, append_assoc}
 use Rattle.std.proofs.Common.{length-append, ◌⊎◌, inl, inr, arith}
-use Rattle.std.specs.List.{AllByRecursion}
 use Rattle.wc_tokens.specs.declared.token.TokenKind.{TokenKind}
 use Rattle.wc_tokens.specs.declared.fault.LexWhy.{LexWhy}
-use Rattle.wc_tokens.specs.Standard.Gaps.{is_blank, Inside, nothing, other, semicolon, parenthesis, comment, Gap, blank}
+use Rattle.wc_tokens.specs.Standard.Gaps.{Inside, nothing, other, semicolon, parenthesis, comment, Gap, blank}
 use Rattle.wc_tokens.specs.Standard.Gaps.{line, block, Gaps, none, more}
 use Rattle.wc_tokens.specs.Standard.Lexemes.{Lexeme, Lexes}
 use Rattle.wc_tokens.specs.declared.fault.LexFault.{LexFault}
 use Rattle.wc_tokens.specs.declared.fault.LexFault.TheVariants.{Bad, Memory}
 use Rattle.wc_tokens.specs.Standard.Faults.{Stuck, character, comment_open, string_open, escape, FirstFault, IsFault}
 use Rattle.wc_tokens.specs.Reading.Stops.{EndsWith, StandsIn}
-use Rattle.wc_tokens.specs.Reading.Heads.{BlanksEnd}
 use Rattle.wc_tokens.proofs.Decided.HeadLaws.{BeginsToken}
 use Rattle.wc_tokens.proofs.Lexing.LexLaws.{Gap-shorter, token-some, Lexes-same, Lexes-FirstFault, FirstFault-same}
 
@@ -52,19 +50,6 @@ Gaps-shorter (more g h) = omega (arith, Gap-shorter g, Gaps-shorter h)
 pub Gaps-push : {text rest behind : List ℕ} → Gaps text rest → Gap rest behind → Gaps text behind
 Gaps-push none g = more g none
 Gaps-push (more h i) g = more h (Gaps-push i g)
-
-pub blanks-shorter : (rest after : List ℕ) → BlanksEnd rest after → length after ≤ length rest
-blanks-shorter rest after b = omega (arith, ap length b.text_is, length-append b.blanks after)
-
-pub Gaps-blanks : (text rest after : List ℕ) → Gaps text rest → BlanksEnd rest after → Gaps text after
-Gaps-blanks text rest after r b = go b.blanks rest r b.text_is b.all_blank
-  where
-    go : (blanks here : List ℕ) → Gaps text here → here ≡ blanks ++ after
-        → AllByRecursion (λ c. is_blank c ≡ true) blanks → Gaps text after
-    go [] here s e a = subst (Gaps text) e s
-    go (c ∷ blanks) here s e a =
-        let g : Gap here (blanks ++ after) = subst (λ (t : List ℕ). Gap t (blanks ++ after)) (sym e) (blank c a.0) in
-        go blanks (blanks ++ after) (Gaps-push s g) refl a.1
 
 -- ---- a token
 

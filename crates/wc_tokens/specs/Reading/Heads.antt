@@ -1,23 +1,22 @@
 -- What is read at the front of a text.
-use Rattle.std.specs.Prelude.{◌≡◌, ◌≢◌, ℕ, true, false, List, [], ◌∷◌, ◌++◌, Option, Some, None}
+use Rattle.std.specs.Prelude.{◌≡◌, ◌≢◌, ℕ, false, List, [], ◌∷◌, ◌++◌, Option, Some, None}
 use Rattle.std.specs.List.{AllByRecursion}
+use Rattle.wc_tokens.specs.declared.heads.Front.{Front}
 use Rattle.wc_tokens.specs.declared.heads.Head.{Head}
 use Rattle.wc_tokens.specs.declared.heads.Head.TheVariants as heads
-use Rattle.wc_tokens.specs.Standard.Gaps.{is_blank, EndsLine, Gap}
+use Rattle.wc_tokens.specs.Standard.Gaps.{is_blank, EndsLine, Gap, Gaps}
 use Rattle.wc_tokens.specs.Standard.Lexemes.{IsIdchar, BeginsNoIdchar, IsToken}
 use Rattle.wc_tokens.specs.Standard.Faults.{Stuck}
 
--- the text doesn't begin with a blank
-abbrev pub BeginsNoBlank : List ℕ → Type 0
-BeginsNoBlank [] = Unit {0}
-BeginsNoBlank (c ∷ text) = is_blank c ≡ false
+-- a byte that is no blank, with what follows it
+pub record IsFront (front : Front) : Type 0 where
+  pub here_is : front.here.now ≡ front.first ∷ front.rest.now
+  pub not_blank : is_blank front.first ≡ false
 
--- the text begins with a run of blanks that the rest doesn't go on with
-pub record BlanksEnd (text rest : List ℕ) : Type 0 where
-  pub blanks : List ℕ
-  pub text_is : text ≡ blanks ++ rest
-  pub all_blank : AllByRecursion (λ c. is_blank c ≡ true) blanks
-  pub ended : BeginsNoBlank rest
+-- such a byte stands behind gaps, or the end of the text
+abbrev pub IsFrontOrEnd : List ℕ → Option Front → Type 0
+IsFrontOrEnd text None = Gaps text []
+IsFrontOrEnd text (Some front) = Gaps text front.here.now × IsFront front
 
 -- the text begins with the characters of a line, and the rest is at its end
 pub record LineEnds (text rest : List ℕ) : Type 0 where
@@ -38,8 +37,3 @@ abbrev pub IsHead : List ℕ → Head → Type 0
 IsHead text (heads.Gap rest) = Gap text rest.now
 IsHead text (heads.Token kind rest) = (part : List ℕ) × (text ≡ part ++ rest.now) × IsToken kind part rest.now
 IsHead text (heads.Stuck rest why) = Stuck text rest.now why
-
--- the same, or nothing at the end of the text
-abbrev pub IsHeadOrEnd : List ℕ → Option Head → Type 0
-IsHeadOrEnd text None = text ≡ []
-IsHeadOrEnd text (Some head) = IsHead text head

@@ -1,22 +1,30 @@
-use Rattle.std.proofs.Common.{subst, arith}
-use Rattle.wc_tokens.specs.Standard.Gaps.{none}
-use Rattle.wc_tokens.specs.Reading.Heads.{IsHead}
+use Rattle.std.proofs.Common.{ap, subst, arith}
+use Rattle.wc_tokens.specs.Reading.Heads.{IsFrontOrEnd}
 use Rattle.wc_tokens.proofs.Lexing.LexLaws.{Gap-shorter}
-use Rattle.wc_tokens.proofs.Lexing.RunLaws.{Gaps-blanks, Gaps-push, blanks-shorter}
+use Rattle.wc_tokens.proofs.Lexing.RunLaws.{Gaps-push}
+use Rattle.wc_tokens.proofs.Lexing.FrontLaws.{left, left-after, IsFrontOrEnd-push}
 use Rattle.wc_tokens.proofs.next.next_of.Goals as goal
 
-pub loop-head-init : goal.loop-head-init
-loop-head-init c =
-    Gaps-blanks c.args.text.now c.args.text.now c.after_blanks-here.result.now none c.after_blanks-here.ensures
+pub head_of-requires : goal.head_of-requires
+head_of-requires c = (subst (IsFrontOrEnd c.args.text.now) c.in-Some.is c.loop-next.invariant).1
 
-pub loop-head-smaller : goal.loop-head-smaller
-loop-head-smaller c =
-    let shorter = Gap-shorter (subst (IsHead c.loop-head.here.now) c.in-Gap.is (c.in-Some.ensures {u = tt})) in
-    omega
-    (arith, shorter, blanks-shorter c.in-Gap.after.now c.after_blanks-here-in-Gap.result.now c.after_blanks-here-in-Gap.ensures)
+pub loop-next-smaller : goal.loop-next-smaller
+loop-next-smaller c =
+    let before = ap left c.in-Some.is in
+    let after = left-after c.in-Gap.after.now c.behind_blanks-next-in-Gap.result c.behind_blanks-next-in-Gap.ensures in
+    omega (arith, before, after, Gap-shorter (c.in-Gap.ensures {u = tt}))
 
-pub loop-head-preserved : goal.loop-head-preserved
-loop-head-preserved c =
-    let g = subst (IsHead c.loop-head.here.now) c.in-Gap.is (c.in-Some.ensures {u = tt}) in
-    Gaps-blanks c.args.text.now c.in-Gap.after.now c.after_blanks-here-in-Gap.result.now
-    (Gaps-push c.loop-head.invariant g) c.after_blanks-here-in-Gap.ensures
+pub loop-next-preserved : goal.loop-next-preserved
+loop-next-preserved c =
+    let gaps = (subst (IsFrontOrEnd c.args.text.now) c.in-Some.is c.loop-next.invariant).0 in
+    IsFrontOrEnd-push (Gaps-push gaps (c.in-Gap.ensures {u = tt})) c.behind_blanks-next-in-Gap.result
+    c.behind_blanks-next-in-Gap.ensures
+
+pub returns-in-Token : goal.returns-in-Token
+returns-in-Token c =
+    ((subst (IsFrontOrEnd c.args.text.now) c.in-Some.is c.loop-next.invariant).0, c.in-Token.ensures {u = tt})
+
+pub returns-in-Stuck : goal.returns-in-Stuck
+returns-in-Stuck c =
+    let gaps = (subst (IsFrontOrEnd c.args.text.now) c.in-Some.is c.loop-next.invariant).0 in
+    (c.in-Some.front.here.now, gaps, c.in-Stuck.ensures {u = tt})

@@ -1,9 +1,9 @@
-use Rattle.std.proofs.Common.{length}
-use Rattle.wc_tokens.specs.Standard.Gaps.{Gaps}
+use Rattle.wc_tokens.specs.Reading.Heads.{IsFrontOrEnd}
+use Rattle.wc_tokens.proofs.Lexing.FrontLaws.{left}
 use Rattle.wc_tokens.proofs.next.next_of.Given as goal
 
-abbrev pub invariant-loop-head : goal.invariant-loop-head
-invariant-loop-head l = Gaps l.text l.here
+abbrev pub invariant-loop-next : goal.invariant-loop-next
+invariant-loop-next l = IsFrontOrEnd l.text l.next
 
-abbrev pub decreases-loop-head : goal.decreases-loop-head
-decreases-loop-head l = length l.here
+abbrev pub decreases-loop-next : goal.decreases-loop-next
+decreases-loop-next l = left l.next
