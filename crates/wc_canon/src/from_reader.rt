@@ -21,8 +21,11 @@ use wc_binary::decode_from;
 use wc_device::Device;
 use wc_source::read;
 
-/// How many bytes a read is offered.
+/// How many bytes the first read is offered.
 const PIECE: usize = 4096;
+
+/// How many bytes each further read of a text is offered.
+const TEXT_PIECE: usize = 32_768;
 
 /// The module of an input.
 #[derive(Drop)]
@@ -54,7 +57,7 @@ fn read_rest<R: Read>(alloc: Global, front: &[u8], r: &mut Device<R>) -> Result<
 {
     let mut bytes = Vec::new(alloc);
     bytes.extend_from_slice(front)?;
-    let mut piece = [0u8; PIECE];
+    let mut piece = [0u8; TEXT_PIECE];
     loop {
         let given = match r.read(&mut piece) {
             Ok(n) => n,
@@ -68,11 +71,7 @@ fn read_rest<R: Read>(alloc: Global, front: &[u8], r: &mut Device<R>) -> Result<
 }
 
 /// The module of the text that begins with `front` and goes on with the reader's bytes, to its end.
-fn read_text<R: Read>(
-    alloc: Global,
-    front: &[u8],
-    r: &mut Device<R>,
-) -> Result<Found, RunFault>
+fn read_text<R: Read>(alloc: Global, front: &[u8], r: &mut Device<R>) -> Result<Found, RunFault>
     requires well { has_failed r.old ≡ false }
     requires counted { length front.now ≡ read_count r.old }
     requires some { 0 < length front.now }
@@ -101,11 +100,7 @@ fn read_text<R: Read>(
 }
 
 /// The module of the binary that begins with `front` and goes on with the reader's bytes, to its end.
-fn read_binary<R: Read>(
-    alloc: Global,
-    front: &[u8],
-    r: &mut Device<R>,
-) -> Result<Found, RunFault>
+fn read_binary<R: Read>(alloc: Global, front: &[u8], r: &mut Device<R>) -> Result<Found, RunFault>
     requires well { has_failed r.old ≡ false }
     requires short { length front.now ≤ buffer_size }
     requires counted { length front.now ≡ read_count r.old }
@@ -149,10 +144,7 @@ fn read_nothing(alloc: Global) -> Result<Found, RunFault>
 
 /// The module that the reader's bytes denote, to the reader's end, or else their first fault. One piece is read, and its first byte tells a binary, which is read no further than its fault shows; a text
 /// is read to its end.
-pub(crate) fn read_module<R: Read>(
-    alloc: Global,
-    r: &mut Device<R>,
-) -> Result<Found, RunFault>
+pub(crate) fn read_module<R: Read>(alloc: Global, r: &mut Device<R>) -> Result<Found, RunFault>
     requires well { has_failed r.old ≡ false }
     requires unread { read_count r.old ≡ 0 }
     ensures judges { JudgesModule (R.remaining (device_inner r.old)) result }
