@@ -134,12 +134,10 @@ begins-as None old front s some e c = tt
 begins-as (Some u) None front s some e c = absurd c
 begins-as (Some u) (Some v) front s some e c = ap is_binary c ∙ begins-alike front v some ∙ e
 
-pub text-judged : (x : Option (List ℕ)) (bytes : List ℕ) (found : Found) → IfSome x (λ u. u ≡ bytes)
-    → IfSome x (λ u. is_binary u ≡ false) → Txt bytes found.«module» → found.binary ≡ false
-    → JudgesModule x (Ok found)
-text-judged None bytes m e s p q = tt
-text-judged (Some u) bytes m e s p q =
-    (text-denotes u m.«module» s (subst (λ b. Txt b m.«module») (sym e) p), q ∙ sym s)
+pub text-judged : (x : Option (List ℕ)) (bytes : List ℕ) (m : Module) → IfSome x (λ u. u ≡ bytes)
+    → IfSome x (λ u. is_binary u ≡ false) → Txt bytes m → IfSome x (λ u. Denotes u m × (false ≡ is_binary u))
+text-judged None bytes m e s p = tt
+text-judged (Some u) bytes m e s p = (text-denotes u m s (subst (λ b. Txt b m) (sym e) p), sym s)
 
 text-unread : (x : Option (List ℕ)) (bytes : List ℕ) (f : TextFault) → IfSome x (λ u. u ≡ bytes)
     → IfSome x (λ u. is_binary u ≡ false) → IsFault bytes f → JudgesModule x (Err (refusing_fault (reading_refusal f)))
@@ -187,10 +185,10 @@ of-all None old front P c p = tt
 of-all (Some u) None front P c p = absurd c
 of-all (Some u) (Some v) front P c p = subst P (sym c) p
 
-pub binary-judged : (x : Option (List ℕ)) (found : Found) → IfSome x (λ u. is_binary u ≡ true)
-    → IfSome x (λ u. Bin u found.«module») → found.binary ≡ true → JudgesModule x (Ok found)
-binary-judged None m s p q = tt
-binary-judged (Some u) m s p q = (binary-denotes u m.«module» s p, q ∙ sym s)
+pub binary-judged : (x : Option (List ℕ)) (m : Module) → IfSome x (λ u. is_binary u ≡ true) → IfSome x (λ u. Bin u m)
+    → IfSome x (λ u. Denotes u m × (true ≡ is_binary u))
+binary-judged None m s p = tt
+binary-judged (Some u) m s p = (binary-denotes u m s p, sym s)
 
 binary-unread : (x : Option (List ℕ)) (e : BinFault) → IfSome x (λ u. is_binary u ≡ true)
     → IfSome x (λ u. Decodes u (Err e)) → JudgesModule x (Err (decoding_fault e))

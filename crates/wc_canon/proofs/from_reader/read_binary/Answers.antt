@@ -14,7 +14,7 @@ returns-in_err-decode_from-clause-judges g c = λ x all.
 pub returns-clause-judges : goal.returns-clause-judges
 returns-clause-judges g c = λ x all.
     binary-judged x _ (begins-as x _ _ _ c.requires.some c.requires.is_binary all)
-    (of-all x _ _ (λ u. Bin u c.in_ok-decode_from.field-0) all c.in_ok-decode_from.ensures.decodes) refl
+    (of-all x _ _ (λ u. Bin u c.in_ok-decode_from.field-0) all c.in_ok-decode_from.ensures.decodes)
 
 pub returns-in_err-decode_from-clause-near : goal.returns-in_err-decode_from-clause-near
 returns-in_err-decode_from-clause-near g c = λ x all.

@@ -16,7 +16,7 @@ returns-in_err-module-clause-judges g c = λ x all.
 pub returns-clause-judges : goal.returns-clause-judges
 returns-clause-judges g c = λ x all.
     let whole = all-read x _ _ _ (c.in_ok-text.ensures.whole x all) c.in_ok-text.ensures.all c.deref.ensures.value in
-    text-judged x _ _ whole (begins-as x _ _ _ c.requires.some c.requires.is_text all) c.in_ok-module.ensures.ok refl
+    text-judged x _ _ whole (begins-as x _ _ _ c.requires.some c.requires.is_text all) c.in_ok-module.ensures.ok
 
 pub returns-in_err-module-clause-near : goal.returns-in_err-module-clause-near
 returns-in_err-module-clause-near g c = λ x all.
