@@ -5,6 +5,7 @@ pub mod ReadNumbers
 pub mod Naming
 pub mod Numbering
 pub mod Putting
+pub mod Going
 pub mod EscapeTable
 pub mod Stringing
 pub mod Values

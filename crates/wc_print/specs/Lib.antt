@@ -1,3 +1,4 @@
+pub mod Going
 pub mod Inner
 pub mod Layout
 pub mod Lines

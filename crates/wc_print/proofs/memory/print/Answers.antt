@@ -1,0 +1,18 @@
+use Rattle.std.proofs.Common.{◌≡◌, [], ap, ◌∙◌}
+use Rattle.wc_print.specs.Layout.{layout}
+use Rattle.wc_print.specs.Printed.{text}
+use Rattle.wc_print.proofs.Whole.{text-ascii}
+use Rattle.wc_print.proofs.memory.print.Goals as goal
+
+pub from_utf8_unchecked-requires : goal.from_utf8_unchecked-requires
+from_utf8_unchecked-requires c =
+    let is = c.print_to.ensures.layout.all c.print_to.new.out [] (λ _. c.new.ensures.items) c.if-lost.false in
+    text-ascii c.args.module.now _ is c.print_to.ensures.printable
+
+pub returns-clause-layout : goal.returns-clause-layout
+returns-clause-layout c =
+    let is = c.print_to.ensures.layout.all c.print_to.new.out [] (λ _. c.new.ensures.items) c.if-lost.false in
+    ap (λ v. v.items) c.from_utf8_unchecked.ensures.value ∙ is
+
+pub returns-clause-printable : goal.returns-clause-printable
+returns-clause-printable c = c.print_to.ensures.printable
