@@ -105,3 +105,10 @@ pub fn text_from<R: Read>(alloc: Global, r: &mut Device<R>) -> Result<String, Ru
     judge_spelled(alloc, &found.0)?;
     Ok(text_of(alloc, &found.0)?)
 }
+
+/// The module of an accepted input.
+pub(crate) fn spelled_module_from<R: Read>(alloc: Global, r: &mut Device<R>) -> Result<Module, RunFault> {
+    let found = read_module(alloc, r)?;
+    judge_spelled(alloc, &found.0)?;
+    Ok(found.0)
+}

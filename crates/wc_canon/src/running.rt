@@ -7,7 +7,8 @@ ghost use Rattle.wc_canon.specs.declared.fault.Refusal.TheVariants as refusals;
 ghost use Rattle.wc_canon.specs.Run.{Answers, RefusesNear, ReadsCut, IsQuiet, is_read_fault, is_write_fault};
 
 use crate::fault::RunFault;
-use crate::reading::{normalise_from, text_from};
+use crate::outlet::send_text;
+use crate::reading::{normalise_from, spelled_module_from};
 use std::alloc::Global;
 use std::io::{Read, Write};
 use wc_device::Device;
@@ -79,6 +80,9 @@ pub fn run<R: Read, W: Write>(
 {
     match job {
         Job::Binary => send(w, &normalise_from(alloc, r)?),
-        Job::Text => send(w, text_from(alloc, r)?.as_bytes()),
+        Job::Text => {
+            let module = spelled_module_from(alloc, r)?;
+            send_text(w, &module)
+        }
     }
 }

@@ -1,6 +1,7 @@
 -- How printed items follow one another.
-use Rattle.std.proofs.Common.{◌≡◌, ℕ, zero, suc, ◌<◌, List, [], ◌∷◌, ◌++◌, length, get_or, drop, refl, sym}
+use Rattle.std.proofs.Common.{◌≡◌, ℕ, zero, suc, ◌<◌, false, List, [], ◌∷◌, ◌++◌, length, get_or, drop, refl, sym}
 use Rattle.std.proofs.Common.{ap, ◌∙◌, append_assoc, arith}
+use Rattle.std.specs.Prelude.{Result, Ok, Err, is_ok, is_err, if◌then◌else◌}
 use Rattle.std.proofs.lemmas.List.{append-nil}
 use Rattle.wc_print.specs.Printed.{Item, printed, gap_of, spelled, token_of, text as whole_text}
 use Rattle.wc_print.specs.Printable.{AreSpelled, Put}
@@ -49,3 +50,9 @@ pub drop-first : {A : Type 0} (xs : List A) (i : ℕ) (x d : A) → x ≡ get_or
 drop-first [] i x d is lt = absurd (omega arith)
 drop-first (y ∷ xs) zero x d is lt = rw is refl
 drop-first (y ∷ xs) (suc i) x d is lt = drop-first xs i x d is (omega arith)
+
+-- bytes that were put behind others in memory, where it was enough
+pub kept : {R E : Type 0} (r : Result R E) (old new said bytes : List ℕ) → is_err r ≡ false
+    → new ≡ (if is_ok r then old ++ bytes else old) → old ≡ said → new ≡ said ++ bytes
+kept (Ok v) old new said bytes enough e h = e ∙ ap (λ (x : List ℕ). x ++ bytes) h
+kept (Err f) old new said bytes enough e h = absurd cc

@@ -14,7 +14,7 @@ use wc_ast::Module;
 
 /// The fields of a module.
 fn put_fields<S: Sink>(out: &mut S, module: &Module)
-    ensures { Puts S.Has (field_items module.now) out.old out.new }
+    ensures { Puts S.Has (field_items «module».now) out.old out.new }
 {
     put_all(out, module.types.as_slice());
     put_imports(out, &module.imports);
@@ -31,8 +31,8 @@ fn put_fields<S: Sink>(out: &mut S, module: &Module)
 /// Puts the text of a module (Core 1.0, chapter 6), in the layout of `docs/FORMAT.md`. Every module has one, whatever
 /// rule it breaks, and `printed_lexes` says which tokens it has. It takes no memory.
 pub fn print_to<S: Sink>(out: &mut S, module: &Module)
-    ensures layout { Says S.Has (text (layout module.now)) out.old out.new }
-    ensures printable { IsPrintable (layout module.now) }
+    ensures layout { Says S.Has (text (layout «module».now)) out.old out.new }
+    ensures printable { IsPrintable (layout «module».now) }
 {
     out.put(b"(module");
     put_fields(out, module);

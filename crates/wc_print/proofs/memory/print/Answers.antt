@@ -1,6 +1,4 @@
-use Rattle.std.proofs.Common.{◌≡◌, [], ap, ◌∙◌}
-use Rattle.wc_print.specs.Layout.{layout}
-use Rattle.wc_print.specs.Printed.{text}
+use Rattle.std.proofs.Common.{[], ap, ◌∙◌}
 use Rattle.wc_print.proofs.Whole.{text-ascii}
 use Rattle.wc_print.proofs.memory.print.Goals as goal
 
