@@ -6,6 +6,7 @@ pub mod Naming
 pub mod Numbering
 pub mod Putting
 pub mod Going
+pub mod Flowing
 pub mod EscapeTable
 pub mod Stringing
 pub mod Values

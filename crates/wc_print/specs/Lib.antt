@@ -5,3 +5,4 @@ pub mod Lines
 pub mod Printable
 pub mod Printed
 pub mod ReadAs
+pub mod Sending

@@ -13,8 +13,8 @@ ghost use Rattle.wc_print.specs.Inner.Places.{item_at};
 
 use crate::lines::{Row, head_line, index_line, memory_line, simple_line};
 use crate::numbers::{put_integer, put_natural, put_number};
-use crate::types::{put_result, put_type_use};
 use crate::sink::Sink;
+use crate::types::{put_result, put_type_use};
 use wc_ast::{BlockType, Constant, Entry, Instr, Kind, Labels, MemArg, MemOp};
 
 /// Where an instruction stands.
@@ -140,12 +140,7 @@ fn put_instr<S: Sink>(out: &mut S, place: Place, instr: Instr<'_>)
 
 /// The head of a block, a loop or an if.
 #[inline(always)]
-fn put_head<S: Sink>(
-    out: &mut S,
-    place: Place,
-    kind: Kind,
-    block_type: BlockType,
-)
+fn put_head<S: Sink>(out: &mut S, place: Place, kind: Kind, block_type: BlockType)
     ensures { Puts S.Has (mark_items (item_at place) (begin_of kind block_type)) out.old out.new }
 {
     put_at(out, place, head_line(kind));

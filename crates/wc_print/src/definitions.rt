@@ -8,8 +8,8 @@ use crate::bodies::put_inline;
 use crate::field::Field;
 use crate::heads::{begin_func, put_locals_behind};
 use crate::pages::{PAGE, put_lines};
-use crate::types::{put_global_type, put_limits};
 use crate::sink::Sink;
+use crate::types::{put_global_type, put_limits};
 use wc_ast::{FuncRef, Funcs, Global, Limits};
 
 fn put_func<S: Sink>(out: &mut S, page: &mut [u8; PAGE], func: &FuncRef<'_>)

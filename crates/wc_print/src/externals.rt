@@ -8,9 +8,9 @@ ghost use Rattle.wc_print.specs.Layout.{desc_items, import_items, kind_word, exp
 
 use crate::numbers::put_number;
 use crate::short::{is_short_export, is_short_import, put_short_export, put_short_import};
+use crate::sink::Sink;
 use crate::strings::put_string;
 use crate::types::{put_global_type, put_limits, put_type_use};
-use crate::sink::Sink;
 use wc_ast::{Desc, ExportKind, ExportRef, Exports, ImportRef, Imports};
 
 /// What is imported.

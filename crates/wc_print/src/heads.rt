@@ -9,8 +9,8 @@ ghost use Rattle.wc_print.specs.Inner.Short.{function_head};
 
 use crate::digits::{LIMIT, write_index};
 use crate::pages::{PAGE, write_row};
-use crate::types::{put_locals, put_type_use};
 use crate::sink::Sink;
+use crate::types::{put_locals, put_type_use};
 use wc_ast::LocalsRef;
 
 /// Writes a function's head on the page, from its beginning, and says where it ends.

@@ -12,6 +12,7 @@ mod laws;
 mod lines;
 mod memory;
 mod numbers;
+mod outlet;
 mod pages;
 mod printing;
 mod segments;
@@ -22,5 +23,4 @@ mod types;
 
 pub use laws::{printed_lexes, printed_values};
 pub use memory::print;
-pub use printing::print_to;
-pub use sink::Sink;
+pub use outlet::print_to;

@@ -6,7 +6,7 @@ ghost use Rattle.wc_print.specs.Printed.{text};
 ghost use Rattle.wc_print.specs.Printable.{IsPrintable};
 ghost use Rattle.wc_print.specs.Layout.{layout};
 
-use crate::printing::print_to;
+use crate::printing::put_module;
 use crate::sink::Sink;
 use std::alloc::{AllocError, Global};
 use wc_ast::Module;
@@ -30,7 +30,9 @@ impl Sink for Memory {
     }
 }
 
-/// The text of a module, as `print_to` puts it. It takes memory for the text alone. The error is want of memory.
+/// The text of a module (Core 1.0, chapter 6), in the layout of `docs/FORMAT.md`. Every module has one, whatever rule
+/// it breaks, and `printed_lexes` says which tokens it has. It takes memory for the text alone. The error is want of
+/// memory.
 pub fn print(alloc: Global, module: &Module) -> Result<String, AllocError>
     ensures layout { IfOk result (λ it. string_bytes it ≡ text (layout «module».now)) }
     ensures printable { IfOk result (λ it. IsPrintable (layout «module».now)) }
@@ -39,7 +41,7 @@ pub fn print(alloc: Global, module: &Module) -> Result<String, AllocError>
         bytes: Vec::new(alloc),
         lost: false,
     };
-    print_to(&mut out, module);
+    put_module(&mut out, module);
     let Memory { bytes, lost } = out;
     if lost {
         return Err(AllocError);

@@ -5,8 +5,8 @@ ghost use Rattle.std.specs.Fmt.{decimal, signed_decimal};
 ghost use Rattle.wc_print.specs.Printed.{number, integer, after};
 ghost use Rattle.wc_print.specs.Going.{Says, Puts};
 
-use itoa::Buffer;
 use crate::sink::Sink;
+use itoa::Buffer;
 
 /// The digits of a natural number. They stand apart, so that the way of small numbers stays short.
 #[inline(never)]

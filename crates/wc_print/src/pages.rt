@@ -143,12 +143,7 @@ fn put_all_short<S: Sink>(
 /// Puts what is written on the page, and the line of an entry behind it.
 // Such entries are few, so they stay out of the loop.
 #[inline(never)]
-fn put_behind<S: Sink>(
-    out: &mut S,
-    page: &[u8; PAGE],
-    at: usize,
-    entry: Entry<'_>,
-)
+fn put_behind<S: Sink>(out: &mut S, page: &[u8; PAGE], at: usize, entry: Entry<'_>)
     requires { at ≤ 512 }
     ensures { Puts (Behind S.Has) (line_items (mark entry.entry)) (out.old, take at page.now) (out.new, []) }
 {
@@ -166,12 +161,7 @@ fn is_empty(block_type: BlockType) -> bool
 
 /// Puts the line of an entry, if it is short on the page, and says where the page's last line ends.
 #[inline(always)]
-fn put_line<S: Sink>(
-    out: &mut S,
-    page: &mut [u8; PAGE],
-    at: usize,
-    entry: Entry<'_>,
-) -> usize
+fn put_line<S: Sink>(out: &mut S, page: &mut [u8; PAGE], at: usize, entry: Entry<'_>) -> usize
     requires { at + 48 ≤ 512 }
     ensures within { result ≤ 512 }
     ensures put { Puts (Behind S.Has) (line_items (mark entry.entry))
@@ -195,12 +185,7 @@ fn put_line<S: Sink>(
 }
 
 /// The instructions of a function, each on a line, and its end, behind what is written on the page.
-pub fn put_lines<S: Sink>(
-    out: &mut S,
-    page: &mut [u8; PAGE],
-    from: usize,
-    body: &BodyRef<'_>,
-)
+pub fn put_lines<S: Sink>(out: &mut S, page: &mut [u8; PAGE], from: usize, body: &BodyRef<'_>)
     requires { from + 48 ≤ 512 }
     ensures { Puts (Behind S.Has) (body_items body.now ++ below 2 closing ∷ [])
         (out.old, take from page.old) (out.new, []) }

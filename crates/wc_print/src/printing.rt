@@ -29,8 +29,8 @@ fn put_fields<S: Sink>(out: &mut S, module: &Module)
 }
 
 /// Puts the text of a module (Core 1.0, chapter 6), in the layout of `docs/FORMAT.md`. Every module has one, whatever
-/// rule it breaks, and `printed_lexes` says which tokens it has. It takes no memory.
-pub fn print_to<S: Sink>(out: &mut S, module: &Module)
+/// rule it breaks, and `printed_lexes` says which tokens it has.
+pub fn put_module<S: Sink>(out: &mut S, module: &Module)
     ensures layout { Says S.Has (text (layout «module».now)) out.old out.new }
     ensures printable { IsPrintable (layout «module».now) }
 {

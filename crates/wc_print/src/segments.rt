@@ -9,8 +9,8 @@ ghost use Rattle.wc_print.specs.Layout.{place_items, start_items, elem_items, da
 use crate::bodies::put_inline;
 use crate::field::Field;
 use crate::numbers::put_number;
-use crate::strings::put_string;
 use crate::sink::Sink;
+use crate::strings::put_string;
 use wc_ast::{Constant, Data, Elem};
 
 /// The start function, if there is one.

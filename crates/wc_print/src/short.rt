@@ -8,8 +8,8 @@ ghost use Rattle.wc_print.specs.Going.{Puts};
 ghost use Rattle.wc_print.specs.Inner.Short.{IsShort, function_import, function_export};
 
 use crate::digits::{LIMIT, write_index};
-use crate::strings::is_plain;
 use crate::sink::Sink;
+use crate::strings::is_plain;
 
 /// How many bytes have room.
 const ROOM: usize = 128;
@@ -101,12 +101,7 @@ fn write_export(room: &mut [u8; ROOM], name: &[u8], index: u32) -> usize
 
 /// A short import of a function.
 #[inline(always)]
-pub fn put_short_import<S: Sink>(
-    out: &mut S,
-    module_name: &[u8],
-    name: &[u8],
-    index: u32,
-)
+pub fn put_short_import<S: Sink>(out: &mut S, module_name: &[u8], name: &[u8], index: u32)
     requires names { IsShort module_name.now × IsShort name.now }
     requires index { index < 1000000 }
     ensures { Puts S.Has (function_import module_name.now name.now index) out.old out.new }

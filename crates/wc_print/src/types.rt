@@ -48,11 +48,7 @@ pub fn put_type_use<S: Sink>(out: &mut S, index: u32)
 }
 
 /// The types of parameters or results, if there are any.
-fn put_values<S: Sink>(
-    out: &mut S,
-    head: &'static str,
-    value_types: &[ValType],
-)
+fn put_values<S: Sink>(out: &mut S, head: &'static str, value_types: &[ValType])
     ensures { (w : Seq ℕ) → head.now ≡ printed (after opening ∷ next (word w) ∷ []) → is_word w ≡ true
         → Puts S.Has (values_items w value_types.now) out.old out.new }
 {

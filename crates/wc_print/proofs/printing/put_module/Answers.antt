@@ -1,5 +1,5 @@
 use Rattle.wc_print.proofs.Whole.{layout-printable, whole}
-use Rattle.wc_print.proofs.printing.print_to.Goals as goal
+use Rattle.wc_print.proofs.printing.put_module.Goals as goal
 
 pub returns-clause-layout : goal.returns-clause-layout
 returns-clause-layout g c = whole c.args.module.now c.put.ensures c.put_fields.ensures c.put-2.ensures
