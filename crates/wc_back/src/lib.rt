@@ -9,5 +9,4 @@ pub use fitting::module_has_few_locals;
 pub use laws::{
     back, checked_is_known, printed_bodies, printed_declarations, printed_names, printed_types,
 };
-pub use printing::{text_of, text_to};
-pub use wc_print::Sink;
+pub use printing::text_of;

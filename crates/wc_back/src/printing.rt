@@ -5,27 +5,14 @@ ghost use Rattle.std.specs.String.{string_bytes};
 ghost use Rattle.wc_check.specs.Standard.Broken.{broken};
 ghost use Rattle.wc_print.specs.Layout.{layout};
 ghost use Rattle.wc_print.specs.Printed.{text};
-ghost use Rattle.wc_print.specs.Going.{Says};
 ghost use Rattle.wc_tokens.specs.Standard.Lexemes.{longest};
 ghost use Rattle.wc_source.specs.Texts.{Txt};
 
 use crate::fitting::module_has_few_locals;
 use std::alloc::{AllocError, Global};
 use wc_ast::Module;
-use wc_print::{Sink, print, print_to};
+use wc_print::print;
 use wc_printed::module_fits;
-
-/// Puts the printed text of a module, in its layout. Where the module breaks no rule (Core 1.0, 3.4) and the text isn't
-/// longer than a text may be, it is a text of this very module. It takes no memory.
-pub fn text_to<S: Sink>(out: &mut S, module: &Module)
-    ensures layout { Says S.Has (text (layout «module».now)) out.old out.new }
-    ensures back { broken «module».now ≡ [] → length (text (layout «module».now)) ≤ longest
-        → Txt (text (layout «module».now)) «module».now }
-{
-    print_to(out, module);
-    module_fits(module);
-    module_has_few_locals(module);
-}
 
 /// The printed text of a module, in its layout. Where the module breaks no rule (Core 1.0, 3.4) and the text isn't
 /// longer than a text may be, it is a text of this very module. The error is want of memory.

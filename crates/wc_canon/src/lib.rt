@@ -12,7 +12,6 @@ mod fixed;
 mod from_reader;
 mod law;
 mod normalising;
-mod outlet;
 mod printing;
 mod reading;
 mod rendering;
