@@ -53,8 +53,8 @@ fn send_text<W: Write>(w: &mut Device<W>, module: &Module) -> Result<u64, RunFau
     ensures write { is_write_fault result ≡ has_failed w.new }
 {
     match print_to(w, module) {
-        Ok(written) => Ok(written),
-        Err(written) => Err(RunFault::Write { written }),
+        Ok(n) => Ok(n),
+        Err(n) => Err(RunFault::Write { written: n }),
     }
 }
 
