@@ -108,6 +108,13 @@ near-refused None count m w f (Err g) q e h = tt
 near-refused (Some x) count m w f (Err g) q e h =
     subst (λ g. RefusesNear count g x) (sym h) (near-refusing count x m f q e)
 
+-- want of memory is told wherever a reader stands
+pub near-memory : {V : Type 0} (a : Option (List ℕ)) (count : ℕ) (r : Result V RunFault)
+    → IsErrAnd r (λ g. g ≡ refusing_fault NoMemory) → IfErr r (λ g. IfSome a (RefusesNear count g))
+near-memory a count (Ok v) h = absurd h
+near-memory None count (Err g) h = tt
+near-memory (Some x) count (Err g) h = subst (λ g. RefusesNear count g x) (sym h) tt
+
 -- ---- a text
 
 pub begins-alike : (front rest : List ℕ) → 0 < length front → is_binary (front ++ rest) ≡ is_binary front

@@ -9,6 +9,8 @@ ghost use Rattle.wc_canon.specs.declared.running.Job.{Job};
 ghost use Rattle.wc_canon.specs.Run.{Judges, IsAnswerOf, IsOutputOf, RefusesNear};
 ghost use Rattle.wc_canon.specs.Run.{ReadsCut, is_read_fault, is_write_fault};
 ghost use Rattle.wc_canon.specs.Inner.Steps.{IsModuleFault, IsSized};
+ghost use Rattle.wc_print.specs.Layout.{layout};
+ghost use Rattle.wc_print.specs.Printed.{text};
 ghost use Rattle.std.specs.String.{string_bytes};
 
 use crate::canonical::{canonical_bytes, judge_module, judge_spelled};
@@ -82,6 +84,30 @@ pub fn accept_from<R: Read>(alloc: Global, r: &mut Device<R>) -> Result<(), RunF
     Ok(())
 }
 
+/// The module that the reader's bytes denote, to the reader's end, where they are accepted.
+///
+/// # Errors
+/// As those of `normalise_from`.
+pub(crate) fn accepted_from<R: Read>(alloc: Global, r: &mut Device<R>) -> Result<Module, RunFault>
+    requires well { has_failed r.old ≡ false }
+    requires unread { read_count r.old ≡ 0 }
+    ensures judges { Judges (R.remaining (device_inner r.old))
+        (λ m. IsOutputOf Job.Text (R.remaining (device_inner r.old)) (text (layout m))) result }
+    ensures near { IfErr result (λ e. IfSome (R.remaining (device_inner r.old)) (RefusesNear (read_count r.new) e)) }
+    ensures read { is_read_fault result ≡ has_failed r.new }
+    ensures read_at { IfErr result (λ e. (at : ℕ) → e ≡ RunFault.Read at → at ≡ read_count r.new) }
+    ensures first_failure { IfErr result (λ e. (at : ℕ) → e ≡ RunFault.Read at → failed_at r.new ≡ Some at) }
+    ensures again { has_ended r.old ≡ false → was_asked_again r.new ≡ was_asked_again r.old }
+    ensures end { OnOk result (IsAtEnd (R.remaining (device_inner r.new))) }
+    ensures cut { IfErr result (λ e. IfSome (R.remaining (device_inner r.old)) (ReadsCut e)) }
+    ensures unwritten { is_write_fault result ≡ false }
+    ensures memory { ¬ (IsErrOf result (RunFault.Refused refusals.Memory)) }
+{
+    let found = read_module(alloc, r)?;
+    judge_spelled(alloc, &found.module)?;
+    Ok(found.module)
+}
+
 /// The text of the module that the reader's bytes denote, to the reader's end, as `to_text` gives it.
 ///
 /// # Errors
@@ -101,7 +127,6 @@ pub fn text_from<R: Read>(alloc: Global, r: &mut Device<R>) -> Result<String, Ru
     ensures unwritten { is_write_fault result ≡ false }
     ensures memory { ¬ (IsErrOf result (RunFault.Refused refusals.Memory)) }
 {
-    let found = read_module(alloc, r)?;
-    judge_spelled(alloc, &found.module)?;
-    Ok(text_of(alloc, &found.module)?)
+    let module = accepted_from(alloc, r)?;
+    Ok(text_of(alloc, &module)?)
 }

@@ -3,14 +3,18 @@
 ghost use Rattle.std.specs.Prelude.{ℕ, ◌≡◌, ◌≤◌, length, take, IfOk, IfErr, IfSome, IsErrOf, OnOk, Some, false};
 ghost use Rattle.std.specs.Io.KnownBytes.{Appends, IsAtEnd};
 ghost use Rattle.wc_device.specs.Device.{device_inner, failed_at, has_failed, has_ended, was_asked_again, read_count};
+ghost use Rattle.wc_print.specs.Layout.{layout};
+ghost use Rattle.wc_print.specs.Printed.{text};
 ghost use Rattle.wc_canon.specs.declared.fault.Refusal.TheVariants as refusals;
 ghost use Rattle.wc_canon.specs.Run.{Answers, RefusesNear, ReadsCut, IsQuiet, is_read_fault, is_write_fault};
 
 use crate::fault::RunFault;
-use crate::reading::{normalise_from, text_from};
+use crate::reading::{accepted_from, normalise_from};
 use std::alloc::Global;
 use std::io::{Read, Write};
+use wc_ast::Module;
 use wc_device::Device;
+use wc_print::print_to;
 
 /// What a run writes for an input that is accepted.
 #[derive(Clone, Copy, Debug, PartialEq, Eq)]
@@ -34,6 +38,23 @@ fn send<W: Write>(w: &mut Device<W>, bytes: &[u8]) -> Result<u64, RunFault>
     match w.send(bytes) {
         Ok(()) => Ok(bytes.len() as u64),
         Err(written) => Err(RunFault::Write { written }),
+    }
+}
+
+/// Writes the text of a module, and flushes once. It takes no memory, so that nothing but the writer can fail.
+fn send_text<W: Write>(w: &mut Device<W>, module: &Module) -> Result<u64, RunFault>
+    requires { has_failed w.old ≡ false }
+    ensures ok { IfOk result (λ n. n ≡ length (text (layout «module».now))) }
+    ensures appends { OnOk result (Appends (W.contents (device_inner w.old)) (W.contents (device_inner w.new))
+        (text (layout «module».now))) }
+    ensures wrote { IfErr result (λ e. (n : ℕ) × (e ≡ RunFault.Write n) × (n ≤ length (text (layout «module».now)))
+        × Appends (W.contents (device_inner w.old)) (W.contents (device_inner w.new))
+        (take n (text (layout «module».now)))) }
+    ensures write { is_write_fault result ≡ has_failed w.new }
+{
+    match print_to(w, module) {
+        Ok(n) => Ok(n),
+        Err(n) => Err(RunFault::Write { written: n }),
     }
 }
 
@@ -79,6 +100,6 @@ pub fn run<R: Read, W: Write>(
 {
     match job {
         Job::Binary => send(w, &normalise_from(alloc, r)?),
-        Job::Text => send(w, text_from(alloc, r)?.as_bytes()),
+        Job::Text => send_text(w, &accepted_from(alloc, r)?),
     }
 }

@@ -5,6 +5,8 @@ pub mod ReadNumbers
 pub mod Naming
 pub mod Numbering
 pub mod Putting
+pub mod Going
+pub mod Flowing
 pub mod EscapeTable
 pub mod Stringing
 pub mod Values

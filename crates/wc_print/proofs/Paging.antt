@@ -2,17 +2,17 @@
 use Rattle.std.proofs.Common.{◌≡◌, ◌≢◌, ℕ, suc, ◌+◌, ◌/◌, ◌%◌, ◌<◌, ◌≤◌, ◌^◌, List, [], ◌∷◌, ◌++◌, length, set, take, drop}
 use Rattle.std.proofs.Common.{refl, sym, ap, ◌∙◌, arith, append_assoc}
 use Rattle.std.proofs.Common.{codes}
-use Rattle.std.specs.Prelude.{Result, Ok, Err, OnOk, is_ok, if◌then◌else◌}
 use Rattle.std.specs.Fmt.{decimal}
 use Rattle.std.proofs.lemmas.Fmt.{decimal_digit, decimal_step}
-use Rattle.std.proofs.lemmas.List.{length-append, length-take-le, take_at, take-append-le}
+use Rattle.std.proofs.lemmas.List.{append-nil, length-append, length-take-le, take_at, take-append-le}
 use Rattle.std.proofs.lemmas.List.Edits.{sets, sets-eq}
 use Rattle.std.proofs.Math.Seq.{take-append-add}
-use Rattle.wc_print.specs.Printed.{Printed, Item, below, printed}
+use Rattle.wc_tokens.specs.Standard.Lexemes.{is_idchar}
+use Rattle.wc_print.specs.Printed.{Printed, below, printed}
 use Rattle.wc_print.specs.Printable.{IsSpelled, Put}
 use Rattle.wc_print.specs.Lines.{offset_items}
 use Rattle.wc_print.proofs.Putting.{text}
-use Rattle.wc_print.proofs.Instructions.{offset-last}
+use Rattle.wc_print.proofs.Instructions.{unequal}
 
 -- bytes that are written one behind another, from a place on
 sets-kept : (page vs : List ℕ) (at n : ℕ) → n ≡ at + length vs → n ≤ length page → take n (sets page at vs) ≡ take at page ++ vs
@@ -109,19 +109,6 @@ pub line-put : (p : Printed) {old new line : List ℕ} → IsSpelled p → line 
     → Put (below 4 p ∷ []) old new
 line-put p h is e = text (below 4 p ∷ []) (h, tt) is e
 
--- behind what was put before the page
-pub behind-out : {items : List Item} (out : List ℕ) {old new : List ℕ} → Put items old new → Put items (out ++ old) (out ++ new)
-behind-out {items = items} out {old = old} h = record {
-  spelled = h.spelled;
-  bytes = ap (λ (x : List ℕ). out ++ x) h.bytes ∙ sym (append_assoc out old (printed items));
-}
-
--- what is on the page is put, where the call didn't fail
-pub page-last : {R E : Type 0} {items : List Item} {old : List ℕ} (out page new : List ℕ) (r : Result R E)
-    → Put items old (out ++ page) → new ≡ (if is_ok r then out ++ page else out) → OnOk r (Put items old new)
-page-last out page new (Ok v) h e = rw e h
-page-last out page new (Err f) h e = tt
-
 -- an offset of zero isn't printed
 pub offset-none : (n : ℕ) (p : Printed) {old new : List ℕ} → n ≡ 0 → Put (below 4 p ∷ []) old new
     → Put (below 4 p ∷ offset_items n) old new
@@ -129,4 +116,9 @@ offset-none n p e h = rw e h
 
 pub offset-some : (n : ℕ) (old mid new : List ℕ) → n ≢ 0 → n < 2 ^ 32 → mid ≡ old ++ (32 ∷ codes "offset=")
     → new ≡ mid ++ decimal n → Put (offset_items n) old new
-offset-some n old mid new h lt e f = offset-last {R = Unit {0}} {E = Unit {0}} n old mid new (Ok tt) h lt e f
+unfolding is_idchar
+offset-some n old mid new h lt e f =
+    rw (unequal n 0 h) (record {
+      spelled = ((refl, omega (arith, lt)), tt);
+      bytes = f ∙ rw e (simp (append_assoc, append-nil));
+    })

@@ -10,7 +10,9 @@ use Rattle.std.proofs.lemmas.Bool.{cases_lt}
 use Rattle.std.proofs.lemmas.Grind.{flat_map-append}
 use Rattle.std.specs.List.{AllByRecursion, flat_map, between}
 use Rattle.wc_print.specs.Printed.{stands, hex, escaped, quoted, after}
-use Rattle.wc_print.specs.Printable.{IsByte, Put, LeavesEscaped}
+use Rattle.wc_print.specs.Printable.{IsByte, Put}
+use Rattle.wc_print.specs.Going.{Says, Puts, LeavesEscaped}
+use Rattle.wc_print.proofs.Going.{text, says-same, says-then, says-none}
 
 bytes-fit : (bs : List ℕ) → ((i : ℕ) → Fits w8 (get_or bs i 0)) → AllByRecursion IsByte bs
 bytes-fit [] h = tt
@@ -68,27 +70,36 @@ stand-rest bs at before here =
     stand-behind bs at before
     (subst (λ (x : List ℕ). (k : ℕ) → k < length x → stands (get_or x k 0) ≡ true) whole here)
 
--- so many bytes at the front are put
-pub leaves-behind : (all old put out : List ℕ) (n : ℕ) → put ≡ flat_map escaped (take n all) → out ≡ old ++ put
-    → LeavesEscaped (drop n all) all out old
-leaves-behind all old put out n is e = record {
-  bytes =
-      rw (e, is) (append_assoc old (flat_map escaped (take n all)) (flat_map escaped (drop n all)))
-      ∙ ap (λ (x : List ℕ). old ++ x)
-      (sym (flat_map-append escaped (take n all) (drop n all)) ∙ ap (λ (x : List ℕ). flat_map escaped x) (take-append-drop n all));
-  fewer = omega (arith, length-drop n all);
-}
+module _ {F S : Type 0} {Has : F → S → List ℕ → Type 0} where
+  -- so many bytes at the front are put
+  pub leaves-behind : (all put : List ℕ) (n : ℕ) {old out : S} → put ≡ flat_map escaped (take n all) → Says Has put old out
+      → LeavesEscaped Has (drop n all) all out old
+  leaves-behind all put n is h = record {
+    finish = λ new k.
+        says-same
+        (sym (flat_map-append escaped (take n all) (drop n all)) ∙ ap (λ (x : List ℕ). flat_map escaped x) (take-append-drop n all))
+        (says-then (says-same is h) k);
+    fewer = omega (arith, length-drop n all);
+  }
 
--- a space and a quote, all bytes, and a quote
-pub string-put : (bs rest old mid out new : List ℕ) → ((k : ℕ) → Fits w8 (get_or bs k 0)) → length rest ≡ 0
-    → mid ≡ old ++ (32 ∷ 34 ∷ []) → LeavesEscaped rest bs out mid → new ≡ out ++ (34 ∷ []) → Put (after (quoted bs) ∷ []) old new
-string-put bs rest old mid out new fits none start left end =
-    let all : out ++ [] ≡ mid ++ flat_map escaped bs = rw (nil_from_length rest none) at left.bytes in
-    let done : out ≡ mid ++ flat_map escaped bs = sym (append-nil out) ∙ all in
-    record {
-      spelled = (bytes-fit bs fits, tt);
-      bytes = end ∙ rw (done, start) (simp (append_assoc, append-nil));
-    }
+  -- some of those that were left, and then others
+  pub leaves-on : {less left all : List ℕ} {out mid old : S} → LeavesEscaped Has less left out mid
+      → LeavesEscaped Has left all mid old → LeavesEscaped Has less all out old
+  leaves-on h k = record {
+    finish = λ new p. k.finish new (h.finish new p);
+    fewer = omega (arith, h.fewer, k.fewer);
+  }
+
+  -- a space and a quote, all bytes, and a quote
+  pub string-put : (bs rest : List ℕ) {old mid out new : S} → ((k : ℕ) → Fits w8 (get_or bs k 0)) → length rest ≡ 0
+      → Says Has (32 ∷ 34 ∷ []) old mid → LeavesEscaped Has rest bs out mid → Says Has (34 ∷ []) out new
+      → Puts Has (after (quoted bs) ∷ []) old new
+  string-put bs rest {out = out} fits none start left end =
+      let empty : flat_map escaped rest ≡ [] = ap (λ (x : List ℕ). flat_map escaped x) (nil_from_length rest none) in
+      let all : Says Has (flat_map escaped bs) _ out = left.finish out (says-same (sym empty) (says-none out)) in
+      text (after (quoted bs) ∷ []) (bytes-fit bs fits, tt)
+      (ap (λ (x : List ℕ). 32 ∷ 34 ∷ x) (sym (append-nil (flat_map escaped bs ++ 34 ∷ []))))
+      (says-then start (says-then all end))
 
 -- bytes that stand for themselves
 pub plain-put : (bs old mid out new : List ℕ) → ((k : ℕ) → Fits w8 (get_or bs k 0))
@@ -98,11 +109,8 @@ plain-put bs old mid out new fits plain start middle end =
     let whole : flat_map escaped bs ≡ bs =
     subst (λ (x : List ℕ). flat_map escaped x ≡ x) (take_all (length bs) bs (omega arith))
     (as-themselves bs (length bs) (omega arith) plain) in
-    let left : LeavesEscaped [] bs out mid = record {
-      bytes = append-nil out ∙ middle ∙ ap (λ (x : List ℕ). mid ++ x) (sym whole);
-      fewer = omega arith;
-    } in
-    string-put bs [] old mid out new fits refl start left end
+    let done : out ≡ mid ++ flat_map escaped bs = middle ∙ ap (λ (x : List ℕ). mid ++ x) (sym whole) in
+    record { spelled = (bytes-fit bs fits, tt); bytes = end ∙ rw (done, start) (simp (append_assoc, append-nil)) }
 
 -- so many at each end, which are all
 pub ends-stand : (bs : List ℕ) (size : ℕ) → size ≤ length bs → length bs ≤ size + size

@@ -2,33 +2,34 @@
 use Rattle.std.proofs.Common.{◌≡◌, ℕ, List, [], ◌∷◌, ◌++◌, refl, sym, ap, ◌∙◌, append_assoc, codes, IsUtf8}
 use Rattle.wc_ast.specs.declared.module.Module.{Module}
 use Rattle.wc_tokens.specs.Standard.Lexemes.{is_idchar}
-use Rattle.wc_print.specs.Printed.{opening, closing, word, next, below, text}
-use Rattle.wc_print.specs.Printable.{IsPrintable, Put}
+use Rattle.wc_print.specs.Printed.{closing, below, printed, text}
+use Rattle.wc_print.specs.Printable.{AreSpelled, IsPrintable}
+use Rattle.wc_print.specs.Going.{Says, Puts}
 use Rattle.wc_print.specs.Layout.{field_items, layout}
-use Rattle.wc_print.proofs.Putting.{literal, chain, text-printed}
+use Rattle.wc_print.proofs.Putting.{printed-append, spelled-append, text-printed}
+use Rattle.wc_print.proofs.Going.{says-same, says-then}
 use Rattle.wc_print.proofs.Lexing.{IsUtf8-text}
 use Rattle.wc_print.proofs.Apart.{AreApart-layout}
 
--- the bytes are the module's text
-pub record IsText (m : Module) (bytes : List ℕ) : Type 0 where
-  pub is : bytes ≡ text (layout m)
-  pub printable : IsPrintable (layout m)
-  pub utf8 : IsUtf8 bytes
+module _ {F S : Type 0} {Has : F → S → List ℕ → Type 0} where
+  -- the first line, the fields, and the last line with its end
+  pub whole : (m : Module) {none first mid new : S} → Says Has (codes "(module") none first → Puts Has (field_items m) first mid
+      → Says Has (10 ∷ 41 ∷ 10 ∷ []) mid new → Says Has (text (layout m)) none new
+  whole m e h f =
+      says-same
+      (ap (λ (x : List ℕ). codes "(module" ++ x) (sym (append_assoc (printed (field_items m)) (10 ∷ 41 ∷ []) (10 ∷ [])))
+      ∙ ap (λ (x : List ℕ). codes "(module" ++ (x ++ 10 ∷ [])) (sym (printed-append (field_items m) (below 0 closing ∷ [])))
+      ∙ sym (text-printed (layout m)))
+      (says-then e (says-then h.bytes f))
 
--- the first line, the fields, and the last line with its end
-pub whole : (m : Module) (none first mid new : List ℕ) → none ≡ [] → first ≡ none ++ codes "(module" → Put (field_items m) first mid
-    → new ≡ mid ++ (10 ∷ 41 ∷ 10 ∷ []) → IsText m new
+-- items of a module whose fields are spelled
+pub layout-printable : (m : Module) → AreSpelled (field_items m) → IsPrintable (layout m)
 unfolding is_idchar
-whole m none first mid new start e h f =
-    let head : Put (next opening ∷ next (word (codes "module")) ∷ []) none first = literal _ (tt, (refl, tt)) e in
-    let last : Put (below 0 closing ∷ []) mid (mid ++ (10 ∷ 41 ∷ [])) = literal _ (tt, tt) refl in
-    let put : Put (layout m) none (mid ++ (10 ∷ 41 ∷ [])) = chain head (chain h last) in
-    let is : new ≡ text (layout m) =
-    f ∙ sym (append_assoc mid (10 ∷ 41 ∷ []) (10 ∷ []))
-    ∙ ap (λ (x : List ℕ). x ++ (10 ∷ [])) (rw start at put.bytes)
-    ∙ sym (text-printed (layout m)) in
-    record {
-      is = is;
-      printable = record { spelled = put.spelled; apart = AreApart-layout m };
-      utf8 = rw is (IsUtf8-text (layout m) put.spelled);
-    }
+layout-printable m h = record {
+  spelled = (tt, (refl, spelled-append (field_items m) (below 0 closing ∷ []) h (tt, tt)));
+  apart = AreApart-layout m;
+}
+
+-- text is ASCII
+pub text-ascii : (m : Module) (bytes : List ℕ) → bytes ≡ text (layout m) → IsPrintable (layout m) → IsUtf8 bytes
+text-ascii m bytes is h = rw is (IsUtf8-text (layout m) h.spelled)

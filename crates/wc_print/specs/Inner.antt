@@ -1,2 +1,4 @@
+pub mod Flows
+pub mod Outlet
 pub mod Places
 pub mod Short

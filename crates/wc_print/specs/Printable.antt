@@ -1,11 +1,10 @@
 -- Which items may be printed: those that are read back as they are.
-use Rattle.std.specs.Prelude.{◌≡◌, ℕ, ◌<◌, ◌≤◌, ◌^◌, nat_lt, ◌==◌, Bool, true, false, not, ◌&&◌, List, [], ◌∷◌, ◌++◌}
-use Rattle.std.specs.Prelude.{length}
-use Rattle.std.specs.List.{AllByRecursion, list_all, flat_map}
+use Rattle.std.specs.Prelude.{◌≡◌, ℕ, ◌<◌, ◌^◌, nat_lt, ◌==◌, Bool, true, false, not, ◌&&◌, List, [], ◌∷◌, ◌++◌}
+use Rattle.std.specs.List.{AllByRecursion, list_all}
 use lib.Signed.{mag}
 use Rattle.wc_tokens.specs.Standard.Lexemes.{is_idchar}
 use Rattle.wc_print.specs.Printed.{Printed, opening, closing, word, number, integer, part, quoted, Item, next, after}
-use Rattle.wc_print.specs.Printed.{below, token_of, printed, escaped}
+use Rattle.wc_print.specs.Printed.{below, token_of, printed}
 
 -- the number is a byte
 abbrev pub IsByte : ℕ → Type 0
@@ -67,12 +66,3 @@ pub record IsPrintable (items : List Item) : Type 0 where
 pub record Put (items : List Item) (old new : List ℕ) : Type 0 where
   pub spelled : AreSpelled items
   pub bytes : new ≡ old ++ printed items
-
--- where those that are left are printed behind these bytes, all are printed behind the old ones
-pub record Leaves (left all : List Item) (out old : List ℕ) : Type 0 where
-  pub finish : (new : List ℕ) → Put left out new → Put all old new
-
--- where those bytes of a string that are left are put behind these, all are put behind the old ones
-pub record LeavesEscaped (left all out old : List ℕ) : Type 0 where
-  pub bytes : out ++ flat_map escaped left ≡ old ++ flat_map escaped all
-  pub fewer : length left ≤ length all

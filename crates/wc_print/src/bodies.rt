@@ -1,19 +1,20 @@
 //! Instructions: a line for each, or all behind one another.
 
-ghost use Rattle.std.specs.Prelude.{◌≡◌, ◌≤◌, ◌∷◌, [], ◌++◌, slice_index, OnOk};
+ghost use Rattle.std.specs.Prelude.{◌≡◌, ◌≤◌, ◌∷◌, [], ◌++◌, slice_index};
 ghost use Rattle.wc_body.specs.Standard.Entries.{mark, begin_of};
 ghost use Rattle.wc_body.specs.Standard.Nested.{flatten, plain};
 ghost use Rattle.wc_ops.specs.Standard.Opcodes.{memory};
 ghost use Rattle.wc_print.specs.Printed.{Printed, number, after, below, printed};
-ghost use Rattle.wc_print.specs.Printable.{IsSpelled, Put};
+ghost use Rattle.wc_print.specs.Printable.{IsSpelled};
+ghost use Rattle.wc_print.specs.Going.{Puts};
 ghost use Rattle.wc_print.specs.Lines.{block_items, number_items, offset_items, bytes_of, align_items, mark_items};
 ghost use Rattle.wc_print.specs.Lines.{told, expr_items};
 ghost use Rattle.wc_print.specs.Inner.Places.{item_at};
 
 use crate::lines::{Row, head_line, index_line, memory_line, simple_line};
 use crate::numbers::{put_integer, put_natural, put_number};
+use crate::sink::Sink;
 use crate::types::{put_result, put_type_use};
-use std::alloc::AllocError;
 use wc_ast::{BlockType, Constant, Entry, Instr, Kind, Labels, MemArg, MemOp};
 
 /// Where an instruction stands.
@@ -27,49 +28,49 @@ pub enum Place {
 
 /// Puts a line, or the same behind a space in place of the line's end and four spaces.
 #[inline(always)]
-fn put_at(out: &mut Vec<u8>, place: Place, row: &'static Row) -> Result<(), AllocError>
+fn put_at<S: Sink>(out: &mut S, place: Place, row: &'static Row)
     requires { slice_index row.now 23 ≤ 23 }
     ensures { (p : Printed) → told row.now ≡ printed (below 4 p ∷ []) → IsSpelled p
-        → OnOk result (Put (item_at place p ∷ []) out.old.items out.new.items) }
+        → Puts S.Has (item_at place p ∷ []) out.old out.new }
 {
     let line = &row[..row[23] as usize];
     match place {
-        Place::Line => out.extend_from_slice(line),
-        Place::Inline => out.extend_from_slice(&line[line.len().min(4)..]),
+        Place::Line => out.put(line),
+        Place::Inline => out.put(&line[line.len().min(4)..]),
     }
 }
 
-fn put_block_type(out: &mut Vec<u8>, block_type: BlockType) -> Result<(), AllocError>
-    ensures { OnOk result (Put (block_items block_type) out.old.items out.new.items) }
+fn put_block_type<S: Sink>(out: &mut S, block_type: BlockType)
+    ensures { Puts S.Has (block_items block_type) out.old out.new }
 {
     match block_type {
-        BlockType::Empty => Ok(()),
+        BlockType::Empty => {}
         BlockType::Value(value_type) => put_result(out, value_type),
         BlockType::Index(index) => put_type_use(out, index),
     }
 }
 
 /// The labels of a table, and its default.
-fn put_labels(out: &mut Vec<u8>, default: u32, labels: Labels<'_>) -> Result<(), AllocError>
+fn put_labels<S: Sink>(out: &mut S, default: u32, labels: Labels<'_>)
     ensures { let items = number_items labels.entry ++ after (number default) ∷ [] in
-        OnOk result (Put items out.old.items out.new.items) }
+        Puts S.Has items out.old out.new }
 {
     let mut labels = labels;
     while let Some(label) = labels.next() {
-        put_number(out, label)?;
+        put_number(out, label);
     }
-    put_number(out, default)
+    put_number(out, default);
 }
 
 #[inline(always)]
-fn put_offset(out: &mut Vec<u8>, offset: u32) -> Result<(), AllocError>
-    ensures { OnOk result (Put (offset_items offset) out.old.items out.new.items) }
+fn put_offset<S: Sink>(out: &mut S, offset: u32)
+    ensures { Puts S.Has (offset_items offset) out.old out.new }
 {
     if offset == 0 {
-        return Ok(());
+        return;
     }
-    out.extend_from_slice(b" offset=")?;
-    put_natural(out, offset)
+    out.put(b" offset=");
+    put_natural(out, offset);
 }
 
 /// An alignment in bytes.
@@ -85,75 +86,70 @@ fn align_bytes(align: u32) -> u32
 }
 
 #[inline(always)]
-fn put_align(out: &mut Vec<u8>, op: MemOp, align: u32) -> Result<(), AllocError>
-    ensures { OnOk result (Put (align_items (memory op).alignment align) out.old.items out.new.items) }
+fn put_align<S: Sink>(out: &mut S, op: MemOp, align: u32)
+    ensures { Puts S.Has (align_items (memory op).alignment align) out.old out.new }
 {
     if align == op.natural_alignment() {
-        return Ok(());
+        return;
     }
-    out.extend_from_slice(b" align=")?;
-    put_natural(out, align_bytes(align))
+    out.put(b" align=");
+    put_natural(out, align_bytes(align));
 }
 
 #[inline(always)]
-fn put_memory(out: &mut Vec<u8>, op: MemOp, arg: MemArg) -> Result<(), AllocError>
+fn put_memory<S: Sink>(out: &mut S, op: MemOp, arg: MemArg)
     ensures { let items = offset_items arg.offset ++ align_items (memory op).alignment arg.align in
-        OnOk result (Put items out.old.items out.new.items) }
+        Puts S.Has items out.old out.new }
 {
-    put_offset(out, arg.offset)?;
-    put_align(out, op, arg.align)
+    put_offset(out, arg.offset);
+    put_align(out, op, arg.align);
 }
 
 #[inline(always)]
-fn put_instr(out: &mut Vec<u8>, place: Place, instr: Instr<'_>) -> Result<(), AllocError>
-    ensures { OnOk result (Put (mark_items (item_at place) (plain instr.entry)) out.old.items out.new.items) }
+fn put_instr<S: Sink>(out: &mut S, place: Place, instr: Instr<'_>)
+    ensures { Puts S.Has (mark_items (item_at place) (plain instr.entry)) out.old out.new }
 {
     match instr {
         Instr::Simple(op) => put_at(out, place, simple_line(op)),
         Instr::Index(op, index) => {
-            put_at(out, place, index_line(op))?;
-            put_number(out, index)
+            put_at(out, place, index_line(op));
+            put_number(out, index);
         }
         Instr::Mem(op, arg) => {
-            put_at(out, place, memory_line(op))?;
-            put_memory(out, op, arg)
+            put_at(out, place, memory_line(op));
+            put_memory(out, op, arg);
         }
         Instr::BrTable(default, labels) => {
-            put_at(out, place, b"\n    br_table          \x0d")?;
-            put_labels(out, default, labels)
+            put_at(out, place, b"\n    br_table          \x0d");
+            put_labels(out, default, labels);
         }
         Instr::CallIndirect(index) => {
-            put_at(out, place, b"\n    call_indirect     \x12")?;
-            put_type_use(out, index)
+            put_at(out, place, b"\n    call_indirect     \x12");
+            put_type_use(out, index);
         }
         Instr::I32Const(n) => {
-            put_at(out, place, b"\n    i32.const         \x0e")?;
-            put_integer(out, i64::from(n))
+            put_at(out, place, b"\n    i32.const         \x0e");
+            put_integer(out, i64::from(n));
         }
         Instr::I64Const(n) => {
-            put_at(out, place, b"\n    i64.const         \x0e")?;
-            put_integer(out, n)
+            put_at(out, place, b"\n    i64.const         \x0e");
+            put_integer(out, n);
         }
     }
 }
 
 /// The head of a block, a loop or an if.
 #[inline(always)]
-fn put_head(
-    out: &mut Vec<u8>,
-    place: Place,
-    kind: Kind,
-    block_type: BlockType,
-) -> Result<(), AllocError>
-    ensures { OnOk result (Put (mark_items (item_at place) (begin_of kind block_type)) out.old.items out.new.items) }
+fn put_head<S: Sink>(out: &mut S, place: Place, kind: Kind, block_type: BlockType)
+    ensures { Puts S.Has (mark_items (item_at place) (begin_of kind block_type)) out.old out.new }
 {
-    put_at(out, place, head_line(kind))?;
-    put_block_type(out, block_type)
+    put_at(out, place, head_line(kind));
+    put_block_type(out, block_type);
 }
 
 #[inline(always)]
-pub fn put_entry(out: &mut Vec<u8>, place: Place, entry: Entry<'_>) -> Result<(), AllocError>
-    ensures { OnOk result (Put (mark_items (item_at place) (mark entry.entry)) out.old.items out.new.items) }
+pub fn put_entry<S: Sink>(out: &mut S, place: Place, entry: Entry<'_>)
+    ensures { Puts S.Has (mark_items (item_at place) (mark entry.entry)) out.old out.new }
 {
     match entry {
         Entry::Plain(instr) => put_instr(out, place, instr),
@@ -164,12 +160,11 @@ pub fn put_entry(out: &mut Vec<u8>, place: Place, entry: Entry<'_>) -> Result<()
 }
 
 /// The instructions of a constant expression, on the line.
-pub fn put_inline(out: &mut Vec<u8>, constant: &Constant) -> Result<(), AllocError>
-    ensures { OnOk result (Put (expr_items constant.now) out.old.items out.new.items) }
+pub fn put_inline<S: Sink>(out: &mut S, constant: &Constant)
+    ensures { Puts S.Has (expr_items constant.now) out.old out.new }
 {
     let mut entries = constant.entries();
     while let Some(entry) = entries.next() {
-        put_entry(out, Place::Inline, entry)?;
+        put_entry(out, Place::Inline, entry);
     }
-    Ok(())
 }

@@ -1,15 +1,16 @@
 //! The heads of functions. Most have an index of few digits and no locals, so they are written on the page, before the
 //! lines of the instructions.
 
-ghost use Rattle.std.specs.Prelude.{◌≤◌, ◌<◌, ◌+◌, [], ◌++◌, codes, IfOk, take};
+ghost use Rattle.std.specs.Prelude.{◌≤◌, ◌<◌, ◌+◌, [], ◌++◌, codes, take};
 ghost use Rattle.wc_print.specs.Printable.{Put};
+ghost use Rattle.wc_print.specs.Going.{Puts, Behind};
 ghost use Rattle.wc_print.specs.Layout.{values_items};
 ghost use Rattle.wc_print.specs.Inner.Short.{function_head};
 
 use crate::digits::{LIMIT, write_index};
 use crate::pages::{PAGE, write_row};
+use crate::sink::Sink;
 use crate::types::{put_locals, put_type_use};
-use std::alloc::AllocError;
 use wc_ast::LocalsRef;
 
 /// Writes a function's head on the page, from its beginning, and says where it ends.
@@ -27,35 +28,35 @@ fn write_head(page: &mut [u8; PAGE], index: u32) -> usize
 
 /// Begins a function of the type with this index, on the page if that is short, and says where the page's text ends.
 #[inline(always)]
-pub fn begin_func(out: &mut Vec<u8>, page: &mut [u8; PAGE], index: u32) -> Result<usize, AllocError>
-    ensures room { IfOk result (λ at. at + 48 ≤ 512) }
-    ensures put { IfOk result (λ at. Put (function_head index) out.old.items (out.new.items ++ take at page.new)) }
+pub fn begin_func<S: Sink>(out: &mut S, page: &mut [u8; PAGE], index: u32) -> usize
+    ensures room { result + 48 ≤ 512 }
+    ensures put { Puts (Behind S.Has) (function_head index) (out.old, []) (out.new, take result page.new) }
 {
     if index < LIMIT {
-        return Ok(write_head(page, index));
+        return write_head(page, index);
     }
-    out.extend_from_slice(b"\n  (func")?;
-    put_type_use(out, index)?;
-    Ok(0)
+    out.put(b"\n  (func");
+    put_type_use(out, index);
+    0
 }
 
 /// Puts a function's locals, if there are any, behind what is written on the page, and says where that ends then.
 #[inline(always)]
-pub fn put_locals_behind(
-    out: &mut Vec<u8>,
+pub fn put_locals_behind<S: Sink>(
+    out: &mut S,
     page: &[u8; PAGE],
     at: usize,
     locals: &LocalsRef<'_>,
-) -> Result<usize, AllocError>
+) -> usize
     requires { at + 48 ≤ 512 }
-    ensures room { IfOk result (λ end. end + 48 ≤ 512) }
-    ensures put { IfOk result (λ end. Put (values_items (codes "local") locals.now)
-        (out.old.items ++ take at page.now) (out.new.items ++ take end page.now)) }
+    ensures room { result + 48 ≤ 512 }
+    ensures put { Puts (Behind S.Has) (values_items (codes "local") locals.now)
+        (out.old, take at page.now) (out.new, take result page.now) }
 {
     if locals.len() == 0 {
-        return Ok(at);
+        return at;
     }
-    out.extend_from_slice(&page[..at])?;
-    put_locals(out, locals)?;
-    Ok(0)
+    out.put(&page[..at]);
+    put_locals(out, locals);
+    0
 }

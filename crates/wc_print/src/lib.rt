@@ -10,13 +10,17 @@ mod field;
 mod heads;
 mod laws;
 mod lines;
+mod memory;
 mod numbers;
+mod outlet;
 mod pages;
 mod printing;
 mod segments;
 mod short;
+mod sink;
 mod strings;
 mod types;
 
 pub use laws::{printed_lexes, printed_values};
-pub use printing::print;
+pub use memory::print;
+pub use outlet::print_to;

@@ -1,7 +1,7 @@
 //! The lines of a function's instructions. They are put together on a page before they are put behind the others, since
 //! most are short.
 
-ghost use Rattle.std.specs.Prelude.{◌≡◌, ◌≤◌, ◌+◌, ◌∷◌, [], ◌++◌, IsTrue, IfOk, OnOk, length, take, slice_index};
+ghost use Rattle.std.specs.Prelude.{◌≡◌, ◌≤◌, ◌+◌, ◌∷◌, [], ◌++◌, IsTrue, length, take, slice_index};
 ghost use Rattle.std.specs.List.{flat_map};
 ghost use Rattle.wc_ops.specs.Standard.Opcodes.{memory};
 ghost use Rattle.wc_body.specs.declared.instr.BlockType.TheVariants.{Empty};
@@ -10,13 +10,14 @@ ghost use Rattle.wc_body.specs.Standard.Nested.{plain};
 ghost use Rattle.wc_body.specs.Standard.Short.{instruction};
 ghost use Rattle.wc_print.specs.Printed.{below, closing, word, number, integer, after};
 ghost use Rattle.wc_print.specs.Printable.{Put};
+ghost use Rattle.wc_print.specs.Going.{Puts, Behind};
 ghost use Rattle.wc_print.specs.Lines.{told, offset_items, body_items};
 ghost use Rattle.wc_print.specs.Inner.Places.{line_items, LeavesLines};
 
 use crate::bodies::{Place, put_entry};
 use crate::digits::write_few_digits;
 use crate::lines::{Row, head_line, index_line, memory_line, simple_line};
-use std::alloc::AllocError;
+use crate::sink::Sink;
 use wc_ast::{BlockType, BodyRef, Entries, Entry, Instr, MemOp, Short};
 
 /// How many bytes a page has.
@@ -105,54 +106,49 @@ fn write_memory(page: &mut [u8; PAGE], at: usize, op: MemOp, offset: u8) -> usiz
 
 /// Puts what is written on the page if there is no room for another line, and says where the next one begins.
 #[inline(always)]
-fn turn(out: &mut Vec<u8>, page: &[u8; PAGE], at: usize) -> Result<usize, AllocError>
+fn turn<S: Sink>(out: &mut S, page: &[u8; PAGE], at: usize) -> usize
     requires { at ≤ 512 }
-    ensures room { IfOk result (λ next. next + 48 ≤ 512) }
-    ensures same { IfOk result (λ next. out.new.items ++ take next page.now ≡ out.old.items ++ take at page.now) }
+    ensures room { result + 48 ≤ 512 }
+    ensures same { Puts (Behind S.Has) [] (out.old, take at page.now) (out.new, take result page.now) }
 {
     if at + LINE <= PAGE {
-        return Ok(at);
+        return at;
     }
-    out.extend_from_slice(&page[..at])?;
-    Ok(0)
+    out.put(&page[..at]);
+    0
 }
 
 /// The lines of the short instructions up to the first entry that isn't one, and where the next line begins.
 #[inline(always)]
-fn put_all_short(
-    out: &mut Vec<u8>,
+fn put_all_short<S: Sink>(
+    out: &mut S,
     page: &mut [u8; PAGE],
     from: usize,
     entries: &mut Entries<'_>,
-) -> Result<usize, AllocError>
+) -> usize
     requires { from + 48 ≤ 512 }
-    ensures room { IfOk result (λ at. at + 48 ≤ 512) }
-    ensures puts { IfOk result (λ at. LeavesLines entries.new entries.old
-        (out.new.items ++ take at page.new) (out.old.items ++ take from page.old)) }
+    ensures room { result + 48 ≤ 512 }
+    ensures puts { LeavesLines (Behind S.Has) entries.new entries.old
+        (out.new, take result page.new) (out.old, take from page.old) }
     ensures fewer { length entries.new ≤ length entries.old }
 {
     let mut at = from;
     while let Some(short) = entries.next_short() {
         let end = write_short(page, at, short);
-        at = turn(out, page, end)?;
+        at = turn(out, page, end);
     }
-    Ok(at)
+    at
 }
 
 /// Puts what is written on the page, and the line of an entry behind it.
 // Such entries are few, so they stay out of the loop.
 #[inline(never)]
-fn put_behind(
-    out: &mut Vec<u8>,
-    page: &[u8; PAGE],
-    at: usize,
-    entry: Entry<'_>,
-) -> Result<(), AllocError>
+fn put_behind<S: Sink>(out: &mut S, page: &[u8; PAGE], at: usize, entry: Entry<'_>)
     requires { at ≤ 512 }
-    ensures { OnOk result (Put (line_items (mark entry.entry)) (out.old.items ++ take at page.now) out.new.items) }
+    ensures { Puts (Behind S.Has) (line_items (mark entry.entry)) (out.old, take at page.now) (out.new, []) }
 {
-    out.extend_from_slice(&page[..at])?;
-    put_entry(out, Place::Line, entry)
+    out.put(&page[..at]);
+    put_entry(out, Place::Line, entry);
 }
 
 /// Whether a block has no type to put.
@@ -165,52 +161,42 @@ fn is_empty(block_type: BlockType) -> bool
 
 /// Puts the line of an entry, if it is short on the page, and says where the page's last line ends.
 #[inline(always)]
-fn put_line(
-    out: &mut Vec<u8>,
-    page: &mut [u8; PAGE],
-    at: usize,
-    entry: Entry<'_>,
-) -> Result<usize, AllocError>
+fn put_line<S: Sink>(out: &mut S, page: &mut [u8; PAGE], at: usize, entry: Entry<'_>) -> usize
     requires { at + 48 ≤ 512 }
-    ensures within { IfOk result (λ end. end ≤ 512) }
-    ensures put { IfOk result (λ end. Put (line_items (mark entry.entry))
-        (out.old.items ++ take at page.old) (out.new.items ++ take end page.new)) }
+    ensures within { result ≤ 512 }
+    ensures put { Puts (Behind S.Has) (line_items (mark entry.entry))
+        (out.old, take at page.old) (out.new, take result page.new) }
 {
     match entry {
-        Entry::Else => Ok(write_row(page, at, b"\n    else              \x09")),
-        Entry::End => Ok(write_row(page, at, b"\n    end               \x08")),
+        Entry::Else => write_row(page, at, b"\n    else              \x09"),
+        Entry::End => write_row(page, at, b"\n    end               \x08"),
         Entry::Begin(kind, block_type) if is_empty(block_type) => {
-            Ok(write_row(page, at, head_line(kind)))
+            write_row(page, at, head_line(kind))
         }
         Entry::Plain(Instr::Mem(op, arg))
             if arg.align == op.natural_alignment() && arg.offset < 256 => {
-            Ok(write_memory(page, at, op, arg.offset as u8))
+            write_memory(page, at, op, arg.offset as u8)
         }
         _ => {
-            put_behind(out, page, at, entry)?;
-            Ok(0)
+            put_behind(out, page, at, entry);
+            0
         }
     }
 }
 
 /// The instructions of a function, each on a line, and its end, behind what is written on the page.
-pub fn put_lines(
-    out: &mut Vec<u8>,
-    page: &mut [u8; PAGE],
-    from: usize,
-    body: &BodyRef<'_>,
-) -> Result<(), AllocError>
+pub fn put_lines<S: Sink>(out: &mut S, page: &mut [u8; PAGE], from: usize, body: &BodyRef<'_>)
     requires { from + 48 ≤ 512 }
-    ensures { OnOk result (Put (body_items body.now ++ below 2 closing ∷ [])
-        (out.old.items ++ take from page.old) out.new.items) }
+    ensures { Puts (Behind S.Has) (body_items body.now ++ below 2 closing ∷ [])
+        (out.old, take from page.old) (out.new, []) }
 {
     let mut entries = body.entries();
-    let mut at = put_all_short(out, page, from, &mut entries)?;
+    let mut at = put_all_short(out, page, from, &mut entries);
     while let Some(entry) = entries.next() {
-        let end = put_line(out, page, at, entry)?;
-        let next = turn(out, page, end)?;
-        at = put_all_short(out, page, next, &mut entries)?;
+        let end = put_line(out, page, at, entry);
+        let next = turn(out, page, end);
+        at = put_all_short(out, page, next, &mut entries);
     }
     let end = write_row(page, at, b"\n  )                   \x04");
-    out.extend_from_slice(&page[..end])
+    out.put(&page[..end]);
 }

@@ -1,14 +1,15 @@
 //! Imports and exports of functions whose names are short and stand for themselves. Most are such, so they are put
 //! together in a small room before they are put behind the others.
 
-ghost use Rattle.std.specs.Prelude.{◌≡◌, ◌≤◌, ◌<◌, ◌+◌, ◌∷◌, [], ◌++◌, IsTrue, OnOk, length, take};
+ghost use Rattle.std.specs.Prelude.{◌≡◌, ◌≤◌, ◌<◌, ◌+◌, ◌∷◌, [], ◌++◌, IsTrue, length, take};
 ghost use Rattle.wc_print.specs.Printed.{quoted, after};
 ghost use Rattle.wc_print.specs.Printable.{Put};
+ghost use Rattle.wc_print.specs.Going.{Puts};
 ghost use Rattle.wc_print.specs.Inner.Short.{IsShort, function_import, function_export};
 
 use crate::digits::{LIMIT, write_index};
+use crate::sink::Sink;
 use crate::strings::is_plain;
-use std::alloc::AllocError;
 
 /// How many bytes have room.
 const ROOM: usize = 128;
@@ -100,29 +101,24 @@ fn write_export(room: &mut [u8; ROOM], name: &[u8], index: u32) -> usize
 
 /// A short import of a function.
 #[inline(always)]
-pub fn put_short_import(
-    out: &mut Vec<u8>,
-    module_name: &[u8],
-    name: &[u8],
-    index: u32,
-) -> Result<(), AllocError>
+pub fn put_short_import<S: Sink>(out: &mut S, module_name: &[u8], name: &[u8], index: u32)
     requires names { IsShort module_name.now × IsShort name.now }
     requires index { index < 1000000 }
-    ensures { OnOk result (Put (function_import module_name.now name.now index) out.old.items out.new.items) }
+    ensures { Puts S.Has (function_import module_name.now name.now index) out.old out.new }
 {
     let mut room = [0; ROOM];
     let end = write_import(&mut room, module_name, name, index);
-    out.extend_from_slice(&room[..end])
+    out.put(&room[..end]);
 }
 
 /// A short export of a function.
 #[inline(always)]
-pub fn put_short_export(out: &mut Vec<u8>, name: &[u8], index: u32) -> Result<(), AllocError>
+pub fn put_short_export<S: Sink>(out: &mut S, name: &[u8], index: u32)
     requires name { IsShort name.now }
     requires index { index < 1000000 }
-    ensures { OnOk result (Put (function_export name.now index) out.old.items out.new.items) }
+    ensures { Puts S.Has (function_export name.now index) out.old out.new }
 {
     let mut room = [0; ROOM];
     let end = write_export(&mut room, name, index);
-    out.extend_from_slice(&room[..end])
+    out.put(&room[..end]);
 }

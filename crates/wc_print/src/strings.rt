@@ -1,14 +1,14 @@
 //! Strings (Core 1.0, 6.3.3).
 
-ghost use Rattle.std.specs.Prelude.{◌≡◌, ◌≤◌, ◌<◌, ◌+◌, ◌-◌, ◌∷◌, [], ◌++◌, ℕ, true, IsTrue, IfOk, OnOk};
+ghost use Rattle.std.specs.Prelude.{◌≡◌, ◌≤◌, ◌<◌, ◌+◌, ◌-◌, ◌∷◌, [], ◌++◌, ℕ, true, IsTrue};
 ghost use Rattle.std.specs.Prelude.{length, take, slice_index};
 ghost use Rattle.std.specs.List.{flat_map};
 ghost use Rattle.wc_print.specs.Printed.{stands, escaped, quoted, after};
-ghost use Rattle.wc_print.specs.Printable.{Put, LeavesEscaped};
+ghost use Rattle.wc_print.specs.Going.{Puts, LeavesEscaped};
 ghost use Rattle.wc_print.specs.Inner.Short.{AllStand};
 
 use crate::escapes::ESCAPES;
-use std::alloc::AllocError;
+use crate::sink::Sink;
 
 /// How many bytes are judged together.
 const CHUNK: usize = 16;
@@ -133,43 +133,42 @@ fn write_bytes(room: &mut [u8; ROOM], bytes: &[u8]) -> usize
 
 /// Puts the bytes at the front that stand for themselves, as far as they are found in chunks, and tells what follows.
 #[inline(always)]
-fn put_standing<'a>(out: &mut Vec<u8>, bytes: &'a [u8]) -> Result<&'a [u8], AllocError>
-    ensures { IfOk result (λ rest. LeavesEscaped rest.now bytes.now out.new.items out.old.items) }
+fn put_standing<'a, S: Sink>(out: &mut S, bytes: &'a [u8]) -> &'a [u8]
+    ensures { LeavesEscaped S.Has result.now bytes.now out.new out.old }
 {
     let end = standing(bytes);
     if end == 0 {
-        return Ok(bytes);
+        return bytes;
     }
     let (plain, rest) = bytes.split_at(end);
-    out.extend_from_slice(plain)?;
-    Ok(rest)
+    out.put(plain);
+    rest
 }
 
 /// Puts what stands for the bytes at the front, so many as are escaped together, and tells what follows.
 #[inline(always)]
-fn put_piece<'a>(out: &mut Vec<u8>, bytes: &'a [u8]) -> Result<&'a [u8], AllocError>
-    ensures leaves { IfOk result (λ rest. LeavesEscaped rest.now bytes.now out.new.items out.old.items) }
-    ensures shorter { IfOk result (λ rest. length rest.now ≡ length bytes.now - 32) }
+fn put_piece<'a, S: Sink>(out: &mut S, bytes: &'a [u8]) -> &'a [u8]
+    ensures leaves { LeavesEscaped S.Has result.now bytes.now out.new out.old }
+    ensures shorter { length result.now ≡ length bytes.now - 32 }
 {
     let (piece, rest) = bytes.split_at(bytes.len().min(PIECE));
     let mut room = [0; ROOM];
     let end = write_bytes(&mut room, piece);
-    out.extend_from_slice(&room[..end])?;
-    Ok(rest)
+    out.put(&room[..end]);
+    rest
 }
 
 /// A string that stands for these bytes, behind a space.
-pub fn put_string(out: &mut Vec<u8>, bytes: &[u8]) -> Result<(), AllocError>
-    ensures { OnOk result (Put (after (quoted bytes.now) ∷ []) out.old.items out.new.items) }
+pub fn put_string<S: Sink>(out: &mut S, bytes: &[u8])
+    ensures { Puts S.Has (after (quoted bytes.now) ∷ []) out.old out.new }
 {
-    out.extend_from_slice(b" \"")?;
+    out.put(b" \"");
     let mut rest = bytes;
     while !rest.is_empty() {
-        rest = put_standing(out, rest)?;
+        rest = put_standing(out, rest);
         if !rest.is_empty() {
-            rest = put_piece(out, rest)?;
+            rest = put_piece(out, rest);
         }
     }
-    out.push(b'"')?;
-    Ok(())
+    out.put(b"\"");
 }

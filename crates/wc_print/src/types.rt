@@ -1,15 +1,16 @@
 //! Types (Core 1.0, 6.4).
 
-ghost use Rattle.std.specs.Prelude.{◌≡◌, ◌∷◌, [], ◌++◌, ℕ, true, List as Seq, codes, map, replicate, OnOk};
+ghost use Rattle.std.specs.Prelude.{◌≡◌, ◌∷◌, [], ◌++◌, ℕ, true, List as Seq, codes, map, replicate};
 ghost use Rattle.wc_print.specs.Printed.{word, next, opening, closing, after, printed};
-ghost use Rattle.wc_print.specs.Printable.{is_word, Put};
+ghost use Rattle.wc_print.specs.Printable.{is_word};
+ghost use Rattle.wc_print.specs.Going.{Puts};
 ghost use Rattle.wc_print.specs.Lines.{type_item, type_use_items};
 ghost use Rattle.wc_print.specs.Layout.{values_items, type_items, limits_items, global_type_items};
 ghost use Rattle.wc_ast.specs.Standard.LocalGroups.{written_out};
 
 use crate::field::Field;
 use crate::numbers::put_number;
-use std::alloc::AllocError;
+use crate::sink::Sink;
 use wc_ast::{FuncType, GlobalType, Group, Limits, LocalsRef, ValType};
 
 fn value_text(value_type: ValType) -> &'static str
@@ -21,113 +22,107 @@ fn value_text(value_type: ValType) -> &'static str
     }
 }
 
-fn put_value_type(out: &mut Vec<u8>, value_type: ValType) -> Result<(), AllocError>
-    ensures { OnOk result (Put (type_item value_type ∷ []) out.old.items out.new.items) }
+fn put_value_type<S: Sink>(out: &mut S, value_type: ValType)
+    ensures { Puts S.Has (type_item value_type ∷ []) out.old out.new }
 {
-    out.extend_from_slice(value_text(value_type).as_bytes())
+    out.put(value_text(value_type).as_bytes());
 }
 
 /// The result of a block.
-pub fn put_result(out: &mut Vec<u8>, value_type: ValType) -> Result<(), AllocError>
+pub fn put_result<S: Sink>(out: &mut S, value_type: ValType)
     ensures { let items = after opening ∷ next (word (codes "result")) ∷ type_item value_type ∷ next closing ∷ [] in
-        OnOk result (Put items out.old.items out.new.items) }
+        Puts S.Has items out.old out.new }
 {
-    out.extend_from_slice(b" (result")?;
-    put_value_type(out, value_type)?;
-    out.extend_from_slice(b")")
+    out.put(b" (result");
+    put_value_type(out, value_type);
+    out.put(b")");
 }
 
 /// A type by its index.
-pub fn put_type_use(out: &mut Vec<u8>, index: u32) -> Result<(), AllocError>
-    ensures { OnOk result (Put (type_use_items index) out.old.items out.new.items) }
+pub fn put_type_use<S: Sink>(out: &mut S, index: u32)
+    ensures { Puts S.Has (type_use_items index) out.old out.new }
 {
-    out.extend_from_slice(b" (type")?;
-    put_number(out, index)?;
-    out.extend_from_slice(b")")
+    out.put(b" (type");
+    put_number(out, index);
+    out.put(b")");
 }
 
 /// The types of parameters or results, if there are any.
-fn put_values(
-    out: &mut Vec<u8>,
-    head: &'static str,
-    value_types: &[ValType],
-) -> Result<(), AllocError>
+fn put_values<S: Sink>(out: &mut S, head: &'static str, value_types: &[ValType])
     ensures { (w : Seq ℕ) → head.now ≡ printed (after opening ∷ next (word w) ∷ []) → is_word w ≡ true
-        → OnOk result (Put (values_items w value_types.now) out.old.items out.new.items) }
+        → Puts S.Has (values_items w value_types.now) out.old out.new }
 {
     if value_types.is_empty() {
-        return Ok(());
+        return;
     }
-    out.extend_from_slice(head.as_bytes())?;
+    out.put(head.as_bytes());
     for value_type in value_types {
-        put_value_type(out, *value_type)?;
+        put_value_type(out, *value_type);
     }
-    out.extend_from_slice(b")")
+    out.put(b")");
 }
 
 /// So many locals of one type.
-fn put_group(out: &mut Vec<u8>, group: Group) -> Result<(), AllocError>
-    ensures { OnOk result (Put (map type_item (replicate group.count group.value_type)) out.old.items out.new.items) }
+fn put_group<S: Sink>(out: &mut S, group: Group)
+    ensures { Puts S.Has (map type_item (replicate group.count group.value_type)) out.old out.new }
 {
     let mut left = group.count;
     while left > 0 {
-        put_value_type(out, group.value_type)?;
+        put_value_type(out, group.value_type);
         left -= 1;
     }
-    Ok(())
 }
 
-fn put_groups(out: &mut Vec<u8>, groups: &[Group]) -> Result<(), AllocError>
-    ensures { OnOk result (Put (map type_item (written_out groups.now)) out.old.items out.new.items) }
+fn put_groups<S: Sink>(out: &mut S, groups: &[Group])
+    ensures { Puts S.Has (map type_item (written_out groups.now)) out.old out.new }
 {
     for group in groups {
-        put_group(out, *group)?;
+        put_group(out, *group);
     }
-    Ok(())
 }
 
 /// The declared locals, if there are any.
-pub fn put_locals(out: &mut Vec<u8>, locals: &LocalsRef<'_>) -> Result<(), AllocError>
-    ensures { OnOk result (Put (values_items (codes "local") locals.now) out.old.items out.new.items) }
+pub fn put_locals<S: Sink>(out: &mut S, locals: &LocalsRef<'_>)
+    ensures { Puts S.Has (values_items (codes "local") locals.now) out.old out.new }
 {
     if locals.len() == 0 {
-        return Ok(());
+        return;
     }
-    out.extend_from_slice(b" (local")?;
-    put_groups(out, locals.groups())?;
-    out.extend_from_slice(b")")
+    out.put(b" (local");
+    put_groups(out, locals.groups());
+    out.put(b")");
 }
 
 impl Field for FuncType {
     ghost items = { type_items };
 
-    fn put(&self, out: &mut Vec<u8>) -> Result<(), AllocError> {
-        out.extend_from_slice(b"\n  (type (func")?;
-        put_values(out, " (param", self.params.as_slice())?;
-        put_values(out, " (result", self.results.as_slice())?;
-        out.extend_from_slice(b"))")
+    fn put<S: Sink>(&self, out: &mut S) {
+        out.put(b"\n  (type (func");
+        put_values(out, " (param", self.params.as_slice());
+        put_values(out, " (result", self.results.as_slice());
+        out.put(b"))");
     }
 }
 
 /// The limits of a table or a memory.
-pub fn put_limits(out: &mut Vec<u8>, limits: Limits) -> Result<(), AllocError>
-    ensures { OnOk result (Put (limits_items limits) out.old.items out.new.items) }
+pub fn put_limits<S: Sink>(out: &mut S, limits: Limits)
+    ensures { Puts S.Has (limits_items limits) out.old out.new }
 {
-    put_number(out, limits.min)?;
+    put_number(out, limits.min);
     match limits.max {
         Some(max) => put_number(out, max),
-        None => Ok(()),
+        None => {}
     }
 }
 
 /// The type of a global.
-pub fn put_global_type(out: &mut Vec<u8>, ty: GlobalType) -> Result<(), AllocError>
-    ensures { OnOk result (Put (global_type_items ty.mutable ty.ty) out.old.items out.new.items) }
+pub fn put_global_type<S: Sink>(out: &mut S, ty: GlobalType)
+    ensures { Puts S.Has (global_type_items ty.mutable ty.ty) out.old out.new }
 {
     if !ty.mutable {
         return put_value_type(out, ty.ty);
     }
-    out.extend_from_slice(b" (mut")?;
-    put_value_type(out, ty.ty)?;
-    out.extend_from_slice(b")")
+    out.put(b" (mut");
+    put_value_type(out, ty.ty);
+    out.put(b")");
 }

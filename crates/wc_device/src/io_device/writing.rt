@@ -1,5 +1,5 @@
 //! Writing to a device.
-ghost use Rattle.std.specs.Prelude.{◌≡◌, ◌<◌, ◌≤◌, length, take, IfOk, IfErr, OnOk, OnErr, true};
+ghost use Rattle.std.specs.Prelude.{◌≡◌, ◌<◌, ◌≤◌, ◌+◌, ◌-◌, length, take, IfOk, IfErr, OnOk, OnErr, true};
 ghost use Rattle.std.specs.Io.{WritesAtMost};
 ghost use Rattle.std.specs.Io.KnownBytes.{Appends, WriteAppends, Keeps};
 ghost use Rattle.wc_device.specs.Device.{device_inner, has_failed, read_count};
@@ -82,6 +82,37 @@ impl<W: Write> Device<W> {
         }
         Ok(())
     }
+
+    /// Writes all the bytes behind so many that went out before, and answers how many these are then. It doesn't flush.
+    ///
+    /// # Errors
+    /// How many went out, with those before, until a write failed. No more than 2^64 - 1 are written: where the bytes
+    /// are more, the rest of them is lost. The failure is kept, and nothing is tried again.
+    pub fn write_behind(&mut self, before: u64, bytes: &[u8]) -> Result<u64, u64>
+        ensures total { IfOk result (λ n. n ≡ before + length bytes.now) }
+        ensures bytes { OnOk result
+            (Appends (W.contents (device_inner self.old)) (W.contents (device_inner self.new)) bytes.now) }
+        ensures front { IfErr result (λ n. (before ≤ n) × (n ≤ before + length bytes.now)
+            × Appends (W.contents (device_inner self.old)) (W.contents (device_inner self.new))
+            (take (n - before) bytes.now)) }
+        ensures count { read_count self.new ≡ read_count self.old }
+        ensures ended { has_ended self.new ≡ has_ended self.old }
+        ensures again { was_asked_again self.new ≡ was_asked_again self.old }
+
+        ensures fails { OnErr result (has_failed self.new ≡ true) }
+        ensures goes_on { OnOk result (has_failed self.new ≡ has_failed self.old) }
+    {
+        let most = (bytes.len() as u64).min(u64::MAX - before) as usize;
+        if let Err(written) = self.write_all(&bytes[..most]) {
+            return Err(before + written);
+        }
+        if most < bytes.len() {
+            self.fail();
+            return Err(u64::MAX);
+        }
+        Ok(before + most as u64)
+    }
+
     /// Writes all the bytes, and then flushes once.
     ///
     /// # Errors

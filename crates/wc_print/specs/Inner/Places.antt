@@ -7,7 +7,7 @@ use Rattle.wc_body.specs.Standard.Nested.{Mark}
 use Rattle.wc_print.specs.declared.bodies.Place.{Place}
 use Rattle.wc_print.specs.declared.bodies.Place.TheVariants.{Line, Inline}
 use Rattle.wc_print.specs.Printed.{Printed, Item, after, below}
-use Rattle.wc_print.specs.Printable.{Leaves}
+use Rattle.wc_print.specs.Going.{Leaves}
 use Rattle.wc_print.specs.Lines.{mark_items}
 
 -- on a line of its own behind four spaces, or behind a space
@@ -19,7 +19,7 @@ item_at Inline = λ p. after p
 abbrev pub line_items : Mark Instr BlockType → List Item
 line_items m = mark_items (λ p. below 4 p) m
 
--- where the marks that are left are put behind these bytes, each on a line, all are put behind the old ones
-abbrev pub LeavesLines : (left all : List (Mark Instr BlockType)) (out old : List ℕ) → Type 0
-LeavesLines left all out old =
-    Leaves (flat_map (mark_items (λ p. below 4 p)) left) (flat_map (mark_items (λ p. below 4 p)) all) out old
+-- where the marks that are left are put behind this, each on a line, all are put behind the old
+abbrev pub LeavesLines : {F S : Type 0} → (F → S → List ℕ → Type 0) → (left all : List (Mark Instr BlockType)) → S → S → Type 0
+LeavesLines Has left all out old =
+    Leaves Has (flat_map (mark_items (λ p. below 4 p)) left) (flat_map (mark_items (λ p. below 4 p)) all) out old

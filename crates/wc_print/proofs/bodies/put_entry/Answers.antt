@@ -5,8 +5,8 @@ use Rattle.wc_print.proofs.bodies.put_entry.Goals as goal
 
 pub returns-in-Else : goal.returns-in-Else
 unfolding is_idchar
-returns-in-Else c = rw c.in-Else.is (c.put_at.ensures (word (codes "else")) refl refl)
+returns-in-Else g c = rw c.in-Else.is (c.put_at.ensures (word (codes "else")) refl refl)
 
 pub returns-in-End : goal.returns-in-End
 unfolding is_idchar
-returns-in-End c = rw c.in-End.is (c.put_at-in-End.ensures (word (codes "end")) refl refl)
+returns-in-End g c = rw c.in-End.is (c.put_at-in-End.ensures (word (codes "end")) refl refl)

@@ -1,14 +1,14 @@
 use Rattle.std.proofs.Common.{length}
 use Rattle.std.specs.List.{flat_map}
 use Rattle.wc_print.specs.Printed.{after}
-use Rattle.wc_print.specs.Printable.{Leaves}
+use Rattle.wc_print.specs.Going.{Leaves}
 use Rattle.wc_print.specs.Lines.{mark_items}
 use Rattle.wc_print.proofs.bodies.put_inline.Given as goal
 
 abbrev pub invariant-loop-entry : goal.invariant-loop-entry
-invariant-loop-entry l =
-    Leaves (flat_map (mark_items (λ p. after p)) l.entries) (flat_map (mark_items (λ p. after p)) l.initial.entries)
-    l.out.items l.initial.out.items
+invariant-loop-entry g l =
+    Leaves g.S.Sink.Has (flat_map (mark_items (λ p. after p)) l.entries) (flat_map (mark_items (λ p. after p)) l.initial.entries)
+    l.out l.initial.out
 
 abbrev pub decreases-loop-entry : goal.decreases-loop-entry
-decreases-loop-entry l = length l.entries
+decreases-loop-entry g l = length l.entries

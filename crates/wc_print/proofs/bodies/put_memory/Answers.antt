@@ -1,5 +1,5 @@
-use Rattle.wc_print.proofs.Putting.{chain-last}
+use Rattle.wc_print.proofs.Going.{chain}
 use Rattle.wc_print.proofs.bodies.put_memory.Goals as goal
 
 pub returns : goal.returns
-returns c = chain-last _ _ _ c.in_ok-put_offset.ensures c.put_align.ensures
+returns g c = chain c.put_offset.ensures c.put_align.ensures

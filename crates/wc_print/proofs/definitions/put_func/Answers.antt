@@ -1,7 +1,8 @@
-use Rattle.wc_print.proofs.Putting.{chain-last}
+use Rattle.wc_print.proofs.Going.{all-out, chain}
 use Rattle.wc_print.proofs.definitions.put_func.Goals as goal
 
 pub returns : goal.returns
-returns c =
-    chain-last _ _ _ (rw c.ty.ensures at c.in_ok-head.ensures.put)
-    (chain-last _ _ _ (rw c.locals.ensures at c.in_ok-begin.ensures.put) (rw c.body.ensures at c.put_lines.ensures))
+returns g c =
+    all-out
+    (chain (rw c.ty.ensures at c.begin_func-head.ensures.put)
+    (chain (rw c.locals.ensures at c.put_locals_behind-begin.ensures.put) (rw c.body.ensures at c.put_lines.ensures)))

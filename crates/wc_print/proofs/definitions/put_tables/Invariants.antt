@@ -1,8 +1,8 @@
 use Rattle.std.proofs.Common.{drop}
 use Rattle.std.specs.List.{flat_map}
 use Rattle.wc_print.specs.Layout.{table_items}
-use Rattle.wc_print.specs.Printable.{Leaves}
+use Rattle.wc_print.specs.Going.{Leaves}
 use Rattle.wc_print.proofs.definitions.put_tables.Given as goal
 
 abbrev pub invariant-loop-limits : goal.invariant-loop-limits
-invariant-loop-limits l = Leaves (flat_map table_items (drop l.limits-index l.tables)) (flat_map table_items l.tables) l.out.items l.initial.out.items
+invariant-loop-limits g l = Leaves g.S.Sink.Has (flat_map table_items (drop l.limits-index l.tables)) (flat_map table_items l.tables) l.out l.initial.out

@@ -1,41 +1,41 @@
 use Rattle.std.proofs.Common.{[], ◌∷◌, refl, codes}
 use Rattle.wc_tokens.specs.Standard.Lexemes.{is_idchar}
 use Rattle.wc_print.specs.Printed.{opening, closing, word, next, after}
-use Rattle.wc_print.proofs.Putting.{literal, literal-last, chain-last}
+use Rattle.wc_print.proofs.Going.{literal, chain}
 use Rattle.wc_print.proofs.externals.put_desc.Goals as goal
 
-pub returns-in_ok-put_type_use-in-Func : goal.returns-in_ok-put_type_use-in-Func
+pub returns-in-Func : goal.returns-in-Func
 unfolding is_idchar
-returns-in_ok-put_type_use-in-Func c =
+returns-in-Func g c =
     rw c.in-Func.is
-    (chain-last _ _ _
-    (literal (after opening ∷ next (word (codes "func")) ∷ []) (tt, (refl, tt)) c.in_ok-extend_from_slice-in-Func.ensures.items)
-    (chain-last _ _ _ c.in_ok-put_type_use-in-Func.ensures
-    (literal-last (next closing ∷ []) _ _ _ (tt, tt) c.extend_from_slice-in-Func.ensures.items)))
+    (chain
+    (literal (after opening ∷ next (word (codes "func")) ∷ []) (tt, (refl, tt)) c.put.ensures)
+    (chain c.put_type_use.ensures
+    (literal (next closing ∷ []) (tt, tt) c.put-in-Func.ensures)))
 
-pub returns-in_ok-put_limits-in-Table : goal.returns-in_ok-put_limits-in-Table
+pub returns-in-Table : goal.returns-in-Table
 unfolding is_idchar
-returns-in_ok-put_limits-in-Table c =
+returns-in-Table g c =
     rw c.in-Table.is
-    (chain-last _ _ _
-    (literal (after opening ∷ next (word (codes "table")) ∷ []) (tt, (refl, tt)) c.in_ok-extend_from_slice-in-Table.ensures.items)
-    (chain-last _ _ _ c.in_ok-put_limits-in-Table.ensures
-    (literal-last (after (word (codes "funcref")) ∷ next closing ∷ []) _ _ _ (refl, (tt, tt)) c.extend_from_slice-in-Table-2.ensures.items)))
+    (chain
+    (literal (after opening ∷ next (word (codes "table")) ∷ []) (tt, (refl, tt)) c.put-in-Table.ensures)
+    (chain c.put_limits.ensures
+    (literal (after (word (codes "funcref")) ∷ next closing ∷ []) (refl, (tt, tt)) c.put-in-Table-2.ensures)))
 
-pub returns-in_ok-put_limits-in-Memory : goal.returns-in_ok-put_limits-in-Memory
+pub returns-in-Memory : goal.returns-in-Memory
 unfolding is_idchar
-returns-in_ok-put_limits-in-Memory c =
+returns-in-Memory g c =
     rw c.in-Memory.is
-    (chain-last _ _ _
-    (literal (after opening ∷ next (word (codes "memory")) ∷ []) (tt, (refl, tt)) c.in_ok-extend_from_slice-in-Memory.ensures.items)
-    (chain-last _ _ _ c.in_ok-put_limits-in-Memory.ensures
-    (literal-last (next closing ∷ []) _ _ _ (tt, tt) c.extend_from_slice-in-Memory-2.ensures.items)))
+    (chain
+    (literal (after opening ∷ next (word (codes "memory")) ∷ []) (tt, (refl, tt)) c.put-in-Memory.ensures)
+    (chain c.put_limits-in-Memory.ensures
+    (literal (next closing ∷ []) (tt, tt) c.put-in-Memory-2.ensures)))
 
-pub returns-in_ok-put_global_type-in-Global : goal.returns-in_ok-put_global_type-in-Global
+pub returns-in-Global : goal.returns-in-Global
 unfolding is_idchar
-returns-in_ok-put_global_type-in-Global c =
+returns-in-Global g c =
     rw c.in-Global.is
-    (chain-last _ _ _
-    (literal (after opening ∷ next (word (codes "global")) ∷ []) (tt, (refl, tt)) c.in_ok-extend_from_slice-in-Global.ensures.items)
-    (chain-last _ _ _ c.in_ok-put_global_type-in-Global.ensures
-    (literal-last (next closing ∷ []) _ _ _ (tt, tt) c.extend_from_slice-in-Global-2.ensures.items)))
+    (chain
+    (literal (after opening ∷ next (word (codes "global")) ∷ []) (tt, (refl, tt)) c.put-in-Global.ensures)
+    (chain c.put_global_type.ensures
+    (literal (next closing ∷ []) (tt, tt) c.put-in-Global-2.ensures)))

@@ -1,12 +1,12 @@
 use Rattle.std.proofs.Common.{length}
 use Rattle.std.specs.List.{flat_map}
-use Rattle.wc_print.specs.Printable.{Leaves}
+use Rattle.wc_print.specs.Going.{Leaves}
 use Rattle.wc_print.specs.Layout.{export_items}
 use Rattle.wc_print.proofs.externals.put_exports.Given as goal
 
 abbrev pub invariant-loop-export : goal.invariant-loop-export
-invariant-loop-export l =
-    Leaves (flat_map export_items l.left) (flat_map export_items l.initial.left) l.out.items l.initial.out.items
+invariant-loop-export g l =
+    Leaves g.S.Sink.Has (flat_map export_items l.left) (flat_map export_items l.initial.left) l.out l.initial.out
 
 abbrev pub decreases-loop-export : goal.decreases-loop-export
-decreases-loop-export l = length l.left
+decreases-loop-export g l = length l.left

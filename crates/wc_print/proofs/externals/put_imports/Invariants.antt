@@ -1,12 +1,12 @@
 use Rattle.std.proofs.Common.{length}
 use Rattle.std.specs.List.{flat_map}
-use Rattle.wc_print.specs.Printable.{Leaves}
+use Rattle.wc_print.specs.Going.{Leaves}
 use Rattle.wc_print.specs.Layout.{import_items}
 use Rattle.wc_print.proofs.externals.put_imports.Given as goal
 
 abbrev pub invariant-loop-import : goal.invariant-loop-import
-invariant-loop-import l =
-    Leaves (flat_map import_items l.left) (flat_map import_items l.initial.left) l.out.items l.initial.out.items
+invariant-loop-import g l =
+    Leaves g.S.Sink.Has (flat_map import_items l.left) (flat_map import_items l.initial.left) l.out l.initial.out
 
 abbrev pub decreases-loop-import : goal.decreases-loop-import
-decreases-loop-import l = length l.left
+decreases-loop-import g l = length l.left

@@ -1,8 +1,8 @@
-use Rattle.wc_print.proofs.Numbering.{digit-last, number-last}
+use Rattle.wc_print.proofs.Numbering.{digit-put, digits-put}
 use Rattle.wc_print.proofs.numbers.put_number.Goals as goal
 
 pub returns-then-n-lt10 : goal.returns-then-n-lt10
-returns-then-n-lt10 c = digit-last _ _ _ _ c.if-n-lt10.true c.extend_from_slice.ensures.items
+returns-then-n-lt10 g c = digit-put _ c.if-n-lt10.true c.put.ensures
 
 pub returns : goal.returns
-returns c = number-last _ _ _ _ _ c.ranges.n.fits c.in_ok-push.ensures.items c.put_natural.ensures
+returns g c = digits-put _ c.ranges.n.fits c.put-2.ensures c.put_natural.ensures

@@ -1,14 +1,16 @@
-use Rattle.std.proofs.Common.{◌≡◌, ◌+◌, ◌≤◌, ◌++◌, length, take}
+use Rattle.std.proofs.Common.{◌≡◌, ◌+◌, ◌≤◌, length, take}
+use Rattle.wc_print.specs.Going.{Behind}
 use Rattle.wc_print.specs.Inner.Places.{LeavesLines}
 use Rattle.wc_print.proofs.pages.put_all_short.Given as goal
 
 abbrev pub invariant-loop-short : goal.invariant-loop-short
-invariant-loop-short l = record {
+invariant-loop-short g l = record {
   room : l.at + 48 ≤ 512;
   page : length l.page ≡ 512;
-  puts : LeavesLines l.entries l.initial.entries (l.out.items ++ take l.at l.page) (l.initial.out.items ++ take l.from l.initial.page);
+  puts : LeavesLines (Behind g.S.Sink.Has) l.entries l.initial.entries (l.out, take l.at l.page)
+      (l.initial.out, take l.from l.initial.page);
   fewer : length l.entries ≤ length l.initial.entries;
 }
 
 abbrev pub decreases-loop-short : goal.decreases-loop-short
-decreases-loop-short l = length l.entries
+decreases-loop-short g l = length l.entries

@@ -1,14 +1,16 @@
-use Rattle.std.proofs.Common.{◌≡◌, ◌+◌, ◌≤◌, ◌++◌, length, take}
+use Rattle.std.proofs.Common.{◌≡◌, ◌+◌, ◌≤◌, length, take}
 use Rattle.wc_body.specs.Standard.Nested.{flatten}
+use Rattle.wc_print.specs.Going.{Behind}
 use Rattle.wc_print.specs.Inner.Places.{LeavesLines}
 use Rattle.wc_print.proofs.pages.put_lines.Given as goal
 
 abbrev pub invariant-loop-entry : goal.invariant-loop-entry
-invariant-loop-entry l = record {
+invariant-loop-entry g l = record {
   room : l.at + 48 ≤ 512;
   page : length l.page ≡ 512;
-  puts : LeavesLines l.entries (flatten l.body) (l.out.items ++ take l.at l.page) (l.fn.out.items ++ take l.fn.from l.fn.page);
+  puts : LeavesLines (Behind g.S.Sink.Has) l.entries (flatten l.body) (l.out, take l.at l.page)
+      (l.fn.out, take l.fn.from l.fn.page);
 }
 
 abbrev pub decreases-loop-entry : goal.decreases-loop-entry
-decreases-loop-entry l = length l.entries
+decreases-loop-entry g l = length l.entries

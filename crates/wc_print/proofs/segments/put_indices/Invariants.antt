@@ -1,7 +1,7 @@
 use Rattle.std.proofs.Common.{drop}
 use Rattle.wc_print.specs.Lines.{number_items}
-use Rattle.wc_print.specs.Printable.{Leaves}
+use Rattle.wc_print.specs.Going.{Leaves}
 use Rattle.wc_print.proofs.segments.put_indices.Given as goal
 
 abbrev pub invariant-loop-index : goal.invariant-loop-index
-invariant-loop-index l = Leaves (number_items (drop l.index-index l.indices)) (number_items l.indices) l.out.items l.initial.out.items
+invariant-loop-index g l = Leaves g.S.Sink.Has (number_items (drop l.index-index l.indices)) (number_items l.indices) l.out l.initial.out

@@ -1,13 +1,13 @@
 use Rattle.std.proofs.Common.{[], ◌∷◌, refl, codes}
 use Rattle.wc_tokens.specs.Standard.Lexemes.{is_idchar}
 use Rattle.wc_print.specs.Printed.{opening, closing, word, next, after}
-use Rattle.wc_print.proofs.Putting.{literal, literal-last, chain-last}
+use Rattle.wc_print.proofs.Going.{literal, chain}
 use Rattle.wc_print.proofs.segments.put_place.Goals as goal
 
 pub returns : goal.returns
 unfolding is_idchar
-returns c =
-    chain-last _ _ _
-    (literal (after opening ∷ next (word (codes "offset")) ∷ []) (tt, (refl, tt)) c.in_ok-extend_from_slice.ensures.items)
-    (chain-last _ _ _ c.in_ok-put_inline.ensures
-    (literal-last (next closing ∷ []) _ _ _ (tt, tt) c.extend_from_slice-2.ensures.items))
+returns g c =
+    chain
+    (literal (after opening ∷ next (word (codes "offset")) ∷ []) (tt, (refl, tt)) c.put.ensures)
+    (chain c.put_inline.ensures
+    (literal (next closing ∷ []) (tt, tt) c.put-2.ensures))

@@ -1,5 +1,5 @@
-use Rattle.wc_print.proofs.Putting.{written-last}
+use Rattle.wc_print.proofs.Going.{written}
 use Rattle.wc_print.proofs.short.put_short_export.Goals as goal
 
 pub returns : goal.returns
-returns c = written-last _ _ _ _ _ c.write_export-end.ensures.put c.extend_from_slice.ensures.items
+returns g c = written c.write_export-end.ensures.put c.put.ensures

@@ -4,8 +4,8 @@ use Rattle.wc_print.proofs.Stringing.{string-put}
 use Rattle.wc_print.proofs.strings.put_string.Goals as goal
 
 pub returns : goal.returns
-returns c =
-    string-put _ _ _ _ _ _ c.type_inv.bytes
+returns g c =
+    string-put _ _ c.type_inv.bytes
     (grind (arith, nat_tests, c.is_empty.ensures, c.loop-rest-test.false))
-    c.in_ok-extend_from_slice.ensures.items
-    c.loop-rest.invariant c.in_ok-push.ensures.items
+    c.put.ensures
+    c.loop-rest.invariant c.put-2.ensures

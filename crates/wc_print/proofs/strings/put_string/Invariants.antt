@@ -1,9 +1,9 @@
 use Rattle.std.proofs.Common.{length}
-use Rattle.wc_print.specs.Printable.{LeavesEscaped}
+use Rattle.wc_print.specs.Going.{LeavesEscaped}
 use Rattle.wc_print.proofs.strings.put_string.Given as goal
 
 abbrev pub invariant-loop-rest : goal.invariant-loop-rest
-invariant-loop-rest l = LeavesEscaped l.rest l.initial.rest l.out.items l.initial.out.items
+invariant-loop-rest g l = LeavesEscaped g.S.Sink.Has l.rest l.initial.rest l.out l.initial.out
 
 abbrev pub decreases-loop-rest : goal.decreases-loop-rest
-decreases-loop-rest l = length l.rest
+decreases-loop-rest g l = length l.rest

@@ -1,15 +1,15 @@
 use Rattle.std.proofs.Common.{[], ◌∷◌, refl, codes}
 use Rattle.wc_tokens.specs.Standard.Lexemes.{is_idchar}
 use Rattle.wc_print.specs.Printed.{opening, closing, word, next, after}
-use Rattle.wc_print.proofs.Putting.{literal, literal-last, chain-last}
+use Rattle.wc_print.proofs.Going.{literal, chain}
 use Rattle.wc_print.proofs.Values.{is-true}
 use Rattle.wc_print.proofs.types.put_global_type.Goals as goal
 
 pub returns : goal.returns
 unfolding is_idchar
-returns c =
+returns g c =
     rw (is-true c.args.ty.mutable c.if-not-ty.false)
-    (chain-last _ _ _
-    (literal (after opening ∷ next (word (codes "mut")) ∷ []) (tt, (refl, tt)) c.in_ok-extend_from_slice.ensures.items)
-    (chain-last _ _ _ c.in_ok-put_value_type.ensures
-    (literal-last (next closing ∷ []) _ _ _ (tt, tt) c.extend_from_slice-2.ensures.items)))
+    (chain
+    (literal (after opening ∷ next (word (codes "mut")) ∷ []) (tt, (refl, tt)) c.put.ensures)
+    (chain c.put_value_type-2.ensures
+    (literal (next closing ∷ []) (tt, tt) c.put-2.ensures)))

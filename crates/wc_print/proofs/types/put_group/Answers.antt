@@ -2,8 +2,8 @@ use Rattle.wc_print.proofs.Values.{count-less, count-none}
 use Rattle.wc_print.proofs.types.put_group.Goals as goal
 
 pub loop-left-preserved : goal.loop-left-preserved
-loop-left-preserved c =
-    count-less _ _ c.loop-left-test.true c.in_ok-put_value_type.ensures c.loop-left.invariant
+loop-left-preserved g c =
+    count-less _ _ c.loop-left-test.true c.put_value_type.ensures c.loop-left.invariant
 
 pub returns : goal.returns
-returns c = count-none _ _ c.loop-left-test.false c.loop-left.invariant
+returns g c = count-none _ _ c.loop-left-test.false c.loop-left.invariant

@@ -1,10 +1,10 @@
 use Rattle.std.proofs.Common.{[], ◌∷◌, ◌∙◌}
 use Rattle.wc_print.specs.Lines.{type_item}
-use Rattle.wc_print.proofs.Putting.{text-last}
+use Rattle.wc_print.proofs.Going.{text}
 use Rattle.wc_print.proofs.Naming.{type-spelled}
 use Rattle.wc_print.proofs.types.put_value_type.Goals as goal
 
 pub returns : goal.returns
-returns c =
-    text-last (type_item c.args.value_type ∷ []) _ _ _ _ (type-spelled c.args.value_type, tt)
-    (c.as_bytes.ensures.value ∙ c.value_text.ensures) c.extend_from_slice.ensures.items
+returns g c =
+    text (type_item c.args.value_type ∷ []) (type-spelled c.args.value_type, tt)
+    (c.as_bytes.ensures.value ∙ c.value_text.ensures) c.put.ensures

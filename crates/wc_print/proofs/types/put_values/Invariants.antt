@@ -1,8 +1,8 @@
 use Rattle.std.proofs.Common.{drop}
 use Rattle.std.specs.Prelude.{map}
 use Rattle.wc_print.specs.Lines.{type_item}
-use Rattle.wc_print.specs.Printable.{Leaves}
+use Rattle.wc_print.specs.Going.{Leaves}
 use Rattle.wc_print.proofs.types.put_values.Given as goal
 
 abbrev pub invariant-loop-value_type : goal.invariant-loop-value_type
-invariant-loop-value_type l = Leaves (map type_item (drop l.value_type-index l.value_types)) (map type_item l.value_types) l.out.items l.initial.out.items
+invariant-loop-value_type g l = Leaves g.S.Sink.Has (map type_item (drop l.value_type-index l.value_types)) (map type_item l.value_types) l.out l.initial.out

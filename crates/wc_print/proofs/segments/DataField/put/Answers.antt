@@ -1,15 +1,15 @@
 use Rattle.std.proofs.Common.{[], ◌∷◌, refl, codes}
 use Rattle.wc_tokens.specs.Standard.Lexemes.{is_idchar}
 use Rattle.wc_print.specs.Printed.{opening, closing, word, next, below}
-use Rattle.wc_print.proofs.Putting.{literal, literal-last, chain-last}
+use Rattle.wc_print.proofs.Going.{literal, chain}
 use Rattle.wc_print.proofs.segments.DataField.put.Goals as goal
 
 pub returns : goal.returns
 unfolding is_idchar
-returns c =
-    chain-last _ _ _
-    (literal (below 2 opening ∷ next (word (codes "data")) ∷ []) (tt, (refl, tt)) c.in_ok-extend_from_slice.ensures.items)
-    (chain-last _ _ _ c.in_ok-put_number.ensures
-    (chain-last _ _ _ c.in_ok-put_place.ensures
-    (chain-last _ _ _ (rw c.as_slice.ensures at c.in_ok-put_string.ensures)
-    (literal-last (next closing ∷ []) _ _ _ (tt, tt) c.extend_from_slice-2.ensures.items))))
+returns g c =
+    chain
+    (literal (below 2 opening ∷ next (word (codes "data")) ∷ []) (tt, (refl, tt)) c.put.ensures)
+    (chain c.put_number.ensures
+    (chain c.put_place.ensures
+    (chain (rw c.as_slice.ensures at c.put_string.ensures)
+    (literal (next closing ∷ []) (tt, tt) c.put-2.ensures))))
