@@ -60,7 +60,8 @@ fn send_text<W: Write>(w: &mut Device<W>, module: &Module) -> Result<u64, RunFau
 
 /// Reads an input, writes the answer to it and nothing else, flushes once, and answers how many bytes it wrote.
 ///
-/// Nothing is written before the whole answer stands. Where a binary is refused before its end, the rest isn't read: at
+/// Nothing is written before the whole answer stands; a text stands with its module, and goes out in pieces as it is
+/// printed, which wants no memory. Where a binary is refused before its end, the rest isn't read: at
 /// most 4,096 bytes are read past the byte where the fault shows. A text is read to its end, and then judged.
 ///
 /// # Errors
