@@ -1,5 +1,5 @@
 -- What a clause reads of a `Device`.
-use Rattle.std.specs.Prelude.{◌≡◌, ℕ, ◌<◌, List, length, Bool, ◌||◌, true, Result, Ok, Err, Option, Some, None, is_some}
+use Rattle.std.specs.Prelude.{ℕ, Bool, Option, Some, None, is_some}
 use Rattle.wc_device.specs.declared.io_device.Device.{Device}
 
 -- the reader or writer in it
