@@ -1,13 +1,9 @@
 -- From what decoding, checking and encoding answer to what is answered to an input.
-use Rattle.std.proofs.Common.{◌≡◌, ℕ, List, [], Bool, true, false, Option, Some, None, Result, Ok, Err}
-use Rattle.std.proofs.Common.{IfOk, IfSome, IsErrAnd, OnOk}
-use Rattle.std.proofs.Common.{MatchResult, IfErr, length, subst, sym, refl, ap, ◌∙◌, ◌⊎◌, inl, inr}
+use Rattle.std.proofs.Common.{◌≡◌, ℕ, List, [], true, false, Result, Ok, Err}
+use Rattle.std.proofs.Common.{IfOk, IsErrAnd, OnOk}
+use Rattle.std.proofs.Common.{MatchResult, IfErr, subst, sym, refl, ap, ◌⊎◌, inl, inr}
 use Rattle.wc_ast.specs.declared.module.Module.{Module}
-use Rattle.wc_binary.specs.declared.fault.EncFault.{EncFault}
-use Rattle.wc_binary.specs.declared.fault.EncFault.TheVariants.{Oversize as TooLarge, Memory as NoMemoryToEncode}
 use Rattle.wc_binary.specs.Standard.Module.{Bin, Canon, IsShortestOf, IsOrLonger}
-use Rattle.wc_binary.specs.Standard.Encoding.{EncodesModule}
-use Rattle.wc_binary.proofs.phrases.Freed.{canon-bin}
 use Rattle.wc_binary.proofs.spelling.Modules.{bin-canon}
 use Rattle.wc_check.specs.declared.fault.CheckFault.{CheckFault}
 use Rattle.wc_check.specs.declared.fault.CheckFault.TheVariants.{Broken, Memory as NoMemoryToCheck}
@@ -19,8 +15,8 @@ use Rattle.wc_source.specs.declared.fault.TextFault.{TextFault}
 use Rattle.wc_source.specs.Faults.{IsFault}
 use Rattle.wc_canon.specs.declared.fault.Refusal.{Refusal}
 use Rattle.wc_canon.specs.declared.fault.Refusal.TheVariants.{Binary, Lex, Syntax, Names, Check, Oversize, Memory as NoMemory}
-use Rattle.wc_canon.specs.Inner.Faults.{reading_refusal, checking_refusal, encoding_refusal}
-use Rattle.wc_canon.specs.Input.{is_binary, Denotes, KeepsRules, BreaksFirst, IsAccepted, Means, HasAnswer, HasFault, IsRefused}
+use Rattle.wc_canon.specs.Inner.Faults.{reading_refusal, checking_refusal}
+use Rattle.wc_canon.specs.Input.{is_binary, Denotes, KeepsRules, BreaksFirst, Means, HasAnswer, HasFault, IsRefused}
 use Rattle.wc_canon.specs.Printing.{HasText}
 use Rattle.wc_canon.specs.Inner.Steps.{IsModuleFault, IsSized}
 use Rattle.wc_canon.proofs.Laws.{denotes-binary, denoted-means, has-answer, has-text-fault, has-broken-rule}

@@ -14,7 +14,6 @@ use Rattle.wc_binary.proofs.sections.OneModule.{rises-one, rises-or-stop, one-fa
 use Rattle.wc_binary.proofs.sections.Total.{bin-judged}
 use Rattle.wc_binary.proofs.phrases.Freed.{canon-bin}
 use Rattle.wc_binary.proofs.spelling.Modules.{one-canonical, bin-canon, canon-only}
-use Rattle.wc_binary.proofs.spelling.ModuleBytes.{module_bytes}
 use Rattle.wc_source.specs.declared.fault.TextFault.{TextFault}
 use Rattle.wc_source.specs.declared.fault.TextFault.TheVariants as text
 use Rattle.wc_source.specs.Texts.{Txt}

@@ -31,7 +31,7 @@ use Rattle.wc_binary.specs.Standard.Values.{IsByte}
 use Rattle.wc_binary.specs.Writing.Values.{Anything, FitsSized, FitsFuncType, FitsMaximum, FitsLimits, FitsName, FitsDesc}
 use Rattle.wc_binary.specs.Writing.Values.{FitsImport, FitsExport, FitsSection, FitsStart, func_type_bytes, import_bytes}
 use Rattle.wc_binary.specs.Writing.Values.{table_type_bytes, limits_bytes, export_bytes}
-use Rattle.wc_binary.specs.Writing.Contents.{FitsGlobal, FitsElem, FitsData, FitsFunc, FitsCode, global_bytes}
+use Rattle.wc_binary.specs.Writing.Contents.{FitsGlobal, FitsElem, FitsData, FitsCode, global_bytes}
 use Rattle.wc_binary.specs.Writing.Contents.{elem_bytes, data_bytes, func_bytes, code_bytes}
 use Rattle.wc_binary.specs.Writing.Sections.{FitsHeld, FitsFrom}
 use Rattle.wc_binary.proofs.spelling.ModuleBytes.{module_bytes, FitsModule}

@@ -1,13 +1,13 @@
 -- From what the bytes of a reader denote to what is answered to them.
 use Rattle.std.proofs.Common.{◌≡◌, ◌∙◌, ℕ, zero, suc, ◌<◌, List, [], ◌∷◌, ◌++◌, length, Bool, true, false, Option, Some, None}
-use Rattle.std.proofs.Common.{Result, Ok, Err, IfOk, IfErr, IfSome, IsErrAnd, inl, inr, refl, sym, ap, subst, arith}
+use Rattle.std.proofs.Common.{Result, Ok, Err, IfErr, IfSome, IsErrAnd, inl, inr, refl, sym, ap, subst, arith}
 use Rattle.std.proofs.lemmas.List.{append-nil}
-use Rattle.std.specs.Io.KnownBytes.{Consumes, Keeps, IsAtEnd}
+use Rattle.std.specs.Io.KnownBytes.{Consumes, IsAtEnd}
 use Rattle.wc_ast.specs.declared.module.Module.{Module}
 use Rattle.wc_binary.specs.declared.fault.BinFault.{BinFault}
 use Rattle.wc_binary.specs.declared.fault.BinFault.TheVariants.{Bad, Read as Unread, Memory as NoMemoryToDecode}
 use Rattle.wc_binary.specs.Standard.Module.{Bin, Canon}
-use Rattle.wc_binary.specs.Standard.Decoding.{Decodes, DecodesNear, DecodesCut}
+use Rattle.wc_binary.specs.Standard.Decoding.{Decodes, DecodesNear}
 use Rattle.wc_print.specs.Layout.{layout}
 use Rattle.wc_print.specs.Printed.{text as text_of}
 use Rattle.wc_source.specs.declared.fault.TextFault.{TextFault}
@@ -21,7 +21,7 @@ use Rattle.wc_canon.specs.declared.fault.RunFault.TheVariants.{Refused, Read, Wr
 use Rattle.wc_canon.specs.declared.running.Job.TheVariants as job
 use Rattle.wc_canon.specs.declared.from_reader.Found.{Found}
 use Rattle.wc_canon.specs.Input.{is_binary, Denotes, KeepsRules, IsAccepted}
-use Rattle.wc_canon.specs.Run.{IsAnswerOf, IsOutputOf, Judges, RefusesNear, ReadsCut}
+use Rattle.wc_canon.specs.Run.{IsAnswerOf, IsOutputOf, Judges, RefusesNear}
 use Rattle.wc_canon.specs.Inner.Faults.{reading_refusal, decoding_fault, refusing_fault}
 use Rattle.wc_canon.specs.Inner.Steps.{IsModuleFault, IsSized, JudgesModule, ReadsNear}
 use Rattle.wc_canon.proofs.Laws.{binary-denotes, text-denotes, canon-denotes, denoted-means, has-answer, has-binary-fault}
@@ -37,7 +37,8 @@ judges-same P Q a (Read at) p = tt
 judges-same P Q a (Write written) p = tt
 judges-same P Q a Memory p = tt
 
-judges-error : {V W : Type 0} (P : V → Type 0) (Q : W → Type 0) (a : Option (List ℕ)) (f : RunFault)
+-- what was told in place of an answer
+pub judges-error : {V W : Type 0} (P : V → Type 0) (Q : W → Type 0) (a : Option (List ℕ)) (f : RunFault)
     (r : Result W RunFault) → Judges a P (Err f) → IsErrAnd r (λ g. g ≡ f) → Judges a Q r
 judges-error P Q a f (Ok v) p h = absurd h
 judges-error P Q a f (Err g) p h =
@@ -108,12 +109,12 @@ near-refused None count m w f (Err g) q e h = tt
 near-refused (Some x) count m w f (Err g) q e h =
     subst (λ g. RefusesNear count g x) (sym h) (near-refusing count x m f q e)
 
--- want of memory is told wherever a reader stands
-pub near-memory : {V : Type 0} (a : Option (List ℕ)) (count : ℕ) (r : Result V RunFault)
-    → IsErrAnd r (λ g. g ≡ refusing_fault NoMemory) → IfErr r (λ g. IfSome a (RefusesNear count g))
-near-memory a count (Ok v) h = absurd h
+-- where memory is told
+pub near-memory : {V : Type 0} (a : Option (List ℕ)) (count : ℕ) (r : Result V RunFault) → IsErrAnd r (λ g. g ≡ Memory)
+    → IfErr r (λ g. IfSome a (RefusesNear count g))
+near-memory a count (Ok v) h = tt
 near-memory None count (Err g) h = tt
-near-memory (Some x) count (Err g) h = subst (λ g. RefusesNear count g x) (sym h) tt
+near-memory (Some x) count (Err g) h = let Q : RunFault → Type 0 = λ e. RefusesNear count e x in subst Q (sym h) tt
 
 -- ---- a text
 

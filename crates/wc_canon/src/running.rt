@@ -42,17 +42,17 @@ fn send<W: Write>(w: &mut Device<W>, bytes: &[u8]) -> Result<u64, RunFault>
 }
 
 /// Writes the text of a module, and flushes once. It takes no memory, so that nothing but the writer can fail.
-fn send_text<W: Write>(w: &mut Device<W>, module: &Module) -> Result<u64, RunFault>
+fn send_text<W: Write>(w: &mut Device<W>, module: Module) -> Result<u64, RunFault>
     requires { has_failed w.old ≡ false }
-    ensures ok { IfOk result (λ n. n ≡ length (text (layout «module».now))) }
+    ensures ok { IfOk result (λ n. n ≡ length (text (layout «module»))) }
     ensures appends { OnOk result (Appends (W.contents (device_inner w.old)) (W.contents (device_inner w.new))
-        (text (layout «module».now))) }
-    ensures wrote { IfErr result (λ e. (n : ℕ) × (e ≡ RunFault.Write n) × (n ≤ length (text (layout «module».now)))
+        (text (layout «module»))) }
+    ensures wrote { IfErr result (λ e. (n : ℕ) × (e ≡ RunFault.Write n) × (n ≤ length (text (layout «module»)))
         × Appends (W.contents (device_inner w.old)) (W.contents (device_inner w.new))
-        (take n (text (layout «module».now)))) }
+        (take n (text (layout «module»)))) }
     ensures write { is_write_fault result ≡ has_failed w.new }
 {
-    match print_to(w, module) {
+    match print_to(w, &module) {
         Ok(n) => Ok(n),
         Err(n) => Err(RunFault::Write { written: n }),
     }
@@ -101,6 +101,6 @@ pub fn run<R: Read, W: Write>(
 {
     match job {
         Job::Binary => send(w, &normalise_from(alloc, r)?),
-        Job::Text => send_text(w, &accepted_from(alloc, r)?),
+        Job::Text => send_text(w, accepted_from(alloc, r)?),
     }
 }
