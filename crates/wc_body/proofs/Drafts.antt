@@ -4,5 +4,6 @@ pub mod BuildingLemmas
 pub mod NeedsLemmas
 pub mod BuilderLemmas
 pub mod FrontLemmas
+pub mod LightLemmas
 pub mod FrontRun
 pub mod Finished

@@ -7,4 +7,5 @@ pub mod PackedBody
 pub mod Places
 pub mod BodyRow
 pub mod AtFront
+pub mod LightRows
 pub mod FrontEntries

@@ -9,6 +9,7 @@ ghost use Rattle.wc_body.specs.Drafting.AtFront.{AreLast, IsSplit, IsBare, IsWho
 use crate::body::NESTING_LIMIT;
 use crate::builder::{Part, first_part_of};
 use crate::entry::Kind;
+use crate::light::light_front;
 use crate::needs::Needs;
 use wc_ops::{IndexOp, MemOp, Op, OpByte, SimpleOp};
 
@@ -174,11 +175,7 @@ fn meant_front<'a>(byte: u8, bytes: &'a [u8], needs: &mut Needs) -> Option<&'a [
 
 /// Notes the entry that these bytes begin with, where it is a usual one. What follows it is answered.
 #[inline(always)]
-pub(crate) fn entry_front<'a>(
-    bytes: &'a [u8],
-    needs: &mut Needs,
-    parts: &mut Vec<Part>,
-) -> Option<&'a [u8]>
+fn usual_front<'a>(bytes: &'a [u8], needs: &mut Needs, parts: &mut Vec<Part>) -> Option<&'a [u8]>
     ensures some { IfSome result (λ rest.
         Notes bytes.now rest.now needs.old needs.new parts.old.items parts.new.items) }
     ensures none { IsNone result → (needs.new ≡ needs.old) × (parts.new.items ≡ parts.old.items) }
@@ -204,5 +201,22 @@ pub(crate) fn entry_front<'a>(
         0x41 => behind_signed(rest),
         0x42 => behind_signed(rest),
         _ => meant_front(*byte, rest, needs),
+    }
+}
+
+/// The same. Most entries are light, so they are taken with no look at their kind.
+#[inline(always)]
+pub(crate) fn entry_front<'a>(
+    bytes: &'a [u8],
+    needs: &mut Needs,
+    parts: &mut Vec<Part>,
+) -> Option<&'a [u8]>
+    ensures some { IfSome result (λ rest.
+        Notes bytes.now rest.now needs.old needs.new parts.old.items parts.new.items) }
+    ensures none { IsNone result → (needs.new ≡ needs.old) × (parts.new.items ≡ parts.old.items) }
+{
+    match light_front(bytes, parts.len(), needs) {
+        Some(rest) => Some(rest),
+        None => usual_front(bytes, needs, parts),
     }
 }

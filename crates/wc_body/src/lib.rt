@@ -14,6 +14,7 @@ pub mod entry;
 mod front;
 pub mod instr;
 pub mod labels;
+mod light;
 pub mod needs;
 mod place;
 pub mod short;

@@ -55,6 +55,10 @@ abbrev pub NotesPlain : ℕ → List ℕ → List ℕ → Needs → Needs → Ty
 NotesPlain b x rest s t =
     (i : Instr) × (b ∷ x ≡ instr_bytes i ++ rest) × FitsInstr i × ((k : ℕ) → t ≡ with_instr s k i)
 
+-- the bytes begin with an instruction, and it was noted what it needs, where so many blocks enclose it
+abbrev pub NotesInstr : ℕ → List ℕ → List ℕ → Needs → Needs → Type 0
+NotesInstr k x rest s t = (i : Instr) × (x ≡ instr_bytes i ++ rest) × FitsInstr i × (t ≡ with_instr s k i)
+
 -- the byte is a block type on its own, which needs nothing
 abbrev pub IsWholeType : ℕ → Type 0
 IsWholeType b =

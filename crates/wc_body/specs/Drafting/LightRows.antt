@@ -1,0 +1,58 @@
+-- Light entries, those whose integers have one byte each (Core 1.0, 5.4): what they are like by their opcode, and what
+-- is noted of one.
+use Rattle.std.specs.Prelude.{ℕ, ◌+◌, max, min, ◌&&◌, ◌||◌, nat_lt}
+use Rattle.wc_ops.specs.declared.op.Op.{Op}
+use Rattle.wc_ops.specs.declared.op.Op.TheVariants as ops
+use Rattle.wc_ops.specs.declared.op.OpByte.{OpByte}
+use Rattle.wc_ops.specs.declared.op.OpByte.TheVariants.{Known}
+use Rattle.wc_ops.specs.declared.op.SimpleOp.{SimpleOp}
+use Rattle.wc_ops.specs.declared.op.SimpleOp.TheVariants.{MemorySize, MemoryGrow}
+use Rattle.wc_ops.specs.declared.op.IndexOp.{IndexOp}
+use Rattle.wc_ops.specs.declared.op.IndexOp.TheVariants.{Br, BrIf, LocalGet, LocalSet, LocalTee}
+use Rattle.wc_ops.specs.Standard.Opcodes.{memory}
+use Rattle.wc_ops.specs.Reading.OpcodeMeaning.{meaning}
+use Rattle.wc_body.specs.declared.light.Light.{Light}
+use Rattle.wc_body.specs.declared.light.TheConstants.{OTHER, BARE, CONSTANT, LOCAL, LABEL, ACCESS_8}
+use Rattle.wc_body.specs.declared.needs.Needs.{Needs}
+
+-- no immediate, or the byte that the standard keeps for later
+abbrev pub simple_light : SimpleOp → Light
+simple_light MemorySize = OTHER
+simple_light MemoryGrow = OTHER
+simple_light _ = BARE
+
+-- an index: a label, a local, or another
+abbrev pub index_light : IndexOp → Light
+index_light Br = LABEL
+index_light BrIf = LABEL
+index_light LocalGet = LOCAL
+index_light LocalSet = LOCAL
+index_light LocalTee = LOCAL
+index_light _ = OTHER
+
+-- what the light entries of an instruction are like
+abbrev pub op_light : Op → Light
+op_light (ops.Simple op) = simple_light op
+op_light (ops.Index op) = index_light op
+op_light (ops.Mem op) = record ACCESS_8 { aligned = (memory op).alignment }
+op_light ops.I32Const = CONSTANT
+op_light ops.I64Const = CONSTANT
+op_light _ = OTHER
+
+-- the same by what the opcode means
+abbrev pub meant_light : OpByte → Light
+meant_light (Known op) = op_light op
+meant_light _ = OTHER
+
+-- what the light entries of this opcode are like
+unfoldable pub light_at : ℕ → Light
+light_at b = meant_light (meaning b)
+
+-- what one needs more, behind whose opcode this byte stands, and which so many blocks enclose
+abbrev pub with_light : Needs → Light → ℕ → ℕ → Needs
+with_light s r enclosing b = record s {
+  locals = max s.locals (min (b + 1) r.locals);
+  memory = s.memory || r.memory;
+  outer_label = s.outer_label || (r.label && nat_lt enclosing b);
+  over_aligned = s.over_aligned || nat_lt r.aligned b;
+}
