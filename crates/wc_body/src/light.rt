@@ -1,4 +1,5 @@
-//! Light entries: those whose integers have one byte each. What is noted of one is looked up by its opcode.
+//! Light entries: those whose integers have one byte each, and that need no label beyond the enclosing blocks and no
+//! alignment above the width of the access. What is noted of one is looked up by its opcode.
 
 ghost use Rattle.std.specs.Prelude.{◌≡◌, IfSome, IsNone};
 ghost use Rattle.wc_body.specs.Drafting.AtFront.{NotesInstr};
@@ -7,39 +8,40 @@ ghost use Rattle.wc_body.specs.Drafting.LightRows.{light_at, with_light};
 use crate::needs::Needs;
 
 /// What an opcode's light entries are like.
-#[derive(Clone, Copy)]
 struct Light {
-    // How many bytes one has; none where the opcode has none that are light.
+    // The most locals that the byte behind the opcode asks for.
+    locals: u16,
+    // How many bytes one has.
     length: u8,
-    // The highest byte that may stand behind the opcode, and the highest behind that one.
+    // What the byte behind the opcode is below, and the byte behind that: 255 where neither is of the entry, since few
+    // entries have that byte behind them.
     second: u8,
     third: u8,
-    // The most locals that the byte behind the opcode may ask for.
-    locals: u8,
-    // The highest byte behind the opcode that is no alignment above the width of the access.
-    aligned: u8,
-    // Whether the byte behind the opcode is a label.
-    label: bool,
+    // All bits where the byte behind the opcode is a label, and none elsewhere.
+    label: u8,
     // Whether a memory is needed.
     memory: bool,
 }
 
-// No entry is light.
+// None are light.
 const OTHER: Light = Light {
-    length: 0,
-    second: 255,
-    third: 255,
     locals: 0,
-    aligned: 255,
-    label: false,
+    length: 0,
+    second: 0,
+    third: 255,
+    label: 0,
     memory: false,
 };
 
-const BARE: Light = Light { length: 1, ..OTHER };
+const BARE: Light = Light {
+    length: 1,
+    second: 255,
+    ..OTHER
+};
 
 const CONSTANT: Light = Light {
     length: 2,
-    second: 127,
+    second: 128,
     ..OTHER
 };
 
@@ -49,31 +51,31 @@ const LOCAL: Light = Light {
 };
 
 const LABEL: Light = Light {
-    label: true,
+    label: 255,
     ..CONSTANT
 };
 
-// An access of so many bits.
+// An access of so many bits, whose alignment is no wider.
 const ACCESS_8: Light = Light {
     length: 3,
-    third: 127,
-    aligned: 0,
+    second: 1,
+    third: 128,
     memory: true,
-    ..CONSTANT
+    ..OTHER
 };
 
 const ACCESS_16: Light = Light {
-    aligned: 1,
+    second: 2,
     ..ACCESS_8
 };
 
 const ACCESS_32: Light = Light {
-    aligned: 2,
+    second: 3,
     ..ACCESS_8
 };
 
 const ACCESS_64: Light = Light {
-    aligned: 3,
+    second: 4,
     ..ACCESS_8
 };
 
@@ -115,22 +117,20 @@ static ROWS: [Light; 256] = [
 
 /// What the light entries of this opcode are like.
 #[inline(always)]
-fn light_of(opcode: u8) -> Light
-    ensures { result ≡ light_at opcode }
+fn light_of(opcode: u8) -> &'static Light
+    ensures { result.now ≡ light_at opcode }
 {
-    ROWS[opcode as usize]
+    &ROWS[opcode as usize]
 }
 
-/// Notes what a light entry needs, behind whose opcode this byte stands, and which so many blocks enclose.
+/// Notes what a light entry needs, behind whose opcode this byte stands.
 #[inline(always)]
-fn note_light(needs: &mut Needs, light: Light, enclosing: usize, second: u8)
-    ensures { needs.new ≡ with_light needs.old light enclosing second }
+fn note_light(needs: &mut Needs, light: &Light, second: u8)
+    ensures { needs.new ≡ with_light needs.old light.now second }
 {
     let locals = (u32::from(second) + 1).min(u32::from(light.locals));
     needs.locals = needs.locals.max(locals);
-    needs.memory |= light.memory;
-    needs.outer_label |= light.label & (enclosing < usize::from(second));
-    needs.over_aligned |= light.aligned < second;
+    needs.memory = needs.memory || light.memory;
 }
 
 /// Notes the light entry that these bytes begin with, which so many blocks enclose. What follows it is answered.
@@ -147,9 +147,14 @@ pub(crate) fn light_front<'a>(
         return None;
     }
     let light = light_of(bytes[0]);
-    if light.length == 0 || bytes[1] > light.second || bytes[2] > light.third {
+    let second = bytes[1];
+    if second >= light.second || bytes[2] >= light.third {
         return None;
     }
-    note_light(needs, light, enclosing, bytes[1]);
+    // A label beyond the enclosing blocks is noted elsewhere. This branch goes the same way at each kind of entry.
+    if enclosing < usize::from(second & light.label) {
+        return None;
+    }
+    note_light(needs, light, second);
     Some(&bytes[usize::from(light.length)..])
 }

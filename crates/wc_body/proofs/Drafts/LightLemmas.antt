@@ -1,9 +1,9 @@
 -- Light entries: the table of them, and what is noted of one.
 use Rattle.std.proofs.Common.{◌≡◌, ℕ, zero, suc, ◌+◌, ◌<◌, ◌≤◌, true, false, ◌||◌, nat_lt, max, min, List, [], ◌∷◌}
-use Rattle.std.proofs.Common.{◌++◌, length, get_or, drop, refl, ap, ◌∙◌, arith, add-zero, zero-add}
+use Rattle.std.proofs.Common.{◌++◌, length, get_or, drop, bit_and, refl, sym, ap, ◌∙◌, arith, add-zero, zero-add}
 use Rattle.std.proofs.Math.Bool.{or-false, or-true}
-use Rattle.std.proofs.Math.Nat.{pos_of_ne-zero}
 use Rattle.std.proofs.lemmas.Bool.Decides.{nat_tests}
+use Rattle.std.proofs.lemmas.Nat.{and_mask}
 use Rattle.wc_leb128.proofs.Writing.UnsignedShortest.{unsigned_bytes-low}
 use Rattle.wc_ops.specs.declared.op.Op.{Op}
 use Rattle.wc_ops.specs.declared.op.Op.TheVariants as ops
@@ -14,8 +14,9 @@ use Rattle.wc_ops.specs.declared.op.SimpleOp.TheVariants.{Nop, MemorySize, Memor
 use Rattle.wc_ops.specs.declared.op.IndexOp.{IndexOp}
 use Rattle.wc_ops.specs.declared.op.IndexOp.TheVariants.{Br, BrIf, Call, LocalGet, LocalSet, LocalTee, GlobalGet, GlobalSet}
 use Rattle.wc_ops.specs.declared.op.MemOp.{MemOp}
+use Rattle.wc_ops.specs.declared.op.MemOp.TheVariants.{I32Load}
 use Rattle.wc_ops.specs.Standard.ByteMeaning.{IsOpByte}
-use Rattle.wc_ops.specs.Standard.Opcodes.{row}
+use Rattle.wc_ops.specs.Standard.Opcodes.{row, memory}
 use Rattle.wc_ops.specs.Reading.OpcodeMeaning.{meaning}
 use Rattle.wc_ops.proofs.Meanings.OfBytes.{meaning-is}
 use Rattle.wc_body.specs.declared.instr.Instr.TheVariants.{Simple, Index, Mem, I32Const, I64Const}
@@ -57,60 +58,65 @@ module _ (k b c : ℕ) (y : List ℕ) (s : Needs) where
   abbrev IsNoted : Op → Type 0
   IsNoted op =
       let x : List ℕ = (row op).byte ∷ b ∷ c ∷ y in
-      NotesInstr k x (drop (op_light op).length x) s (with_light s (op_light op) k b)
+      NotesInstr k x (drop (op_light op).length x) s (with_light s (op_light op) b)
 
   -- these bytes may stand behind the opcode in a light entry
   abbrev IsLight : Op → Type 0
-  IsLight op = (0 < (op_light op).length) × (b ≤ (op_light op).second) × (c ≤ (op_light op).third)
+  IsLight op =
+      (b < (op_light op).second) × (c < (op_light op).third) × (bit_and b (op_light op).label ≤ k)
 
   -- nothing that isn't needed is noted
-  none-noted : (r : Light) → r.locals ≡ 0 → r.memory ≡ false → r.label ≡ false → b ≤ r.aligned → with_light s r k b ≡ s
-  none-noted r locals memory label aligned =
-      let over : nat_lt r.aligned b ≡ false = grind (arith, nat_tests, aligned) in
+  none-noted : (r : Light) → r.locals ≡ 0 → r.memory ≡ false → with_light s r b ≡ s
+  none-noted r locals memory =
       let same : max s.locals (min (b + 1) 0) ≡ s.locals = omega arith in
-      rw (locals, memory, label, over, same, or-false s.memory, or-false s.outer_label, or-false s.over_aligned) refl
+      rw (locals, memory, same, or-false s.memory) refl
 
   simple-noted : (op : SimpleOp) → IsLight (ops.Simple op) → IsNoted (ops.Simple op)
   simple-noted MemorySize h = absurd (omega (arith, h.0))
   simple-noted MemoryGrow h = absurd (omega (arith, h.0))
-  simple-noted Nop h = (Simple Nop, refl, tt, none-noted BARE refl refl refl (omega (arith, h.1)))
-  simple-noted op h = (Simple op, refl, tt, none-noted BARE refl refl refl (omega (arith, h.1)))
+  simple-noted Nop h = (Simple Nop, refl, tt, none-noted BARE refl refl)
+  simple-noted op h = (Simple op, refl, tt, none-noted BARE refl refl)
 
-  -- a label, where there is no other need
-  label-noted : b ≤ 127 → with_light s LABEL k b ≡ record s { outer_label = s.outer_label || nat_lt k b }
-  label-noted le =
-      let over : nat_lt 255 b ≡ false = grind (arith, nat_tests, le) in
-      let same : max s.locals (min (b + 1) 0) ≡ s.locals = omega arith in
-      rw (over, same, or-false s.memory, or-false s.over_aligned) refl
+  -- a label of an enclosing block
+  label-noted : b < 128 → bit_and b 255 ≤ k → with_light s LABEL b ≡ record s { outer_label = s.outer_label || nat_lt k b }
+  label-noted lt le =
+      let within : nat_lt k b ≡ false = grind (arith, nat_tests, lt, le, and_mask b 8) in
+      none-noted LABEL refl refl ∙ sym (rw (within, or-false s.outer_label) refl)
 
   -- a local
-  local-noted : b ≤ 127 → with_light s LOCAL k b ≡ record s { locals = enough s.locals b }
-  local-noted le =
-      let over : nat_lt 255 b ≡ false = grind (arith, nat_tests, le) in
-      let same : max s.locals (min (b + 1) 128) ≡ enough s.locals b = omega (arith, le) in
-      rw (over, same, or-false s.memory, or-false s.outer_label, or-false s.over_aligned) refl
+  local-noted : b < 128 → with_light s LOCAL b ≡ record s { locals = enough s.locals b }
+  local-noted lt =
+      let same : max s.locals (min (b + 1) 128) ≡ enough s.locals b = omega (arith, lt) in
+      rw (same, or-false s.memory) refl
 
-  index-bytes : (op : IndexOp) → b ≤ 127 → (row (ops.Index op)).byte ∷ b ∷ c ∷ y ≡ instr_bytes (Index op b) ++ (c ∷ y)
-  index-bytes op le = rw (unsigned_bytes-low b (omega (arith, le))) refl
+  index-bytes : (op : IndexOp) → b < 128 → (row (ops.Index op)).byte ∷ b ∷ c ∷ y ≡ instr_bytes (Index op b) ++ (c ∷ y)
+  index-bytes op lt = rw (unsigned_bytes-low b lt) refl
 
   index-noted : (op : IndexOp) → IsLight (ops.Index op) → IsNoted (ops.Index op)
-  index-noted Br h = (Index Br b, index-bytes Br h.1, omega (arith, h.1), label-noted h.1)
-  index-noted BrIf h = (Index BrIf b, index-bytes BrIf h.1, omega (arith, h.1), label-noted h.1)
-  index-noted LocalGet h = (Index LocalGet b, index-bytes LocalGet h.1, omega (arith, h.1), local-noted h.1)
-  index-noted LocalSet h = (Index LocalSet b, index-bytes LocalSet h.1, omega (arith, h.1), local-noted h.1)
-  index-noted LocalTee h = (Index LocalTee b, index-bytes LocalTee h.1, omega (arith, h.1), local-noted h.1)
+  index-noted Br h = (Index Br b, index-bytes Br h.0, omega (arith, h.0), label-noted h.0 h.2)
+  index-noted BrIf h = (Index BrIf b, index-bytes BrIf h.0, omega (arith, h.0), label-noted h.0 h.2)
+  index-noted LocalGet h = (Index LocalGet b, index-bytes LocalGet h.0, omega (arith, h.0), local-noted h.0)
+  index-noted LocalSet h = (Index LocalSet b, index-bytes LocalSet h.0, omega (arith, h.0), local-noted h.0)
+  index-noted LocalTee h = (Index LocalTee b, index-bytes LocalTee h.0, omega (arith, h.0), local-noted h.0)
   index-noted Call h = absurd (omega (arith, h.0))
   index-noted GlobalGet h = absurd (omega (arith, h.0))
   index-noted GlobalSet h = absurd (omega (arith, h.0))
 
+  -- no access is of more than 64 bits
+  width : (op : MemOp) → (memory op).alignment ≤ 3
+  width I32Load = omega arith
+  width _ = omega arith
+
   access-noted : (op : MemOp) → IsLight (ops.Mem op) → IsNoted (ops.Mem op)
   access-noted op h =
+      let low : b < 128 = omega (arith, h.0, width op) in
       let same : max s.locals (min (b + 1) 0) ≡ s.locals = omega arith in
-      let yes : (s.memory || true) ≡ true = or-true s.memory in (
+      let yes : (s.memory || true) ≡ true = or-true s.memory in
+      let within : nat_lt (memory op).alignment b ≡ false = grind (arith, nat_tests, h.0) in (
         Mem op record { align = b; offset = c },
-        rw (unsigned_bytes-low b (omega (arith, h.1)), unsigned_bytes-low c (omega (arith, h.2))) refl,
-        (omega (arith, h.1), omega (arith, h.2)),
-        rw (same, yes, or-false s.outer_label) refl,
+        rw (unsigned_bytes-low b low, unsigned_bytes-low c h.1) refl,
+        (omega (arith, low), omega (arith, h.1)),
+        rw (same, yes, within, or-false s.over_aligned) refl,
       )
 
   op-noted : (op : Op) → IsLight op → IsNoted op
@@ -118,11 +124,11 @@ module _ (k b c : ℕ) (y : List ℕ) (s : Needs) where
   op-noted (ops.Index op) h = index-noted op h
   op-noted (ops.Mem op) h = access-noted op h
   op-noted ops.I32Const h =
-      let z = spelled-one b (omega (arith, h.1)) in
-      (I32Const z.0, ap (λ (w : List ℕ). 0x41 ∷ w ++ c ∷ y) z.1, z.2, none-noted CONSTANT refl refl refl (omega (arith, h.1)))
+      let z = spelled-one b h.0 in
+      (I32Const z.0, ap (λ (w : List ℕ). 0x41 ∷ w ++ c ∷ y) z.1, z.2, none-noted CONSTANT refl refl)
   op-noted ops.I64Const h =
-      let z = spelled-one b (omega (arith, h.1)) in
-      (I64Const z.0, ap (λ (w : List ℕ). 0x42 ∷ w ++ c ∷ y) z.1, z.3, none-noted CONSTANT refl refl refl (omega (arith, h.1)))
+      let z = spelled-one b h.0 in
+      (I64Const z.0, ap (λ (w : List ℕ). 0x42 ∷ w ++ c ∷ y) z.1, z.3, none-noted CONSTANT refl refl)
   op-noted ops.BrTable h = absurd (omega (arith, h.0))
   op-noted ops.CallIndirect h = absurd (omega (arith, h.0))
   op-noted ops.Block h = absurd (omega (arith, h.0))
@@ -131,13 +137,13 @@ module _ (k b c : ℕ) (y : List ℕ) (s : Needs) where
 
   -- by the meaning of the opcode
   meant-noted : (a : ℕ) (m : OpByte) → IsOpByte a m → (r : Light) → r ≡ meant_light m
-      → 0 < r.length → b ≤ r.second → c ≤ r.third
-      → NotesInstr k (a ∷ b ∷ c ∷ y) (drop r.length (a ∷ b ∷ c ∷ y)) s (with_light s r k b)
-  meant-noted a (Known op) is r e some second third =
+      → b < r.second → c < r.third → bit_and b r.label ≤ k
+      → NotesInstr k (a ∷ b ∷ c ∷ y) (drop r.length (a ∷ b ∷ c ∷ y)) s (with_light s r b)
+  meant-noted a (Known op) is r e second third within =
       let byte = (is.known op).0 refl in
-      rw (e, ← byte) (op-noted op (rw e at some, rw e at second, rw e at third))
-  meant-noted a Float is r e some second third = absurd (omega (arith, rw e at some))
-  meant-noted a Unknown is r e some second third = absurd (omega (arith, rw e at some))
+      rw (e, ← byte) (op-noted op (rw e at second, rw e at third, rw e at within))
+  meant-noted a Float is r e second third within = absurd (omega (arith, rw e at second))
+  meant-noted a Unknown is r e second third within = absurd (omega (arith, rw e at second))
 
 -- an entry has three bytes at most
 simple-length : (op : SimpleOp) → (op_light (ops.Simple op)).length ≤ 3
@@ -159,12 +165,11 @@ light-length b = meant-length (meaning b)
 
 -- whatever lies behind it follows
 pub light-noted : (x : List ℕ) (k : ℕ) (s t : Needs) (r : Light) → 3 ≤ length x → r ≡ light_at (get_or x 0 0)
-    → (r.length ≡ 0 → ⊥) → get_or x 1 0 ≤ r.second → get_or x 2 0 ≤ r.third → t ≡ with_light s r k (get_or x 1 0)
-    → NotesInstr k x (drop r.length x) s t
+    → get_or x 1 0 < r.second → get_or x 2 0 < r.third → bit_and (get_or x 1 0) r.label ≤ k
+    → t ≡ with_light s r (get_or x 1 0) → NotesInstr k x (drop r.length x) s t
 unfolding light_at
-light-noted [] k s t r le e some second third is = absurd (omega arith)
-light-noted (a ∷ []) k s t r le e some second third is = absurd (omega arith)
-light-noted (a ∷ b ∷ []) k s t r le e some second third is = absurd (omega arith)
-light-noted (a ∷ b ∷ c ∷ y) k s t r le e some second third is =
-    let positive : 0 < r.length = pos_of_ne-zero some in
-    rw is (meant-noted k b c y s a (meaning a) (meaning-is a) r e positive second third)
+light-noted [] k s t r le e second third within is = absurd (omega arith)
+light-noted (a ∷ []) k s t r le e second third within is = absurd (omega arith)
+light-noted (a ∷ b ∷ []) k s t r le e second third within is = absurd (omega arith)
+light-noted (a ∷ b ∷ c ∷ y) k s t r le e second third within is =
+    rw is (meant-noted k b c y s a (meaning a) (meaning-is a) r e second third within)

@@ -1,6 +1,6 @@
--- Light entries, those whose integers have one byte each (Core 1.0, 5.4): what they are like by their opcode, and what
--- is noted of one.
-use Rattle.std.specs.Prelude.{ℕ, ◌+◌, max, min, ◌&&◌, ◌||◌, nat_lt}
+-- Light entries, those whose integers have one byte each and that need no outer label and no wider alignment (Core 1.0,
+-- 5.4): what they are like by their opcode, and what is noted of one.
+use Rattle.std.specs.Prelude.{ℕ, ◌+◌, max, min, ◌||◌}
 use Rattle.wc_ops.specs.declared.op.Op.{Op}
 use Rattle.wc_ops.specs.declared.op.Op.TheVariants as ops
 use Rattle.wc_ops.specs.declared.op.OpByte.{OpByte}
@@ -34,7 +34,7 @@ index_light _ = OTHER
 abbrev pub op_light : Op → Light
 op_light (ops.Simple op) = simple_light op
 op_light (ops.Index op) = index_light op
-op_light (ops.Mem op) = record ACCESS_8 { aligned = (memory op).alignment }
+op_light (ops.Mem op) = record ACCESS_8 { second = (memory op).alignment + 1 }
 op_light ops.I32Const = CONSTANT
 op_light ops.I64Const = CONSTANT
 op_light _ = OTHER
@@ -48,11 +48,6 @@ meant_light _ = OTHER
 unfoldable pub light_at : ℕ → Light
 light_at b = meant_light (meaning b)
 
--- what one needs more, behind whose opcode this byte stands, and which so many blocks enclose
-abbrev pub with_light : Needs → Light → ℕ → ℕ → Needs
-with_light s r enclosing b = record s {
-  locals = max s.locals (min (b + 1) r.locals);
-  memory = s.memory || r.memory;
-  outer_label = s.outer_label || (r.label && nat_lt enclosing b);
-  over_aligned = s.over_aligned || nat_lt r.aligned b;
-}
+-- what one needs more, behind whose opcode this byte stands
+abbrev pub with_light : Needs → Light → ℕ → Needs
+with_light s r b = record s { locals = max s.locals (min (b + 1) r.locals); memory = s.memory || r.memory }
