@@ -1,4 +1,5 @@
 pub mod ClassLaws
+pub mod MaskLaws
 pub mod Utf8Laws
 pub mod LexLaws
 pub mod SpanLaws

@@ -10,6 +10,7 @@ use crate::bytes::behind;
 use crate::classes::{is_blank, is_idchar};
 use crate::elements::after_elements;
 use crate::fault::LexWhy;
+use crate::spaces::behind_spaces;
 use crate::token::TokenKind;
 
 /// What stands at the front of a text.
@@ -50,6 +51,10 @@ pub fn behind_blanks(text: &[u8]) -> Option<Front<'_>>
             });
         }
         at += 1;
+        // A line begins with many spaces, where it is indented.
+        if first == b'\n' {
+            at = behind_spaces(text, at);
+        }
     }
     None
 }

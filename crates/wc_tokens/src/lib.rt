@@ -11,6 +11,7 @@ mod laws;
 mod next;
 mod numbers;
 mod simple;
+mod spaces;
 mod stream;
 mod strings;
 mod token;
