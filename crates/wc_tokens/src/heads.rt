@@ -1,9 +1,7 @@
 //! What stands at the front of a text: a gap, a token, or a fault.
 
-ghost use Rattle.std.specs.Prelude.{◌≡◌, ◌≤◌, ◌+◌, ◌⊎◌, ℕ, List, ◌∷◌, length, take, drop, MatchOption, true};
-ghost use Rattle.std.specs.List.{AllByRecursion};
+ghost use Rattle.std.specs.Prelude.{◌≡◌, ℕ, List, ◌∷◌, MatchOption};
 ghost use Rattle.wc_tokens.specs.Standard.Gaps.{Inside};
-ghost use Rattle.wc_tokens.specs.Standard.Lexemes.{IsIdchar, BeginsNoIdchar};
 ghost use Rattle.wc_tokens.specs.Reading.Heads.{IsFront, IsFrontOrEnd, LineEnds, RunEnds, IsHead};
 
 use crate::bytes::behind;
@@ -94,37 +92,27 @@ fn after_comment(text: &[u8]) -> Option<&[u8]>
     None
 }
 
-/// How many idchars stand at the front, looked at two a round: a last byte without a second isn't looked at.
-#[inline(always)]
-fn count_in_pairs(text: &[u8]) -> usize
-    ensures within { result ≤ length text.now }
-    ensures idchars { AllByRecursion IsIdchar (take result text.now) }
-    ensures ended { (length text.now ≤ result + 1) ⊎ BeginsNoIdchar (drop result text.now) }
-{
-    let mut at = 0;
-    while at + 1 < text.len() {
-        if !is_idchar(text[at]) {
-            return at;
-        }
-        if !is_idchar(text[at + 1]) {
-            return at + 1;
-        }
-        at += 2;
-    }
-    at
-}
-
 /// What follows a run of idchars.
 #[inline(always)]
 fn after_run(text: &[u8]) -> &[u8]
     ensures { RunEnds text.now result.now }
 {
     // Most bytes of a text pass here, so a round takes two.
-    let mut at = count_in_pairs(text);
-    while at < text.len() && is_idchar(text[at]) {
-        at += 1;
+    let mut at = 0;
+    while at + 1 < text.len() {
+        if !is_idchar(text[at]) {
+            return &text[at..];
+        }
+        if !is_idchar(text[at + 1]) {
+            return &text[at + 1..];
+        }
+        at += 2;
     }
-    &text[at..]
+    // One byte may be left.
+    if at < text.len() && !is_idchar(text[at]) {
+        return &text[at..];
+    }
+    &text[text.len()..]
 }
 
 /// A parenthesis or a block comment.
