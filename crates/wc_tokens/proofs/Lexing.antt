@@ -5,4 +5,5 @@ pub mod LexLaws
 pub mod SpanLaws
 pub mod RunLaws
 pub mod FrontLaws
+pub mod SpaceLaws
 pub mod StreamLaws

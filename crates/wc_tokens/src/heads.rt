@@ -8,7 +8,7 @@ use crate::bytes::behind;
 use crate::classes::{is_blank, is_idchar};
 use crate::elements::after_elements;
 use crate::fault::LexWhy;
-use crate::spaces::behind_spaces;
+use crate::spaces::after_spaces;
 use crate::token::TokenKind;
 
 /// What stands at the front of a text.
@@ -38,21 +38,21 @@ pub struct Front<'a> {
 pub fn behind_blanks(text: &[u8]) -> Option<Front<'_>>
     ensures { IsFrontOrEnd text.now result }
 {
-    let mut at = 0;
-    while at < text.len() {
-        let first = text[at];
-        if !is_blank(first) {
+    let mut here = text;
+    while let Some((first, rest)) = here.split_first() {
+        if !is_blank(*first) {
             return Some(Front {
-                here: &text[at..],
-                first,
-                rest: &text[at + 1..],
+                here,
+                first: *first,
+                rest,
             });
         }
-        at += 1;
         // A line begins with many spaces, where it is indented.
-        if first == b'\n' {
-            at = behind_spaces(text, at);
-        }
+        here = if *first == b'\n' {
+            after_spaces(rest)
+        } else {
+            rest
+        };
     }
     None
 }

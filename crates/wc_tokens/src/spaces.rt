@@ -1,7 +1,8 @@
 //! Spaces one after another, many at a time.
 
-ghost use Rattle.std.specs.Prelude.{◌≡◌, ◌≢◌, ◌+◌, ◌<◌, ◌≤◌, ◌==◌, ℕ, not, length, map, slice_index};
+ghost use Rattle.std.specs.Prelude.{◌≡◌, ◌≢◌, ◌+◌, ◌<◌, ◌≤◌, ◌==◌, ◌++◌, ℕ, not, length, map, replicate, slice_index};
 ghost use Rattle.std.specs.Simd.Lanes.{chunk, mask_l};
+ghost use Rattle.wc_tokens.specs.Standard.Gaps.{BeginsNot};
 
 use std::simd::prelude::*;
 
@@ -19,16 +20,14 @@ fn others_in_chunk(text: &[u8], at: usize) -> u64
         .to_bitmask()
 }
 
-/// The place behind the spaces that stand from a place on. The last bytes of the text, fewer than a chunk, aren't looked
-/// at.
+/// How many spaces stand at the front of a text. The last bytes, fewer than a chunk, aren't looked at.
 #[inline(always)]
-pub fn behind_spaces(text: &[u8], from: usize) -> usize
-    requires { from ≤ length text.now }
-    ensures within { (from ≤ result) × (result ≤ length text.now) }
-    ensures spaces { (k : ℕ) → from ≤ k → k < result → slice_index text.now k ≡ 32 }
+fn count_spaces(text: &[u8]) -> usize
+    ensures within { result ≤ length text.now }
+    ensures spaces { (k : ℕ) → k < result → slice_index text.now k ≡ 32 }
     ensures ended { result + 16 ≤ length text.now → slice_index text.now result ≢ 32 }
 {
-    let mut at = from;
+    let mut at = 0;
     while text.len() - at >= CHUNK {
         let others = others_in_chunk(text, at);
         if others != 0 {
@@ -37,4 +36,13 @@ pub fn behind_spaces(text: &[u8], from: usize) -> usize
         at += CHUNK;
     }
     at
+}
+
+/// What follows the spaces at the front of a text. The last bytes, fewer than a chunk, aren't looked at.
+#[inline(always)]
+pub fn after_spaces(text: &[u8]) -> &[u8]
+    ensures spaces { (n : ℕ) × (text.now ≡ replicate n 32 ++ result.now) }
+    ensures ended { 16 ≤ length result.now → BeginsNot 32 result.now }
+{
+    &text[count_spaces(text)..]
 }

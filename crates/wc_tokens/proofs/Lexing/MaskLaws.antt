@@ -1,8 +1,6 @@
 -- What the mask of a chunk tells of the bytes under it.
-use Rattle.std.proofs.Common.{◌≡◌, ◌≢◌, ℕ, ◌+◌, ◌*◌, ◌<◌, ◌≤◌, nat_eq, Bool, true, false, not, cond, List, [], ◌∷◌}
+use Rattle.std.proofs.Common.{◌≡◌, ◌≢◌, ℕ, ◌+◌, ◌*◌, ◌<◌, ◌≤◌, Bool, true, false, not, cond, List, [], ◌∷◌}
 use Rattle.std.proofs.Common.{map, length, get_or, ap, ◌∙◌, arith}
-use Rattle.std.proofs.lemmas.Bool.{not-true, not-false}
-use Rattle.std.proofs.lemmas.Bool.Decides.{nat_tests}
 use Rattle.std.proofs.lemmas.Simd.{length-chunk, trailing_mask_l, run_in_chunk_fails, run_in_chunk_stops}
 use Rattle.std.proofs.lemmas.Simd.{none_from_empty_mask}
 use Rattle.std.specs.List.{prefix_len}
@@ -39,11 +37,3 @@ module _ (p : ℕ → Bool) (text : List ℕ) (at : ℕ) {mask : ℕ} (room : at
 
   pub none-set : mask ≡ 0 → (k : ℕ) → at ≤ k → k < at + 16 → p (get_or text k 0) ≡ false
   none-set none = none_from_empty_mask p text at 16 0 room (omega (arith, masked, none))
-
--- ---- the mask of the bytes that aren't spaces
-
-pub is-space : (c : ℕ) → not (nat_eq c 32) ≡ false → c ≡ 32
-is-space c e = let f = not-false (nat_eq c 32) e in grind (arith, nat_tests)
-
-pub no-space : (c : ℕ) → not (nat_eq c 32) ≡ true → c ≢ 32
-no-space c e = let f = not-true (nat_eq c 32) e in λ g. grind (arith, nat_tests)
