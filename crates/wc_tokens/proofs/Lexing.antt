@@ -6,4 +6,5 @@ pub mod SpanLaws
 pub mod RunLaws
 pub mod FrontLaws
 pub mod SpaceLaws
+pub mod LineLaws
 pub mod StreamLaws

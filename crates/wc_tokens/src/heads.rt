@@ -2,12 +2,13 @@
 
 ghost use Rattle.std.specs.Prelude.{◌≡◌, ℕ, List, ◌∷◌, MatchOption};
 ghost use Rattle.wc_tokens.specs.Standard.Gaps.{Inside};
-ghost use Rattle.wc_tokens.specs.Reading.Heads.{IsFront, IsFrontOrEnd, LineEnds, RunEnds, IsHead};
+ghost use Rattle.wc_tokens.specs.Reading.Heads.{IsFront, IsFrontOrEnd, RunEnds, IsHead};
 
 use crate::bytes::behind;
 use crate::classes::{is_blank, is_idchar};
 use crate::elements::after_elements;
 use crate::fault::LexWhy;
+use crate::lines::after_line;
 use crate::spaces::after_spaces;
 use crate::token::TokenKind;
 
@@ -55,17 +56,6 @@ pub fn behind_blanks(text: &[u8]) -> Option<Front<'_>>
         };
     }
     None
-}
-
-/// What follows a line.
-fn after_line(text: &[u8]) -> &[u8]
-    ensures { LineEnds text.now result.now }
-{
-    let mut at = 0;
-    while at < text.len() && text[at] != b'\n' {
-        at += 1;
-    }
-    &text[at..]
 }
 
 /// What follows a block comment whose `(;` stands before the text, if it is closed.

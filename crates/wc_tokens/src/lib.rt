@@ -8,6 +8,7 @@ mod elements;
 mod fault;
 mod heads;
 mod laws;
+mod lines;
 mod next;
 mod numbers;
 mod simple;

@@ -7,7 +7,7 @@ ghost use Rattle.wc_tokens.specs.Standard.Gaps.{BeginsNot};
 use std::simd::prelude::*;
 
 /// How many bytes are looked at together.
-const CHUNK: usize = 16;
+pub const CHUNK: usize = 16;
 
 /// A bit for each byte of a chunk, which is set where the byte isn't a space.
 #[inline(always)]
