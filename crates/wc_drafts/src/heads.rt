@@ -40,7 +40,8 @@ impl<'a> Heads<'a> {
     pub fn push(&mut self, head: Head<'a>) -> Result<(), AllocError>
         ensures { OnOk result (self.new ≡ self.old ++ head.entry ∷ []) }
     {
-        self.items.push(head)?;
+        self.items.reserve(1)?;
+        self.items.push_reserved(head);
         Ok(())
     }
 

@@ -34,7 +34,8 @@ impl<T: Drop> Stack<T> {
     pub fn push(&mut self, item: T) -> Result<(), AllocError>
         ensures { OnOk result (self.new ≡ item ∷ self.old) }
     {
-        self.items.push(item)?;
+        self.items.reserve(1)?;
+        self.items.push_reserved(item);
         Ok(())
     }
 

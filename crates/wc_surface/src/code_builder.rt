@@ -1,6 +1,6 @@
 //! Instructions of a text, entry by entry.
 
-ghost use Rattle.std.specs.Prelude.{◌≡◌, ◌<◌, true, length, OnOk, OnErr};
+ghost use Rattle.std.specs.Prelude.{◌≡◌, ◌<◌, ◌++◌, ◌∷◌, [], true, length, OnOk, OnErr};
 ghost use Rattle.wc_surface.specs.Kept.Building.{part_of, with_end};
 
 use crate::code::{TextCode, TextEntry};
@@ -86,7 +86,7 @@ impl CodeBuilder {
         ensures ok { OnOk result (self.new ≡ step self.old (plain instr)) }
         ensures err { OnErr result (self.new ≡ self.old) }
     {
-        self.row.push(TextEntry::Plain(instr))?;
+        put(&mut self.row, TextEntry::Plain(instr))?;
         self.after_else = false;
         Ok(())
     }
@@ -103,7 +103,7 @@ impl CodeBuilder {
             return Err(BuildFault::Depth);
         }
         self.parts.reserve(1)?;
-        self.row.push(TextEntry::Begin(kind, head))?;
+        put(&mut self.row, TextEntry::Begin(kind, head))?;
         self.parts.push_reserved(first_part_of(kind));
         self.after_else = false;
         Ok(())
@@ -120,7 +120,7 @@ impl CodeBuilder {
         if !self.in_first_part() {
             return Err(BuildFault::Mark);
         }
-        self.row.push(TextEntry::Else)?;
+        put(&mut self.row, TextEntry::Else)?;
         let at = self.parts.len() - 1;
         self.parts[at] = Part::Other;
         self.after_else = true;
@@ -181,6 +181,18 @@ fn first_part_of(kind: Kind) -> Part
     }
 }
 
+/// Puts an entry last.
+// Room is made apart, so that the entry needn't be written to memory where it may have to be given back.
+#[inline(always)]
+fn put(row: &mut Vec<TextEntry>, entry: TextEntry) -> Result<(), AllocError>
+    ensures ok { OnOk result (row.new.items ≡ row.old.items ++ entry ∷ []) }
+    ensures err { OnErr result (row.new.items ≡ row.old.items) }
+{
+    row.reserve(1)?;
+    row.push_reserved(entry);
+    Ok(())
+}
+
 /// Puts an end last; an else that stands last gives way to it.
 fn put_end(row: &mut Vec<TextEntry>, after_else: bool) -> Result<(), AllocError>
     requires { after_else ≡ true → 0 < length row.old.items }
@@ -192,6 +204,5 @@ fn put_end(row: &mut Vec<TextEntry>, after_else: bool) -> Result<(), AllocError>
         row[last] = TextEntry::End;
         return Ok(());
     }
-    row.push(TextEntry::End)?;
-    Ok(())
+    put(row, TextEntry::End)
 }

@@ -113,7 +113,8 @@ impl Reading {
                 self.frame = frame;
             }
             Move::Into(place, frame) => {
-                self.outer.push(resume(self.frame))?;
+                self.outer.reserve(1)?;
+                self.outer.push_reserved(resume(self.frame));
                 self.place = place;
                 self.frame = frame;
             }

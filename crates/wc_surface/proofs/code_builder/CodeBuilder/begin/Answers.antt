@@ -12,8 +12,8 @@ invariant_of-self-2 c =
     let parts : c.push_reserved.new.self.items ≡ c.self.inside.parts.items ++ part_of c.args.kind ∷ [] =
     rw (c.push_reserved.ensures.items, c.in_ok-reserve.ensures.items, c.first_part_of.ensures) refl in
     (begin-pushed x c.self.inside.parts.items c.self.inside.after_else c.self.invariant c.args.kind
-    c.args.head c.push.new.self.items c.push_reserved.new.self.items
-    c.in_ok-push.ensures.items room parts).started
+    c.args.head c.put.new.row.items c.push_reserved.new.self.items
+    c.in_ok-put.ensures.ok room parts).started
 
 pub returns-clause-ok : goal.returns-clause-ok
 returns-clause-ok c =
@@ -21,5 +21,5 @@ returns-clause-ok c =
     let room : length (drafted x).around < nesting_limit = rw c.self.view_is (omega arith) in
     rw (← c.self.view_is)
     (begin-pushed x c.self.inside.parts.items c.self.inside.after_else c.self.invariant c.args.kind
-    c.args.head c.push.new.self.items (c.self.inside.parts.items ++ part_of c.args.kind ∷ [])
-    c.in_ok-push.ensures.items room refl).drafted
+    c.args.head c.put.new.row.items (c.self.inside.parts.items ++ part_of c.args.kind ∷ [])
+    c.in_ok-put.ensures.ok room refl).drafted
