@@ -7,4 +7,5 @@ pub mod RunLaws
 pub mod FrontLaws
 pub mod SpaceLaws
 pub mod LineLaws
+pub mod NameLaws
 pub mod StreamLaws

@@ -9,6 +9,7 @@ use crate::classes::{is_blank, is_idchar};
 use crate::elements::after_elements;
 use crate::fault::LexWhy;
 use crate::lines::after_line;
+use crate::names::after_name;
 use crate::spaces::after_spaces;
 use crate::token::TokenKind;
 
@@ -144,15 +145,6 @@ fn string<'a>(text: &'a [u8], rest: &'a [u8]) -> Head<'a>
         Some(after) => Head::Token(TokenKind::Str, after),
         None => Head::Stuck(end, LexWhy::Escape),
     }
-}
-
-/// What follows the run of idchars of an identifier.
-// It is apart, since most runs are words.
-#[inline(never)]
-fn after_name(text: &[u8]) -> &[u8]
-    ensures { RunEnds text.now result.now }
-{
-    after_run(text)
 }
 
 /// An identifier whose `$` stands before the text, or that `$` alone, which is a word.

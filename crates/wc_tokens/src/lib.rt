@@ -9,6 +9,7 @@ mod fault;
 mod heads;
 mod laws;
 mod lines;
+mod names;
 mod next;
 mod numbers;
 mod simple;

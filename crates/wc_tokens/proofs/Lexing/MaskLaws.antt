@@ -1,11 +1,13 @@
 -- What the mask of a chunk tells of the bytes under it.
-use Rattle.std.proofs.Common.{◌≡◌, ◌≢◌, ℕ, ◌+◌, ◌*◌, ◌<◌, ◌≤◌, Bool, true, false, not, cond, List, [], ◌∷◌}
-use Rattle.std.proofs.Common.{map, length, get_or, ap, ◌∙◌, arith}
-use Rattle.std.proofs.lemmas.Simd.{length-chunk, trailing_mask_l, run_in_chunk_fails, run_in_chunk_stops}
+use Rattle.std.proofs.Common.{◌≡◌, ◌≢◌, ℕ, ◌+◌, ◌*◌, ◌%◌, ◌^◌, ◌<◌, ◌≤◌, Bool, true, false, not, cond, List, [], ◌∷◌}
+use Rattle.std.proofs.Common.{map, length, get_or, Fits, w8, refl, ap, ap₂, ◌∙◌, arith}
+use Rattle.std.proofs.lemmas.Bool.{agree_below, agree_below_at}
+use Rattle.std.proofs.lemmas.List.{length-map}
+use Rattle.std.proofs.lemmas.Simd.{length-chunk, mask_l-mod, trailing_mask_l, run_in_chunk_fails, run_in_chunk_stops}
 use Rattle.std.proofs.lemmas.Simd.{none_from_empty_mask}
 use Rattle.std.specs.List.{prefix_len}
 use lib.Count.{count_trailing_zeros}
-use lib.Lanes.{chunk, mask_l}
+use lib.Lanes.{chunk, mask_l, top, Each1}
 
 -- where a bit is set, not all lanes come before it
 one_stops : (b : Bool) (n l m : ℕ) → 0 < cond b 1 0 + 2 * m → (0 < m → n < l) → cond (not b) (1 + n) 0 < 1 + l
@@ -37,3 +39,17 @@ module _ (p : ℕ → Bool) (text : List ℕ) (at : ℕ) {mask : ℕ} (room : at
 
   pub none-set : mask ≡ 0 → (k : ℕ) → at ≤ k → k < at + 16 → p (get_or text k 0) ≡ false
   none-set none = none_from_empty_mask p text at 16 0 room (omega (arith, masked, none))
+
+-- ---- a mask that is computed byte by byte
+
+each_byte : (f : ℕ → ℕ) (p : ℕ → Bool) → agree_below (λ x. top 7 (f x)) p 256 ≡ true → (v : List ℕ)
+    → Each1 (Fits w8) v → map (top 7) (map f v) ≡ map p v
+each_byte f p all [] fits = refl
+each_byte f p all (x ∷ xs) fits =
+    ap₂ (λ a b. a ∷ b) (agree_below_at (λ y. top 7 (f y)) p 256 x all fits.0.fits) (each_byte f p all xs fits.1)
+
+pub mask-of : (f : ℕ → ℕ) (p : ℕ → Bool) (v : List ℕ) {z : List ℕ} → length v ≤ 64 → Each1 (Fits w8) v → z ≡ map f v
+    → agree_below (λ x. top 7 (f x)) p 256 ≡ true → mask_l (map (top 7) z) % 2 ^ 64 ≡ mask_l (map p v)
+mask-of f p v few fits e all =
+    ap (λ l. mask_l l % 2 ^ 64) (ap (map (top 7)) e ∙ each_byte f p all v fits)
+    ∙ mask_l-mod (map p v) 64 (omega (arith, few, length-map v p))

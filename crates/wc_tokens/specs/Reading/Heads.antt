@@ -1,5 +1,5 @@
 -- What is read at the front of a text.
-use Rattle.std.specs.Prelude.{◌≡◌, ◌≢◌, ℕ, false, List, [], ◌∷◌, ◌++◌, Option, Some, None}
+use Rattle.std.specs.Prelude.{◌≡◌, ◌≢◌, ℕ, nat_lt, ◌==◌, Bool, ◌||◌, false, List, [], ◌∷◌, ◌++◌, Option, Some, None}
 use Rattle.std.specs.List.{AllByRecursion}
 use Rattle.wc_tokens.specs.declared.heads.Front.{Front}
 use Rattle.wc_tokens.specs.declared.heads.Head.{Head}
@@ -24,6 +24,10 @@ pub record LineEnds (text rest : List ℕ) : Type 0 where
   pub text_is : text ≡ line ++ rest
   pub no_feed : AllByRecursion (λ c. c ≢ 10) line
   pub ended : EndsLine rest
+
+-- the byte isn't one from `-` to `z`, or it is `;`, `[` or `]`: each other one is an idchar
+abbrev pub is_rare : ℕ → Bool
+is_rare c = nat_lt c 45 || nat_lt 122 c || (c == 59) || (c == 91) || (c == 93)
 
 -- the text begins with a run of idchars that the rest doesn't go on with
 pub record RunEnds (text rest : List ℕ) : Type 0 where
