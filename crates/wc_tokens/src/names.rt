@@ -1,6 +1,6 @@
 //! Identifiers.
 
-ghost use Rattle.std.specs.Prelude.{◌≡◌, ◌+◌, ◌<◌, ◌≤◌, ℕ, length, map, slice_index};
+ghost use Rattle.std.specs.Prelude.{◌≡◌, ◌+◌, ◌<◌, ◌≤◌, ℕ, true, length, map, slice_index};
 ghost use Rattle.std.specs.Simd.Lanes.{chunk, mask_l};
 ghost use Rattle.wc_tokens.specs.Standard.Lexemes.{IsIdchar};
 ghost use Rattle.wc_tokens.specs.Reading.Heads.{RunEnds, is_rare};
@@ -30,6 +30,7 @@ fn rare_in_chunk(text: &[u8], at: usize) -> u64
 fn count_in_name(text: &[u8]) -> usize
     ensures within { result ≤ length text.now }
     ensures idchars { (k : ℕ) → k < result → IsIdchar (slice_index text.now k) }
+    ensures ended { result + 16 ≤ length text.now → is_rare (slice_index text.now result) ≡ true }
 {
     let mut at = 0;
     while text.len() - at >= CHUNK {

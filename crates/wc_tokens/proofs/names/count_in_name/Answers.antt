@@ -1,7 +1,7 @@
 use Rattle.std.proofs.Common.{inl, inr, arith}
 use Rattle.std.proofs.lemmas.Bool.{cases_lt}
 use Rattle.wc_tokens.specs.Reading.Heads.{is_rare}
-use Rattle.wc_tokens.proofs.Lexing.MaskLaws.{first-within, before-first, none-set}
+use Rattle.wc_tokens.proofs.Lexing.MaskLaws.{first-within, before-first, at-first, none-set}
 use Rattle.wc_tokens.proofs.Lexing.NameLaws.{idchar-from}
 use Rattle.wc_tokens.proofs.names.count_in_name.Goals as goal
 
@@ -17,6 +17,10 @@ returns-then-rare-ne0-clause-idchars c k to = elim (cases_lt k c.loop-at.at) [
   | inr here ↦ idchar-from _ (c.type_inv.text k).fits (before-first is_rare c.args.text.now c.loop-at.at (omega arith)
       c.rare_in_chunk-rare.ensures c.if-rare-ne0.true k here to)
 ]
+
+pub returns-then-rare-ne0-clause-ended : goal.returns-then-rare-ne0-clause-ended
+returns-then-rare-ne0-clause-ended c _ =
+    at-first is_rare c.args.text.now c.loop-at.at (omega arith) c.rare_in_chunk-rare.ensures c.if-rare-ne0.true
 
 pub loop-at-preserved : goal.loop-at-preserved
 loop-at-preserved c = (
