@@ -8,8 +8,9 @@ ghost use Rattle.wc_body.specs.declared.builder.BuildFault.TheVariants.{Memory};
 use crate::body::{Body, NESTING_LIMIT};
 use crate::bytes::put::{put_begin, put_instr};
 use crate::entry::{Entry, Kind};
-use crate::front::entry_front;
+use crate::front::usual_front;
 use crate::instr::{BlockType, Instr};
+use crate::light::after_light;
 use crate::needs::Needs;
 use std::alloc::{AllocError, AllocFailed, Global};
 use std::marker::Model;
@@ -258,7 +259,8 @@ impl BodyBuilder {
         let mut rest = fitting;
         let mut needs = self.needs;
         'entries: loop {
-            let Some(behind) = entry_front(rest, &mut needs, &mut self.parts) else {
+            rest = after_light(rest, self.parts.len(), &mut needs);
+            let Some(behind) = usual_front(rest, &mut needs, &mut self.parts) else {
                 break;
             };
             rest = behind;

@@ -173,23 +173,18 @@ fn meant_front<'a>(byte: u8, bytes: &'a [u8], needs: &mut Needs) -> Option<&'a [
     }
 }
 
-/// Notes the entry that these bytes begin with, where it is a usual one. What follows it is answered.
-#[inline(always)]
-fn usual_front<'a>(bytes: &'a [u8], needs: &mut Needs, parts: &mut Vec<Part>) -> Option<&'a [u8]>
+/// Notes the instruction that these bytes begin with, where it is a usual one and these blocks enclose it. What follows
+/// it is answered.
+// It is apart, so that the loop over light entries stays short.
+#[inline(never)]
+fn instr_front<'a>(bytes: &'a [u8], needs: &mut Needs, parts: &Vec<Part>) -> Option<&'a [u8]>
     ensures some { IfSome result (λ rest.
-        Notes bytes.now rest.now needs.old needs.new parts.old.items parts.new.items) }
-    ensures none { IsNone result → (needs.new ≡ needs.old) × (parts.new.items ≡ parts.old.items) }
+        Notes bytes.now rest.now needs.old needs.new parts.now.items parts.now.items) }
+    ensures none { IsNone result → needs.new ≡ needs.old }
 {
     let (byte, rest) = bytes.split_first()?;
     let enclosing = parts.len();
     match *byte {
-        0x02 => begin_front(Kind::Block, rest, parts),
-        0x03 => begin_front(Kind::Loop, rest, parts),
-        0x04 => begin_front(Kind::If, rest, parts),
-        0x0b => {
-            let _ = parts.pop()?;
-            Some(rest)
-        }
         0x0c => index_front(IndexOp::Br, enclosing, rest, needs),
         0x0d => index_front(IndexOp::BrIf, enclosing, rest, needs),
         0x10 => index_front(IndexOp::Call, enclosing, rest, needs),
@@ -201,6 +196,30 @@ fn usual_front<'a>(bytes: &'a [u8], needs: &mut Needs, parts: &mut Vec<Part>) ->
         0x41 => behind_signed(rest),
         0x42 => behind_signed(rest),
         _ => meant_front(*byte, rest, needs),
+    }
+}
+
+/// Notes the entry that these bytes begin with, where it is a usual one. What follows it is answered.
+#[inline(always)]
+pub(crate) fn usual_front<'a>(
+    bytes: &'a [u8],
+    needs: &mut Needs,
+    parts: &mut Vec<Part>,
+) -> Option<&'a [u8]>
+    ensures some { IfSome result (λ rest.
+        Notes bytes.now rest.now needs.old needs.new parts.old.items parts.new.items) }
+    ensures none { IsNone result → (needs.new ≡ needs.old) × (parts.new.items ≡ parts.old.items) }
+{
+    let (byte, rest) = bytes.split_first()?;
+    match *byte {
+        0x02 => begin_front(Kind::Block, rest, parts),
+        0x03 => begin_front(Kind::Loop, rest, parts),
+        0x04 => begin_front(Kind::If, rest, parts),
+        0x0b => {
+            let _ = parts.pop()?;
+            Some(rest)
+        }
+        _ => instr_front(bytes, needs, parts),
     }
 }
 

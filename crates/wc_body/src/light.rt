@@ -2,7 +2,7 @@
 //! alignment above the width of the access. What is noted of one is looked up by its opcode.
 
 ghost use Rattle.std.specs.Prelude.{◌≡◌, IfSome, IsNone};
-ghost use Rattle.wc_body.specs.Drafting.AtFront.{NotesInstr};
+ghost use Rattle.wc_body.specs.Drafting.AtFront.{NotesInstr, NotesRun};
 ghost use Rattle.wc_body.specs.Drafting.LightRows.{light_at, with_light};
 
 use crate::needs::Needs;
@@ -13,8 +13,8 @@ struct Light {
     locals: u16,
     // How many bytes one has.
     length: u8,
-    // What the byte behind the opcode is below, and the byte behind that: 255 where neither is of the entry, since few
-    // entries have that byte behind them.
+    // What the byte behind the opcode is below, and the byte behind that. Where it isn't of the entry this is 255,
+    // above nearly all that may stand there.
     second: u8,
     third: u8,
     // All bits where the byte behind the opcode is a label, and none elsewhere.
@@ -79,7 +79,7 @@ const ACCESS_64: Light = Light {
     ..ACCESS_8
 };
 
-/// At each byte, what the light entries of this opcode are like.
+/// At each byte, what the light entries of this opcode are like: eight bytes a line, from the one that it ends with.
 static ROWS: [Light; 256] = [
     BARE, BARE, OTHER, OTHER, OTHER, OTHER, OTHER, OTHER, // 00
     OTHER, OTHER, OTHER, OTHER, LABEL, LABEL, OTHER, BARE, // 08
@@ -157,4 +157,23 @@ pub(crate) fn light_front<'a>(
     }
     note_light(needs, light, second);
     Some(&bytes[usize::from(light.length)..])
+}
+
+/// Notes the light entries that these bytes begin with, which so many blocks enclose, one after the other. What follows
+/// them is answered.
+// What is noted stands in a local, so that the loop keeps it in registers.
+#[inline(always)]
+pub(crate) fn after_light<'a>(bytes: &'a [u8], enclosing: usize, needs: &mut Needs) -> &'a [u8]
+    ensures { NotesRun enclosing bytes.now result.now needs.old needs.new }
+{
+    let mut noted = *needs;
+    let mut rest = bytes;
+    'entries: loop {
+        let Some(behind) = light_front(rest, enclosing, &mut noted) else {
+            break;
+        };
+        rest = behind;
+    }
+    *needs = noted;
+    rest
 }

@@ -1,5 +1,5 @@
 -- Entries that bytes begin with, one after the other, and what a builder keeps of them.
-use Rattle.std.proofs.Common.{◌≡◌, ℕ, ◌+◌, ◌-◌, ◌<◌, ◌≤◌, true, false, List, [], ◌∷◌, ◌++◌, length, take}
+use Rattle.std.proofs.Common.{◌≡◌, ℕ, zero, suc, ◌+◌, ◌-◌, ◌<◌, ◌≤◌, true, false, List, [], ◌∷◌, ◌++◌, length, take}
 use Rattle.std.proofs.Common.{refl, sym, ap, ◌∙◌, append_assoc, arith}
 use Rattle.std.proofs.lemmas.List.{append-nil, map-append, take-append-le, take-take, length-append, length-take}
 use Rattle.std.proofs.Math.Seq.{take-length}
@@ -20,7 +20,7 @@ use Rattle.wc_body.specs.Writing.EntryBytes.{entry_bytes, FitsEntry}
 use Rattle.wc_body.specs.Reading.Unpacked.{packed, unpacked}
 use Rattle.wc_body.specs.Drafting.OpenParts.{part_of, part_in}
 use Rattle.wc_body.specs.Drafting.PackedBody.{IsStarted}
-use Rattle.wc_body.specs.Drafting.AtFront.{Opens, Notes}
+use Rattle.wc_body.specs.Drafting.AtFront.{NotesInstr, NotesMany, NotesRun, Opens, Notes}
 use Rattle.wc_body.specs.Drafting.FrontEntries.{AllStand, AddsFront}
 use Rattle.wc_body.proofs.Packing.PackedLemmas.{packed-append, fits-append}
 use Rattle.wc_body.proofs.Packing.Unpacking.{has-byte}
@@ -130,6 +130,34 @@ fronted-taken x d bytes rest parts needs f =
 -- shorter by an entry
 pub fronted-shorter : (rest left : List ℕ) (e : Entry) → rest ≡ entry_bytes e ++ left → length left < length rest
 fronted-shorter rest left e is = omega (arith, ap length is, length-append (entry_bytes e) left, has-byte e)
+
+-- ---- a run of instructions
+
+-- one of them is an entry
+pub instr-notes : (x rest : List ℕ) (s t : Needs) (parts : List Part) → NotesInstr (length parts) x rest s t
+    → Notes x rest s t parts parts
+instr-notes x rest s t parts h = (Plain h.0, h.1, h.2, h.3, refl)
+
+-- so many more
+many-more : (n : ℕ) (x : List ℕ) (d : Draft Instr BlockType) (bytes rest left : List ℕ) (parts : List Part) (s t : Needs)
+    → Fronted x d bytes rest parts s → NotesMany n (length parts) rest left s t → Fronted x d bytes left parts t
+many-more zero x d bytes rest left parts s t f h = rw (h.0, h.1) f
+many-more (suc n) x d bytes rest left parts s t f (y, u, before, last) =
+    fronted-more x d bytes y left parts parts u t (many-more n x d bytes rest y parts s u f before)
+    (instr-notes y left u t parts last)
+
+pub fronted-run : (x : List ℕ) (d : Draft Instr BlockType) (bytes rest left : List ℕ) (parts : List Part) (s t : Needs)
+    → Fronted x d bytes rest parts s → NotesRun (length parts) rest left s t → Fronted x d bytes left parts t
+fronted-run x d bytes rest left parts s t f h = many-more h.0 x d bytes rest left parts s t f h.1
+
+-- no longer than before
+many-shorter : (n k : ℕ) (rest left : List ℕ) (s t : Needs) → NotesMany n k rest left s t → length left ≤ length rest
+many-shorter zero k rest left s t h = omega (arith, ap length h.0)
+many-shorter (suc n) k rest left s t (y, u, before, last) =
+    omega (arith, many-shorter n k rest y s u before, fronted-shorter y left (Plain last.0) last.1)
+
+pub run-shorter : (k : ℕ) (rest left : List ℕ) (s t : Needs) → NotesRun k rest left s t → length left ≤ length rest
+run-shorter k rest left s t h = many-shorter h.0 k rest left s t h.1
 
 -- what is added of so many bytes at most
 module _ (x : List ℕ) (d : Draft Instr BlockType) (bytes : List ℕ) (most : ℕ) (rest : List ℕ) (parts : List Part)

@@ -12,7 +12,8 @@ use Rattle.wc_ops.specs.declared.op.OpByte.TheVariants.{Known, Float, Unknown}
 use Rattle.wc_ops.specs.declared.op.SimpleOp.{SimpleOp}
 use Rattle.wc_ops.specs.declared.op.SimpleOp.TheVariants.{Nop, MemorySize, MemoryGrow}
 use Rattle.wc_ops.specs.declared.op.IndexOp.{IndexOp}
-use Rattle.wc_ops.specs.declared.op.IndexOp.TheVariants.{Br, BrIf, Call, LocalGet, LocalSet, LocalTee, GlobalGet, GlobalSet}
+use Rattle.wc_ops.specs.declared.op.IndexOp.TheVariants.{Br, BrIf, Call, LocalGet, LocalSet, LocalTee, GlobalGet}
+use Rattle.wc_ops.specs.declared.op.IndexOp.TheVariants.{GlobalSet}
 use Rattle.wc_ops.specs.declared.op.MemOp.{MemOp}
 use Rattle.wc_ops.specs.declared.op.MemOp.TheVariants.{I32Load}
 use Rattle.wc_ops.specs.Standard.ByteMeaning.{IsOpByte}
@@ -78,7 +79,8 @@ module _ (k b c : ℕ) (y : List ℕ) (s : Needs) where
   simple-noted op h = (Simple op, refl, tt, none-noted BARE refl refl)
 
   -- a label of an enclosing block
-  label-noted : b < 128 → bit_and b 255 ≤ k → with_light s LABEL b ≡ record s { outer_label = s.outer_label || nat_lt k b }
+  label-noted : b < 128 → bit_and b 255 ≤ k
+      → with_light s LABEL b ≡ record s { outer_label = s.outer_label || nat_lt k b }
   label-noted lt le =
       let within : nat_lt k b ≡ false = grind (arith, nat_tests, lt, le, and_mask b 8) in
       none-noted LABEL refl refl ∙ sym (rw (within, or-false s.outer_label) refl)

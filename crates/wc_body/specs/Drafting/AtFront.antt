@@ -1,5 +1,5 @@
 -- Entries that bytes begin with, spelled as they are kept (Core 1.0, 5.4): what is noted of each, and what follows it.
-use Rattle.std.specs.Prelude.{◌≡◌, ◌<◌, ◌≤◌, ◌+◌, ◌^◌, ℕ, ℤ, Bool, List, [], ◌∷◌, ◌++◌, length, take}
+use Rattle.std.specs.Prelude.{◌≡◌, ◌<◌, ◌≤◌, ◌+◌, ◌^◌, ℕ, zero, suc, ℤ, Bool, List, [], ◌∷◌, ◌++◌, length, take}
 use Rattle.wc_leb128.specs.Standard.Shortest.{HoldsSigned}
 use Rattle.wc_leb128.specs.Writing.Bytes.{unsigned_bytes, signed_bytes, signed_of}
 use Rattle.wc_ops.specs.declared.op.SimpleOp.{SimpleOp}
@@ -58,6 +58,15 @@ NotesPlain b x rest s t =
 -- the bytes begin with an instruction, and it was noted what it needs, where so many blocks enclose it
 abbrev pub NotesInstr : ℕ → List ℕ → List ℕ → Needs → Needs → Type 0
 NotesInstr k x rest s t = (i : Instr) × (x ≡ instr_bytes i ++ rest) × FitsInstr i × (t ≡ with_instr s k i)
+
+-- the bytes begin with so many instructions, one behind the other, and it was noted what each needs
+abbrev pub NotesMany : ℕ → ℕ → List ℕ → List ℕ → Needs → Needs → Type 0
+NotesMany zero k x rest s t = (rest ≡ x) × (t ≡ s)
+NotesMany (suc n) k x rest s t = (y : List ℕ) × (u : Needs) × NotesMany n k x y s u × NotesInstr k y rest u t
+
+-- the same of as many as there are
+abbrev pub NotesRun : ℕ → List ℕ → List ℕ → Needs → Needs → Type 0
+NotesRun k x rest s t = (n : ℕ) × NotesMany n k x rest s t
 
 -- the byte is a block type on its own, which needs nothing
 abbrev pub IsWholeType : ℕ → Type 0

@@ -13,7 +13,8 @@ pub slice_bounds-result-start : goal.slice_bounds-result-start
 slice_bounds-result-start c =
     let short = light-length (get_or c.args.bytes.now 0 0) in
     let few : c.light_of-light.result.now.length ≤ 3 = rw c.light_of-light.ensures short in
-    let within : c.from-2.result ≤ length c.args.bytes.now = omega (arith, few, c.from-2.ensures, c.if-bytes-lt3.false) in
+    let within : c.from-2.result ≤ length c.args.bytes.now =
+    omega (arith, few, c.from-2.ensures, c.if-bytes-lt3.false) in
     search rules
 
 pub returns-clause-some : goal.returns-clause-some

@@ -1,6 +1,6 @@
-use Rattle.std.proofs.Common.{◌<◌, length, refl, arith}
-use Rattle.wc_body.proofs.Drafts.FrontRun.{fronted-none, fronted-more, fronted-length, fronted-shorter, fronted-room}
-use Rattle.wc_body.proofs.Drafts.FrontRun.{fronted-kept, fronted-added}
+use Rattle.std.proofs.Common.{◌≡◌, ◌<◌, length, refl, arith, rules}
+use Rattle.wc_body.proofs.Drafts.FrontRun.{fronted-none, fronted-more, fronted-run, fronted-length, fronted-shorter, fronted-room}
+use Rattle.wc_body.proofs.Drafts.FrontRun.{fronted-kept, fronted-added, run-shorter}
 use Rattle.wc_body.proofs.builder.BodyBuilder.push_front.Goals as goal
 
 pub entries-init : goal.entries-init
@@ -10,30 +10,44 @@ entries-init c =
 pub entries-smaller : goal.entries-smaller
 entries-smaller c =
     let h = c.in-Some.ensures.some in
-    let shorter : length c.in-Some.behind.now < length c.entries.rest.now = fronted-shorter _ _ h.0 h.1 in
+    let run = run-shorter _ c.entries.rest.now c.after_light-rest.result.now _ _ c.after_light-rest.ensures in
+    let last : length c.in-Some.behind.now < length c.after_light-rest.result.now = fronted-shorter _ _ h.0 h.1 in
+    let shorter : length c.in-Some.behind.now < length c.entries.rest.now = omega (arith, run, last) in
     shorter
 
 pub entries-preserved : goal.entries-preserved
 entries-preserved c =
     let i = c.entries.invariant in
-    (fronted-more _ _ _ _ _ _ _ _ _ i.0 c.in-Some.ensures.some, i.1, i.2)
+    let open_ : c.len-in-entries.result ≡ length c.entries.self-inside.parts.items = search rules in
+    let run = fronted-run _ _ _ _ _ _ _ _ i.0 (rw open_ at c.after_light-rest.ensures) in
+    (fronted-more _ _ _ _ _ _ _ _ _ run c.in-Some.ensures.some, i.1, i.2)
 
 pub overflow_sub-count : goal.overflow_sub-count
-overflow_sub-count c = omega (arith, fronted-length _ _ _ _ _ _ c.entries.invariant.0)
+overflow_sub-count c =
+    let i = c.entries.invariant in
+    let open_ : c.len-in-entries.result ≡ length c.entries.self-inside.parts.items = search rules in
+    let run = fronted-run _ _ _ _ _ _ _ _ i.0 (rw open_ at c.after_light-rest.ensures) in
+    omega (arith, fronted-length _ _ _ _ _ _ run)
 
 pub append-requires : goal.append-requires
 append-requires c =
     let i = c.entries.invariant in
-    let room = fronted-room _ _ c.args.bytes.now c.min.result _ _ _ i.0 in
+    let open_ : c.len-in-entries.result ≡ length c.entries.self-inside.parts.items = search rules in
+    let run = fronted-run _ _ _ _ _ _ _ _ i.0 (rw open_ at c.after_light-rest.ensures) in
+    let room = fronted-room _ _ c.args.bytes.now c.min.result _ _ _ run in
     rw i.1 (omega (arith, room, c.min.ensures, c.capacity.ensures, c.len.ensures))
 
 pub invariant_of-self : goal.invariant_of-self
 invariant_of-self c =
     let i = c.entries.invariant in
+    let open_ : c.len-in-entries.result ≡ length c.entries.self-inside.parts.items = search rules in
+    let run = fronted-run _ _ _ _ _ _ _ _ i.0 (rw open_ at c.after_light-rest.ensures) in
     let none = c.in_default.ensures.none refl in
-    rw (c.append.ensures, i.1, i.2, none.0, none.1) (fronted-kept _ _ c.args.bytes.now c.min.result _ _ _ i.0)
+    rw (c.append.ensures, i.1, i.2, none.0, none.1) (fronted-kept _ _ c.args.bytes.now c.min.result _ _ _ run)
 
 pub returns : goal.returns
 returns c =
     let i = c.entries.invariant in
-    rw (c.append.ensures, i.1) (fronted-added _ _ c.args.bytes.now c.min.result _ _ _ i.0)
+    let open_ : c.len-in-entries.result ≡ length c.entries.self-inside.parts.items = search rules in
+    let run = fronted-run _ _ _ _ _ _ _ _ i.0 (rw open_ at c.after_light-rest.ensures) in
+    rw (c.append.ensures, i.1) (fronted-added _ _ c.args.bytes.now c.min.result _ _ _ run)
