@@ -137,8 +137,7 @@ fn put_simple(bytes: &mut Vec<u8>, op: SimpleOp) -> Result<(), AllocError>
     if matches!(op, SimpleOp::MemorySize | SimpleOp::MemoryGrow) {
         return put_two(bytes, op.byte(), 0x00);
     }
-    bytes.reserve(1)?;
-    bytes.push_reserved(op.byte());
+    bytes.push(op.byte())?;
     Ok(())
 }
 
@@ -164,16 +163,10 @@ fn put_access(bytes: &mut Vec<u8>, op: MemOp, arg: MemArg) -> Result<(), AllocEr
     put_all(bytes, op.byte(), align.as_slice(), offset.as_slice())
 }
 
-/// Puts a number into a vector of its own, which may be left half written. Most have one byte.
-#[inline(always)]
+/// Puts a number into a vector of its own, which may be left half written.
 fn write_number(table: &mut Vec<u8>, n: u32) -> Result<(), AllocError>
     ensures { OnOk result (table.new.items ≡ table.old.items ++ unsigned_bytes n) }
 {
-    if n < 128 {
-        table.reserve(1)?;
-        table.push_reserved(n as u8);
-        return Ok(());
-    }
     table.extend_from_slice(shortest_u(u64::from(n)).as_slice())
 }
 
