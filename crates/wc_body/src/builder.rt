@@ -1,6 +1,7 @@
 //! Bodies, entry by entry.
 
-ghost use Rattle.std.specs.Prelude.{◌≡◌, ◌+◌, ◌<◌, ◌≤◌, ◌++◌, true, length, OnOk, OnErr, IfErr, vec_len, vec_capacity};
+ghost use Rattle.std.specs.Prelude.{[], ◌≡◌, ◌+◌, ◌<◌, ◌≤◌, ◌++◌, true, length, OnOk, OnErr, IfErr};
+ghost use Rattle.std.specs.Prelude.{vec_len, vec_capacity};
 ghost use Rattle.wc_body.specs.Drafting.OpenParts.{part_of};
 ghost use Rattle.wc_body.specs.Drafting.PackedBody.{with_end};
 ghost use Rattle.wc_body.specs.declared.builder.BuildFault.TheVariants.{Memory};
@@ -14,6 +15,7 @@ use crate::light::after_light;
 use crate::needs::Needs;
 use std::alloc::{AllocError, AllocFailed, Global};
 use std::marker::Model;
+use std::mem::replace;
 
 /// Why an entry was not added, or a body not finished.
 #[derive(Clone, Copy, Debug, PartialEq, Eq)]
@@ -133,9 +135,17 @@ impl BodyBuilder {
     pub fn reusing(body: Body) -> BodyBuilder
         ensures { result ≡ whole empty }
     {
-        let mut bytes = body.into_bytes();
-        bytes.clear();
-        BodyBuilder::in_memory(bytes)
+        BodyBuilder::in_memory(memory_of(body))
+    }
+
+    /// Begins anew, in the memory of a body that is wanted no longer. What is held for open ones is kept.
+    pub fn restart(&mut self, body: Body)
+        ensures { self.new ≡ whole empty }
+    {
+        self.bytes = memory_of(body);
+        self.parts.clear();
+        self.after_else = false;
+        self.needs = Needs::nothing();
     }
 
     /// How many blocks, loops and ifs are open.
@@ -288,11 +298,36 @@ impl BodyBuilder {
         ensures ok { IfOk result (λ body. self ≡ whole body) }
         ensures err { IfErr result (λ fault. (fault ≡ faults.Mark) × (is_open self.around ≡ true)) }
     {
+        let mut builder = self;
+        builder.take_body()
+    }
+
+    /// The same, and the builder stays, with nothing so far: what is held for open ones is there for the next body.
+    /// After an error it is as it was.
+    pub fn take_body(&mut self) -> Result<Body, BuildFault>
+        ensures ok { IfOk result (λ body. self.old ≡ whole body) }
+        ensures rest { OnOk result (self.new ≡ whole empty) }
+        ensures err { IfErr result (λ fault. (fault ≡ faults.Mark) × (is_open self.old.around ≡ true)) }
+        ensures same { OnErr result (self.new ≡ self.old) }
+    {
         if self.depth() > 0 {
             return Err(BuildFault::Mark);
         }
-        Ok(Body::from_bytes(self.bytes, self.needs))
+        let alloc = *self.bytes.allocator();
+        let bytes = replace(&mut self.bytes, Vec::new(alloc));
+        let needs = replace(&mut self.needs, Needs::nothing());
+        self.after_else = false;
+        Ok(Body::from_bytes(bytes, needs))
     }
+}
+
+/// The memory of a body that is wanted no longer, with nothing in it.
+fn memory_of(body: Body) -> Vec<u8>
+    ensures { result.items ≡ [] }
+{
+    let mut bytes = body.into_bytes();
+    bytes.clear();
+    bytes
 }
 
 pub(crate) fn first_part_of(kind: Kind) -> Part

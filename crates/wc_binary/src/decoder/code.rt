@@ -16,26 +16,37 @@ use crate::source::{BUFFER_SIZE, Source};
 use std::alloc::{AllocError, Global};
 use wc_ast::{Body, BodyBuilder, Codes, FuncCode, Locals};
 
-/// What stands behind the size of a code, in the memory of one that is wanted no longer.
+/// What stands behind the size of a code, built by this builder in the memory of a code that is wanted no longer.
 #[tactic(auto, unfolding(crate::specs::Standard::Contents::func))]
-fn func<S: Source>(alloc: Global, spare: FuncCode, source: &mut S) -> Result<FuncCode, BinFault>
+fn func<S: Source>(
+    alloc: Global,
+    builder: &mut BodyBuilder,
+    spare: FuncCode,
+    source: &mut S,
+) -> Result<FuncCode, BinFault>
     ensures { Gives func_phrase (S.input source.old) (S.input source.new) result }
 {
     let FuncCode { locals, body } = spare;
     let locals = locals_from(alloc, locals, source)?;
-    let body = body_from(alloc, BodyBuilder::reusing(body), source)?;
+    builder.restart(body);
+    let body = body_from(alloc, builder, source)?;
     Ok(FuncCode { locals, body })
 }
 
-/// A code behind its size, in such memory. The size is judged once the code was read.
+/// A code behind its size, built so. The size is judged once the code was read.
 #[tactic(auto, unfolding(crate::specs::Standard::Contents::code, crate::specs::Standard::Values::sized))]
-fn code<S: Source>(alloc: Global, spare: FuncCode, source: &mut S) -> Result<FuncCode, BinFault>
+fn code<S: Source>(
+    alloc: Global,
+    builder: &mut BodyBuilder,
+    spare: FuncCode,
+    source: &mut S,
+) -> Result<FuncCode, BinFault>
     ensures { Gives code_phrase (S.input source.old) (S.input source.new) result }
 {
     let at = source.place();
     let size = u32(source)?;
     let start = source.place();
-    let found = func(alloc, spare, source)?;
+    let found = func(alloc, builder, spare, source)?;
     if source.place() - start != size as u64 {
         return Err(bad(at, BinWhy::BodySize));
     }
@@ -93,6 +104,7 @@ fn code_ahead<S: Source>(codes: &mut Codes, source: &mut S) -> Result<bool, BinF
 /// that is wanted no longer; such memory is answered.
 fn next_code<S: Source>(
     alloc: Global,
+    builder: &mut BodyBuilder,
     codes: &mut Codes,
     spare: FuncCode,
     source: &mut S,
@@ -102,7 +114,7 @@ fn next_code<S: Source>(
     if code_ahead(codes, source)? {
         return Ok(spare);
     }
-    let found = code(alloc, spare, source)?;
+    let found = code(alloc, builder, spare, source)?;
     codes.push(&found.locals, &found.body)?;
     Ok(found)
 }
@@ -112,12 +124,14 @@ fn codes<S: Source>(alloc: Global, count: u32, source: &mut S) -> Result<Codes, 
     ensures { Gives (times_phrase count code_phrase) (S.input source.old) (S.input source.new) result }
 {
     let mut codes = Codes::new(alloc);
+    // One for all, so that what it holds for open blocks is asked for once.
+    let mut builder = BodyBuilder::new(alloc);
     let mut spare = FuncCode {
         locals: Locals::new(alloc),
         body: Body::new(alloc),
     };
     for _ in 0..count {
-        spare = next_code(alloc, &mut codes, spare, source)?;
+        spare = next_code(alloc, &mut builder, &mut codes, spare, source)?;
     }
     Ok(codes)
 }
