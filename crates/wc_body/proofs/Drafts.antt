@@ -6,4 +6,6 @@ pub mod BuilderLemmas
 pub mod FrontLemmas
 pub mod LightLemmas
 pub mod FrontRun
+pub mod FreeIntegers
+pub mod FreeRun
 pub mod Finished

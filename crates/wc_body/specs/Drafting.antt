@@ -9,3 +9,4 @@ pub mod BodyRow
 pub mod AtFront
 pub mod LightRows
 pub mod FrontEntries
+pub mod FreeEntries

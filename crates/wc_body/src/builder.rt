@@ -50,6 +50,9 @@ impl<T: Drop> From<AllocFailed<T>> for BuildFault {
     }
 }
 
+/// How many bytes an opcode and an integer of 32 bits have at most.
+const INTEGER_LIMIT: usize = 6;
+
 /// Which part an open block, loop or if is in: the first part of an if, or any other.
 #[derive(Clone, Copy, Debug, PartialEq, Eq)]
 pub(crate) enum Part {
@@ -175,6 +178,18 @@ impl BodyBuilder {
         self.needs.note_instr(self.parts.len(), &instr);
         self.after_else = false;
         Ok(())
+    }
+
+    /// Adds an instruction of one integer where there is room for it, and answers whether it was added.
+    #[inline(always)]
+    pub(crate) fn push_fitting(&mut self, instr: Instr<'_>) -> bool
+        ensures added { result ≡ true → self.new ≡ step self.old (plain instr.entry) }
+        ensures same { result ≡ false → self.new ≡ self.old }
+    {
+        if self.bytes.capacity() - self.bytes.len() < INTEGER_LIMIT {
+            return false;
+        }
+        self.push_plain(instr).is_ok()
     }
 
     #[inline(never)]

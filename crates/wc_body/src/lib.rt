@@ -11,6 +11,7 @@ mod bytes;
 pub mod constant;
 pub mod entries;
 pub mod entry;
+mod free;
 mod front;
 pub mod instr;
 pub mod labels;

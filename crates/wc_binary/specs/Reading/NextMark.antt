@@ -10,7 +10,7 @@ use Rattle.wc_body.specs.declared.instr.BlockType.{BlockType}
 use Rattle.wc_body.specs.Standard.Nested.{Mark, block, loop, nesting_limit}
 use Rattle.wc_body.specs.Standard.Draft.{Draft, step, may_come, begins, in_first_part}
 use Rattle.wc_body.specs.Standard.Entries.{mark}
-use Rattle.wc_body.specs.Drafting.FrontEntries.{AddsFront}
+use Rattle.wc_body.specs.Drafting.FreeEntries.{AddsFree}
 use Rattle.wc_binary.specs.declared.fault.BinFault.{BinFault}
 use Rattle.wc_binary.specs.declared.fault.BinWhy.{BinWhy}
 use Rattle.wc_binary.specs.Standard.Expression.{Begun, region_op, if_op, standing}
@@ -56,10 +56,10 @@ abbrev pub Keeps : Draft Instr BlockType → Entry → Draft Instr BlockType →
 Keeps d e after more =
     (more ≡ may_come d (mark e)) × (more ≡ true → after ≡ step d (mark e)) × (more ≡ false → after ≡ d)
 
--- entries whose canonical bytes lay ahead were added, and these bytes passed
+-- entries whose bytes lay ahead were added, and these bytes passed
 abbrev pub AddsAhead : Draft Instr BlockType → Draft Instr BlockType → Input → Input → Type 0
 AddsAhead d after old new =
-    (bytes : List ℕ) × (n : ℕ) × AreAhead old (length bytes) bytes × AddsFront d after bytes n × Passes n old new n
+    (bytes : List ℕ) × (n : ℕ) × AreAhead old (length bytes) bytes × AddsFree d after bytes n × Passes n old new n
 
 -- what was read behind an opcode that begins k was kept
 abbrev pub AddsNext :

@@ -178,7 +178,7 @@ fn entries_ahead<S: Source>(pace: &mut Pace, builder: &mut BodyBuilder, source: 
     if !pace.is_due() {
         return;
     }
-    let count = builder.push_front(source.front(BUFFER_SIZE));
+    let count = builder.push_ahead(source.front(BUFFER_SIZE));
     source.pass(count as u64);
     pace.found(count);
 }

@@ -128,6 +128,12 @@ pub signed-same : (N : ℕ) (x : List ℕ) (r : Option (ℤ × Bor (List ℕ))) 
     → option_map seen r ≡ signed_front N x
 signed-same N x r h = same (S N) (signed_front N) (signed-told N) (signed-found N) x r h
 
+-- what a reader of the front answered stands there
+pub signed-stands : (N : ℕ) (x : List ℕ) (r : Option (ℤ × Bor (List ℕ))) → option_map seen r ≡ signed_front N x
+    → IfSome r (λ f. IsAtFront (S N) x f.0 f.1.now)
+signed-stands N x None e = tt
+signed-stands N x (Some f) e = subst (λ m. Told (S N) x m) (sym e) (signed-told N x)
+
 -- what is found fits its width
 pub unsigned-held : (N : ℕ) (x : List ℕ) (r : Option (ℕ × Bor (List ℕ))) (f : ℕ × Bor (List ℕ)) → Answers (U N) x r
     → r ≡ Some f → f.0 < 2 ^ N

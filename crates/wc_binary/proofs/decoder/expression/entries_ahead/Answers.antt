@@ -7,7 +7,7 @@ returns-then-not-is_due g c = none-ahead c.args.builder.now (g.S.Source.input c.
 
 pub returns : goal.returns
 returns g c =
-    let n = c.push_front-count.result in
+    let n = c.push_ahead-count.result in
     let all : c.pass.result ≡ n =
-    omega (arith, c.pass.ensures.amount, c.front.ensures.amount, c.push_front-count.ensures.0) in
-    (c.front.result.now, n, c.front.ensures.ahead, c.push_front-count.ensures, rw all at c.pass.ensures.passed)
+    omega (arith, c.pass.ensures.amount, c.front.ensures.amount, c.push_ahead-count.ensures.0) in
+    (c.front.result.now, n, c.front.ensures.ahead, c.push_ahead-count.ensures, rw all at c.pass.ensures.passed)

@@ -1,0 +1,42 @@
+-- Entries that were added by bytes that spell them, where an integer may be longer than it is kept (Core 1.0, 5.2.2).
+use Rattle.std.specs.Prelude.{◌≡◌, ◌≤◌, ◌⊎◌, ℕ, List, [], ◌∷◌, ◌++◌, length, take}
+use Rattle.wc_leb128.specs.Standard.Integers.{U, S}
+use Rattle.wc_ops.specs.Standard.Opcodes.{row}
+use Rattle.wc_body.specs.declared.instr.BlockType.{BlockType}
+use Rattle.wc_body.specs.declared.instr.Instr.{Instr}
+use Rattle.wc_body.specs.declared.instr.Instr.TheVariants.{Index, I32Const}
+use Rattle.wc_body.specs.declared.entry.Entry.{Entry}
+use Rattle.wc_body.specs.declared.entry.Entry.TheVariants.{Plain}
+use Rattle.wc_body.specs.Standard.Draft.{Draft, steps}
+use Rattle.wc_body.specs.Standard.Entries.{marks}
+use Rattle.wc_body.specs.Standard.InstructionBytes.{op_of}
+use Rattle.wc_body.specs.Writing.EntryBytes.{entry_bytes, FitsEntry}
+use Rattle.wc_body.specs.Drafting.FrontEntries.{AllStand}
+
+-- these bytes spell the one integer behind the opcode of this instruction: an index, or a constant of 32 bits
+abbrev pub SpellsInteger : Instr → List ℕ → Type 0
+SpellsInteger (Index op n) x = U 32 x n
+SpellsInteger (I32Const z) x = S 32 x z
+SpellsInteger _ x = ⊥
+
+-- these are the opcode of the instruction and bytes that spell its integer
+abbrev pub IsFree : Instr → List ℕ → Type 0
+IsFree i x = (y : List ℕ) × (x ≡ (row (op_of i)).byte ∷ y) × SpellsInteger i y
+
+-- the bytes begin with an instruction, so spelled, and these follow it
+abbrev pub BeginsFree : List ℕ → Instr → List ℕ → Type 0
+BeginsFree x i rest = (y : List ℕ) × (x ≡ y ++ rest) × IsFree i y
+
+-- these bytes spell the entry: they are its canonical ones, or its integer has any spelling
+abbrev pub SpellsEntry : Entry → List ℕ → Type 0
+SpellsEntry e x = ((x ≡ entry_bytes e) × FitsEntry e) ⊎ ((i : Instr) × (e ≡ Plain i) × IsFree i x)
+
+-- these bytes spell the entries, one after the other
+abbrev pub SpellEntries : List Entry → List ℕ → Type 0
+SpellEntries [] x = x ≡ []
+SpellEntries (e ∷ es) x = (y z : List ℕ) × (x ≡ y ++ z) × SpellsEntry e y × SpellEntries es z
+
+-- so many of these bytes spell entries, each of which stands behind the draft and was added to it
+abbrev pub AddsFree : Draft Instr BlockType → Draft Instr BlockType → List ℕ → ℕ → Type 0
+AddsFree d after x n =
+    (n ≤ length x) × ((es : List Entry) × SpellEntries es (take n x) × AllStand d es × (after ≡ steps d (marks es)))

@@ -1,0 +1,100 @@
+//! Instructions that bytes begin with, whose integer may be spelled longer than it is kept: as linkers leave it, which
+//! put another in its place.
+
+ghost use Rattle.std.specs.Prelude.{◌≡◌, IfSome, IsNone};
+ghost use Rattle.wc_leb128.specs.Standard.Integers.{U, IsAtFront};
+ghost use Rattle.wc_body.specs.declared.instr.Instr.{Instr as AnInstr};
+ghost use Rattle.wc_body.specs.Standard.Nested.{plain};
+ghost use Rattle.wc_body.specs.Standard.Draft.{step};
+ghost use Rattle.wc_body.specs.Drafting.FreeEntries.{BeginsFree, AddsFree};
+
+use crate::builder::BodyBuilder;
+use crate::bytes::number::i32_at;
+use crate::instr::Instr;
+use wc_ops::{Op, OpByte};
+
+/// The unsigned integer of 32 bits that these bytes begin with (Core 1.0, 5.2.2), and what follows it.
+#[inline(always)]
+fn u32_front(bytes: &[u8]) -> Option<(u32, &[u8])>
+    ensures { IfSome result (λ found. IsAtFront (U 32) bytes.now found.0 found.1.now) }
+{
+    let (first, rest) = bytes.split_first()?;
+    if *first < 128 {
+        return Some((u32::from(*first), rest));
+    }
+    let low = u32::from(*first - 128);
+    let (second, rest) = rest.split_first()?;
+    if *second < 128 {
+        return Some((low + 0x80 * u32::from(*second), rest));
+    }
+    let low = low + 0x80 * u32::from(*second - 128);
+    let (third, rest) = rest.split_first()?;
+    if *third < 128 {
+        return Some((low + 0x4000 * u32::from(*third), rest));
+    }
+    let low = low + 0x4000 * u32::from(*third - 128);
+    let (fourth, rest) = rest.split_first()?;
+    if *fourth < 128 {
+        return Some((low + 0x20_0000 * u32::from(*fourth), rest));
+    }
+    let low = low + 0x20_0000 * u32::from(*fourth - 128);
+    let (fifth, rest) = rest.split_first()?;
+    if *fifth >= 16 {
+        return None;
+    }
+    Some((low + 0x1000_0000 * u32::from(*fifth), rest))
+}
+
+/// The instruction of an index, or of a constant of 32 bits, that these bytes begin with, and what follows it.
+#[inline(always)]
+fn free_front(bytes: &[u8]) -> Option<(Instr<'static>, &[u8])>
+    ensures { IfSome result (λ found. BeginsFree bytes.now found.0 found.1.now) }
+{
+    let (byte, rest) = bytes.split_first()?;
+    match Op::of_byte(*byte) {
+        OpByte::Known(Op::Index(op)) => {
+            let (index, rest) = u32_front(rest)?;
+            Some((Instr::Index(op, index), rest))
+        }
+        OpByte::Known(Op::I32Const) => {
+            let (n, rest) = i32_at(rest)?;
+            Some((Instr::I32Const(n), rest))
+        }
+        _ => None,
+    }
+}
+
+impl BodyBuilder {
+    /// Adds the instruction that these bytes begin with, where it is of one integer, and fits the memory at hand. What
+    /// follows it is answered.
+    #[inline(always)]
+    fn push_free<'a>(&mut self, bytes: &'a [u8]) -> Option<&'a [u8]>
+        ensures some { IfSome result (λ rest.
+            (i : AnInstr) × BeginsFree bytes.now i rest.now × (self.new ≡ step self.old (plain i))) }
+        ensures none { IsNone result → self.new ≡ self.old }
+    {
+        let (instr, rest) = free_front(bytes)?;
+        if !self.push_fitting(instr) {
+            return None;
+        }
+        Some(rest)
+    }
+
+    /// Adds the entries that these bytes begin with, as many as are usual and fit the memory at hand. Each is spelled
+    /// as it is kept, but for an index or a constant of 32 bits, whose spelling may be any. Answers how many bytes they
+    /// have. No end is added at which none is open.
+    pub fn push_ahead(&mut self, bytes: &[u8]) -> usize
+        ensures { AddsFree self.old self.new bytes.now result }
+    {
+        let mut rest = bytes;
+        'runs: loop {
+            let count = self.push_front(rest);
+            rest = &rest[count..];
+            let Some(behind) = self.push_free(rest) else {
+                break;
+            };
+            rest = behind;
+        }
+        bytes.len() - rest.len()
+    }
+}
