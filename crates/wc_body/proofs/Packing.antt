@@ -7,3 +7,4 @@ pub mod EntryLemmas
 pub mod EntryBytes
 pub mod PlaceLemmas
 pub mod BodyRowLemmas
+pub mod BriefLemmas

@@ -2,3 +2,4 @@
 pub mod Fronts
 pub mod Unpacked
 pub mod LabelItems
+pub mod Briefly

@@ -10,5 +10,6 @@ pub mod ValueBytes
 pub mod InstructionBytes
 pub mod Needed
 pub mod Short
+pub mod Brief
 pub mod Spelled
 pub mod Grammar

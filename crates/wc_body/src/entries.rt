@@ -4,6 +4,7 @@ ghost use Rattle.std.specs.Prelude.{◌≡◌};
 ghost use Rattle.std.specs.Iterator.{YieldsFirstBy, item_count};
 ghost use Rattle.wc_body.specs.Standard.Entries.{mark};
 
+use crate::brief::{Brief, brief_at};
 use crate::bytes::find::entry_at;
 use crate::bytes::short::short_at;
 use crate::entry::Entry;
@@ -43,6 +44,7 @@ impl<'a> Entries<'a> {
     ghost use Rattle.wc_body.specs.Standard.Entries.{marks};
     ghost use Rattle.wc_body.specs.Standard.Nested.{plain};
     ghost use Rattle.wc_body.specs.Standard.Short.{instruction};
+    ghost use Rattle.wc_body.specs.Standard.Brief.{SaysFirst};
     ghost use Rattle.wc_body.specs.Reading.Unpacked.{unpacked, IsPacked};
 
     pub(crate) fn of_bytes(bytes: &'a [u8]) -> Entries<'a>
@@ -73,6 +75,18 @@ impl<'a> Entries<'a> {
         let (short, behind) = short_at(self.bytes)?;
         self.bytes = behind;
         Some(short)
+    }
+
+    /// The first entry that is left, where it is a brief one: it is taken. So most of a body is had without a test of
+    /// what each entry is. Where it answers none, nothing is taken, and `next` tells what is left.
+    #[inline(always)]
+    pub fn next_brief(&mut self) -> Option<Brief>
+        ensures some { IfSome result (λ brief. SaysFirst brief self.old self.new) }
+        ensures none { IsNone result → self.new ≡ self.old }
+    {
+        let (brief, left) = brief_at(self.bytes)?;
+        self.bytes = left;
+        Some(brief)
     }
 }
 

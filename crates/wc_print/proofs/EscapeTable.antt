@@ -21,11 +21,11 @@ all_told : ℕ → List (List ℕ) → Bool
 all_told b [] = true
 all_told b (r ∷ rs) = bytes_eq (told r) (escaped b) && all_told (suc b) rs
 
-both-first : (a b : Bool) → (a && b) ≡ true → a ≡ true
+pub both-first : (a b : Bool) → (a && b) ≡ true → a ≡ true
 both-first true b e = refl
 both-first false b e = absurd cc
 
-both-second : (a b : Bool) → (a && b) ≡ true → b ≡ true
+pub both-second : (a b : Bool) → (a && b) ≡ true → b ≡ true
 both-second true b e = e
 both-second false b e = absurd cc
 
@@ -48,7 +48,7 @@ pub escape-told : (b : ℕ) → b < 256 → told (get_or ESCAPES b []) ≡ escap
 escape-told b lt = row-told ESCAPES 0 b table-told lt ∙ ap escaped (zero-add b)
 
 -- what each row is, one of them is
-row-test : (test : List ℕ → Bool) (rs : List (List ℕ)) (i : ℕ) → list_all test rs ≡ true → i < length rs
+pub row-test : (test : List ℕ → Bool) (rs : List (List ℕ)) (i : ℕ) → list_all test rs ≡ true → i < length rs
     → test (get_or rs i []) ≡ true
 row-test test [] i e lt = absurd (omega arith)
 row-test test (r ∷ rs) zero e lt = both-first (test r) _ e

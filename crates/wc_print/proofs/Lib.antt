@@ -12,5 +12,7 @@ pub mod Stringing
 pub mod Values
 pub mod Instructions
 pub mod Paging
+pub mod BriefTables
+pub mod BriefLines
 pub mod Apart
 pub mod Whole

@@ -86,9 +86,9 @@ behind-space page new ds at end fits e =
     e ∙ ap (λ (x : List ℕ). x ++ ds) (one-written page at 32 fits) ∙ append_assoc (take at page) (32 ∷ []) ds
 
 -- a whole row is copied to a place, and so much of it is kept
-pub row-kept : (page row copied rest : List ℕ) (at n : ℕ) → at + 24 ≤ length page → length row ≡ 24 → n ≤ 23 → copied ≡ row
-    → take (at + n) (take at page ++ (copied ++ rest)) ≡ take at page ++ take n row
-row-kept page row copied rest at n fits long short same =
+pub row-kept : (page row copied rest : List ℕ) (at n size : ℕ) → at + size ≤ length page → length row ≡ size → n ≤ size
+    → copied ≡ row → take (at + n) (take at page ++ (copied ++ rest)) ≡ take at page ++ take n row
+row-kept page row copied rest at n size fits long short same =
     let front : length (take at page) ≡ at = length-take-le at page (omega (arith, fits)) in
     let cut : take (at + n) (take at page ++ (row ++ rest)) ≡ take at page ++ take n (row ++ rest) =
     rw front at (take-append-add (take at page) (row ++ rest) n) in

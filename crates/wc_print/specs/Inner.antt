@@ -2,3 +2,4 @@ pub mod Flows
 pub mod Outlet
 pub mod Places
 pub mod Short
+pub mod Briefly

@@ -11,11 +11,11 @@ ghost use Rattle.wc_print.specs.Lines.{block_items, number_items, offset_items, 
 ghost use Rattle.wc_print.specs.Lines.{told, expr_items};
 ghost use Rattle.wc_print.specs.Inner.Places.{item_at};
 
-use crate::lines::{Row, head_line, index_line, memory_line, simple_line};
+use crate::lines::{Row, head_line, op_line};
 use crate::numbers::{put_integer, put_natural, put_number};
 use crate::sink::Sink;
 use crate::types::{put_result, put_type_use};
-use wc_ast::{BlockType, Constant, Entry, Instr, Kind, Labels, MemArg, MemOp};
+use wc_ast::{BlockType, Constant, Entry, Instr, Kind, Labels, MemArg, MemOp, Op};
 
 /// Where an instruction stands.
 #[derive(Clone, Copy)]
@@ -110,29 +110,29 @@ fn put_instr<S: Sink>(out: &mut S, place: Place, instr: Instr<'_>)
     ensures { Puts S.Has (mark_items (item_at place) (plain instr.entry)) out.old out.new }
 {
     match instr {
-        Instr::Simple(op) => put_at(out, place, simple_line(op)),
+        Instr::Simple(op) => put_at(out, place, op_line(Op::Simple(op))),
         Instr::Index(op, index) => {
-            put_at(out, place, index_line(op));
+            put_at(out, place, op_line(Op::Index(op)));
             put_number(out, index);
         }
         Instr::Mem(op, arg) => {
-            put_at(out, place, memory_line(op));
+            put_at(out, place, op_line(Op::Mem(op)));
             put_memory(out, op, arg);
         }
         Instr::BrTable(default, labels) => {
-            put_at(out, place, b"\n    br_table          \x0d");
+            put_at(out, place, op_line(Op::BrTable));
             put_labels(out, default, labels);
         }
         Instr::CallIndirect(index) => {
-            put_at(out, place, b"\n    call_indirect     \x12");
+            put_at(out, place, op_line(Op::CallIndirect));
             put_type_use(out, index);
         }
         Instr::I32Const(n) => {
-            put_at(out, place, b"\n    i32.const         \x0e");
+            put_at(out, place, op_line(Op::I32Const));
             put_integer(out, i64::from(n));
         }
         Instr::I64Const(n) => {
-            put_at(out, place, b"\n    i64.const         \x0e");
+            put_at(out, place, op_line(Op::I64Const));
             put_integer(out, n);
         }
     }

@@ -12,6 +12,8 @@ mod laws;
 mod lines;
 mod memory;
 mod numbers;
+mod offsets;
+mod operands;
 mod outlet;
 mod pages;
 mod printing;

@@ -1,24 +1,25 @@
 //! The lines of a function's instructions. They are put together on a page before they are put behind the others, since
 //! most are short.
 
-ghost use Rattle.std.specs.Prelude.{◌≡◌, ◌≤◌, ◌+◌, ◌∷◌, [], ◌++◌, IsTrue, length, take, slice_index};
+ghost use Rattle.std.specs.Prelude.{◌≡◌, ◌≤◌, ◌<◌, ◌+◌, ◌∷◌, [], ◌++◌, Some, length, take, slice_index};
 ghost use Rattle.std.specs.List.{flat_map};
 ghost use Rattle.wc_ops.specs.Standard.Opcodes.{memory};
-ghost use Rattle.wc_body.specs.declared.instr.BlockType.TheVariants.{Empty};
+ghost use Rattle.wc_body.specs.declared.entry.Entry.{Entry};
 ghost use Rattle.wc_body.specs.Standard.Entries.{mark};
-ghost use Rattle.wc_body.specs.Standard.Nested.{plain};
-ghost use Rattle.wc_body.specs.Standard.Short.{instruction};
-ghost use Rattle.wc_print.specs.Printed.{below, closing, word, number, integer, after};
+ghost use Rattle.wc_body.specs.Standard.Brief.{brief_entry};
+ghost use Rattle.wc_print.specs.Printed.{below, closing, word};
 ghost use Rattle.wc_print.specs.Printable.{Put};
 ghost use Rattle.wc_print.specs.Going.{Puts, Behind};
 ghost use Rattle.wc_print.specs.Lines.{told, offset_items, body_items};
 ghost use Rattle.wc_print.specs.Inner.Places.{line_items, LeavesLines};
+ghost use Rattle.wc_print.specs.Inner.Briefly.{told_text};
 
 use crate::bodies::{Place, put_entry};
 use crate::digits::write_few_digits;
-use crate::lines::{Row, head_line, index_line, memory_line, simple_line};
+use crate::lines::{Row, line_of, op_line};
+use crate::operands::{Text, operand_text};
 use crate::sink::Sink;
-use wc_ast::{BlockType, BodyRef, Entries, Entry, Instr, MemOp, Short};
+use wc_ast::{BodyRef, Brief, Entries, Entry, Instr, MemOp, Op};
 
 /// How many bytes a page has.
 pub const PAGE: usize = 512;
@@ -38,54 +39,31 @@ pub fn write_row(page: &mut [u8; PAGE], at: usize, row: &'static Row) -> usize
     at + row[23] as usize
 }
 
-/// Writes a natural number, behind a space.
+/// Writes the text of an operand, from a place on, and says where it ends. The whole row is written.
 #[inline(always)]
-fn write_number(page: &mut [u8; PAGE], at: usize, n: u8) -> usize
-    requires { at + 4 ≤ 512 }
-    ensures within { result ≤ at + 4 }
-    ensures put { Put (after (number n) ∷ []) (take at page.old) (take result page.new) }
+fn write_text(page: &mut [u8; PAGE], at: usize, text: &'static Text) -> usize
+    requires room { at + 16 ≤ 512 }
+    requires short { slice_index text.now 15 ≤ 15 }
+    ensures end { result ≡ at + slice_index text.now 15 }
+    ensures bytes { take result page.new ≡ take at page.old ++ told_text text.now }
 {
-    page[at] = b' ';
-    write_few_digits(page, at + 1, u32::from(n))
+    page[at..at + 16].copy_from_slice(text);
+    at + text[15] as usize
 }
 
-/// Writes a signed number, behind a space.
+/// Writes the line of a brief entry.
+// No branch depends on what the entry is, since it couldn't be foretold.
 #[inline(always)]
-fn write_integer(page: &mut [u8; PAGE], at: usize, n: i8) -> usize
-    requires { at + 5 ≤ 512 }
-    ensures within { result ≤ at + 5 }
-    ensures put { Put (after (integer n) ∷ []) (take at page.old) (take result page.new) }
-{
-    page[at] = b' ';
-    if n >= 0 {
-        return write_few_digits(page, at + 1, n as u32);
-    }
-    page[at + 1] = b'-';
-    write_few_digits(page, at + 2, u32::from(n.unsigned_abs()))
-}
-
-/// Writes the line of a short instruction.
-#[inline(always)]
-fn write_short(page: &mut [u8; PAGE], at: usize, short: Short) -> usize
-    requires { at + 48 ≤ 512 }
+fn write_brief(page: &mut [u8; PAGE], at: usize, brief: Brief) -> usize
+    requires room { at + 48 ≤ 512 }
+    requires low { brief.operand < 128 }
     ensures within { result ≤ 512 }
-    ensures put { Put (line_items (plain (instruction short))) (take at page.old) (take result page.new) }
+    ensures put { (entry : Entry) → brief_entry brief ≡ Some entry
+        → Put (line_items (mark entry)) (take at page.old) (take result page.new) }
 {
-    match short {
-        Short::Simple(op) => write_row(page, at, simple_line(op)),
-        Short::Index(op, index) => {
-            let end = write_row(page, at, index_line(op));
-            write_number(page, end, index)
-        }
-        Short::I32Const(value) => {
-            let end = write_row(page, at, b"\n    i32.const         \x0e");
-            write_integer(page, end, value)
-        }
-        Short::I64Const(value) => {
-            let end = write_row(page, at, b"\n    i64.const         \x0e");
-            write_integer(page, end, value)
-        }
-    }
+    let line = line_of(brief.opcode);
+    let end = write_row(page, at, line);
+    write_text(page, end, operand_text(line[22], brief.operand))
 }
 
 /// Writes the line of a load or a store of the natural alignment.
@@ -96,7 +74,7 @@ fn write_memory(page: &mut [u8; PAGE], at: usize, op: MemOp, offset: u8) -> usiz
     ensures put { Put (below 4 (word (memory op).name) ∷ offset_items offset)
         (take at page.old) (take result page.new) }
 {
-    let end = write_row(page, at, memory_line(op));
+    let end = write_row(page, at, op_line(Op::Mem(op)));
     if offset == 0 {
         return end;
     }
@@ -118,9 +96,9 @@ fn turn<S: Sink>(out: &mut S, page: &[u8; PAGE], at: usize) -> usize
     0
 }
 
-/// The lines of the short instructions up to the first entry that isn't one, and where the next line begins.
+/// The lines of the brief entries up to the first entry that isn't one, and where the next line begins.
 #[inline(always)]
-fn put_all_short<S: Sink>(
+fn put_all_brief<S: Sink>(
     out: &mut S,
     page: &mut [u8; PAGE],
     from: usize,
@@ -133,8 +111,8 @@ fn put_all_short<S: Sink>(
     ensures fewer { length entries.new ≤ length entries.old }
 {
     let mut at = from;
-    while let Some(short) = entries.next_short() {
-        let end = write_short(page, at, short);
+    while let Some(brief) = entries.next_brief() {
+        let end = write_brief(page, at, brief);
         at = turn(out, page, end);
     }
     at
@@ -151,14 +129,6 @@ fn put_behind<S: Sink>(out: &mut S, page: &[u8; PAGE], at: usize, entry: Entry<'
     put_entry(out, Place::Line, entry);
 }
 
-/// Whether a block has no type to put.
-#[inline(always)]
-fn is_empty(block_type: BlockType) -> bool
-    ensures { IsTrue result → block_type ≡ Empty }
-{
-    matches!(block_type, BlockType::Empty)
-}
-
 /// Puts the line of an entry, if it is short on the page, and says where the page's last line ends.
 #[inline(always)]
 fn put_line<S: Sink>(out: &mut S, page: &mut [u8; PAGE], at: usize, entry: Entry<'_>) -> usize
@@ -168,11 +138,6 @@ fn put_line<S: Sink>(out: &mut S, page: &mut [u8; PAGE], at: usize, entry: Entry
         (out.old, take at page.old) (out.new, take result page.new) }
 {
     match entry {
-        Entry::Else => write_row(page, at, b"\n    else              \x09"),
-        Entry::End => write_row(page, at, b"\n    end               \x08"),
-        Entry::Begin(kind, block_type) if is_empty(block_type) => {
-            write_row(page, at, head_line(kind))
-        }
         Entry::Plain(Instr::Mem(op, arg))
             if arg.align == op.natural_alignment() && arg.offset < 256 => {
             write_memory(page, at, op, arg.offset as u8)
@@ -191,11 +156,11 @@ pub fn put_lines<S: Sink>(out: &mut S, page: &mut [u8; PAGE], from: usize, body:
         (out.old, take from page.old) (out.new, []) }
 {
     let mut entries = body.entries();
-    let mut at = put_all_short(out, page, from, &mut entries);
+    let mut at = put_all_brief(out, page, from, &mut entries);
     while let Some(entry) = entries.next() {
         let end = put_line(out, page, at, entry);
         let next = turn(out, page, end);
-        at = put_all_short(out, page, next, &mut entries);
+        at = put_all_brief(out, page, next, &mut entries);
     }
     let end = write_row(page, at, b"\n  )                   \x04");
     out.put(&page[..end]);

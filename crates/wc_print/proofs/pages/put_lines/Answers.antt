@@ -6,10 +6,10 @@ use Rattle.wc_print.proofs.pages.put_lines.Goals as goal
 
 pub loop-entry-preserved : goal.loop-entry-preserved
 loop-entry-preserved g c = record {
-  room = c.put_all_short-at-in-Some.ensures.room;
+  room = c.put_all_brief-at-in-Some.ensures.room;
   page = search rules;
   puts =
-      leaves-then c.put_all_short-at-in-Some.ensures.puts
+      leaves-then c.put_all_brief-at-in-Some.ensures.puts
       (leaves-same c.turn-next.ensures.same
       (leaves-less c.put_line-end.ensures.put (rw c.in-Some.ensures.steps at c.loop-entry.invariant.puts)));
 }

@@ -1,10 +1,10 @@
 use Rattle.std.proofs.Common.{◌≡◌, ◌+◌, ◌≤◌, length, take}
 use Rattle.wc_print.specs.Going.{Behind}
 use Rattle.wc_print.specs.Inner.Places.{LeavesLines}
-use Rattle.wc_print.proofs.pages.put_all_short.Given as goal
+use Rattle.wc_print.proofs.pages.put_all_brief.Given as goal
 
-abbrev pub invariant-loop-short : goal.invariant-loop-short
-invariant-loop-short g l = record {
+abbrev pub invariant-loop-brief : goal.invariant-loop-brief
+invariant-loop-brief g l = record {
   room : l.at + 48 ≤ 512;
   page : length l.page ≡ 512;
   puts : LeavesLines (Behind g.S.Sink.Has) l.entries l.initial.entries (l.out, take l.at l.page)
@@ -12,5 +12,5 @@ invariant-loop-short g l = record {
   fewer : length l.entries ≤ length l.initial.entries;
 }
 
-abbrev pub decreases-loop-short : goal.decreases-loop-short
-decreases-loop-short g l = length l.entries
+abbrev pub decreases-loop-brief : goal.decreases-loop-brief
+decreases-loop-brief g l = length l.entries
