@@ -9,7 +9,7 @@ use crate::classes::{is_blank, is_idchar};
 use crate::elements::after_elements;
 use crate::fault::LexWhy;
 use crate::lines::after_line;
-use crate::names::after_name;
+use crate::names::{after_name, after_run_from};
 use crate::spaces::after_spaces;
 use crate::token::TokenKind;
 
@@ -88,22 +88,7 @@ fn after_comment(text: &[u8]) -> Option<&[u8]>
 fn after_run(text: &[u8]) -> &[u8]
     ensures { RunEnds text.now result.now }
 {
-    // Most bytes of a text pass here, so a round takes two.
-    let mut at = 0;
-    while at + 1 < text.len() {
-        if !is_idchar(text[at]) {
-            return &text[at..];
-        }
-        if !is_idchar(text[at + 1]) {
-            return &text[at + 1..];
-        }
-        at += 2;
-    }
-    // One byte may be left.
-    if at < text.len() && !is_idchar(text[at]) {
-        return &text[at..];
-    }
-    &text[text.len()..]
+    after_run_from(text, 0)
 }
 
 /// A parenthesis or a block comment.

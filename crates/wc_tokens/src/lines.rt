@@ -18,7 +18,8 @@ fn feeds_in_chunk(text: &[u8], at: usize) -> u64
         .to_bitmask()
 }
 
-/// How many bytes stand at the front of a text before a line feed. The last bytes, fewer than a chunk, aren't looked at.
+/// How many bytes stand at the front of a text before a line feed. The last bytes, fewer than a chunk, aren't looked
+/// at.
 #[inline(always)]
 fn count_in_line(text: &[u8]) -> usize
     ensures within { result ≤ length text.now }

@@ -1,4 +1,4 @@
-//! Identifiers.
+//! Identifiers, and other runs of idchars.
 
 ghost use Rattle.std.specs.Prelude.{◌≡◌, ◌+◌, ◌<◌, ◌≤◌, ℕ, true, length, map, slice_index};
 ghost use Rattle.std.specs.Simd.Lanes.{chunk, mask_l};
@@ -43,15 +43,37 @@ fn count_in_name(text: &[u8]) -> usize
     at
 }
 
+/// What follows a run of idchars, so many of which were seen.
+#[inline(always)]
+pub fn after_run_from(text: &[u8], seen: usize) -> &[u8]
+    requires within { seen ≤ length text.now }
+    requires idchars { (k : ℕ) → k < seen → IsIdchar (slice_index text.now k) }
+    ensures { RunEnds text.now result.now }
+{
+    // Most bytes of a text pass here, so a round takes two.
+    let mut at = seen;
+    while at + 1 < text.len() {
+        if !is_idchar(text[at]) {
+            return &text[at..];
+        }
+        if !is_idchar(text[at + 1]) {
+            return &text[at + 1..];
+        }
+        at += 2;
+    }
+    // One byte may be left.
+    if at < text.len() && !is_idchar(text[at]) {
+        return &text[at..];
+    }
+    &text[text.len()..]
+}
+
 /// What follows the run of idchars of an identifier.
 // It is apart, since most runs are words, which are shorter.
 #[inline(never)]
 pub fn after_name(text: &[u8]) -> &[u8]
     ensures { RunEnds text.now result.now }
 {
-    let mut at = count_in_name(text);
-    while at < text.len() && is_idchar(text[at]) {
-        at += 1;
-    }
-    &text[at..]
+    // The byte that ends the count may be an idchar too.
+    after_run_from(text, count_in_name(text))
 }

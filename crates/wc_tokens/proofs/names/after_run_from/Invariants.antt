@@ -1,7 +1,7 @@
 use Rattle.std.proofs.Common.{◌-◌, ◌≤◌, length, take}
 use Rattle.std.specs.List.{AllByRecursion}
 use Rattle.wc_tokens.specs.Standard.Lexemes.{IsIdchar}
-use Rattle.wc_tokens.proofs.heads.after_run.Given as goal
+use Rattle.wc_tokens.proofs.names.after_run_from.Given as goal
 
 abbrev pub invariant-loop-at : goal.invariant-loop-at
 invariant-loop-at l = (l.at ≤ length l.text) × AllByRecursion IsIdchar (take l.at l.text)
