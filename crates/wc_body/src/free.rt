@@ -7,9 +7,11 @@ ghost use Rattle.wc_body.specs.declared.instr.Instr.{Instr as AnInstr};
 ghost use Rattle.wc_body.specs.Standard.Nested.{plain};
 ghost use Rattle.wc_body.specs.Standard.Draft.{step};
 ghost use Rattle.wc_body.specs.Drafting.FreeEntries.{BeginsFree, AddsFree};
+ghost use Rattle.wc_body.specs.Drafting.FrontEntries.{AddsFront};
 
 use crate::builder::BodyBuilder;
 use crate::bytes::number::i32_at;
+use crate::front::is_long;
 use crate::instr::Instr;
 use wc_ops::{Op, OpByte};
 
@@ -80,6 +82,18 @@ impl BodyBuilder {
         Some(rest)
     }
 
+    /// Adds the entries that these bytes begin with, as `push_front` does, or none where the first one's integer is
+    /// long.
+    #[inline(always)]
+    fn push_shorter(&mut self, bytes: &[u8]) -> usize
+        ensures { AddsFront self.old self.new bytes.now result }
+    {
+        if is_long(bytes) {
+            return 0;
+        }
+        self.push_front(bytes)
+    }
+
     /// Adds the entries that these bytes begin with, as many as are usual and fit the memory at hand. Each is spelled
     /// as it is kept, but for an index or a constant of 32 bits, whose spelling may be any. Answers how many bytes they
     /// have. No end is added at which none is open.
@@ -88,7 +102,7 @@ impl BodyBuilder {
     {
         let mut rest = bytes;
         'runs: loop {
-            let count = self.push_front(rest);
+            let count = self.push_shorter(rest);
             rest = &rest[count..];
             let Some(behind) = self.push_free(rest) else {
                 break;

@@ -5,11 +5,13 @@ ghost use Rattle.wc_leb128.specs.Writing.Bytes.{unsigned_bytes};
 ghost use Rattle.wc_body.specs.Standard.ValueBytes.{Fits32};
 ghost use Rattle.wc_body.specs.Drafting.AtFront.{NotesIndex, NotesAccess, NotesBegin, NotesPlain, Notes};
 ghost use Rattle.wc_body.specs.Drafting.AtFront.{AreLast, IsSplit, IsBare, IsWholeType};
+ghost use Rattle.wc_body.specs.Drafting.AtFront.{NotesMark, NotesMarks, NotesUsual};
+ghost use Rattle.wc_body.specs.Writing.EntryBytes.{opening_bytes};
 
 use crate::body::NESTING_LIMIT;
 use crate::builder::{Part, first_part_of};
 use crate::entry::Kind;
-use crate::light::light_front;
+use crate::light::{is_alone, light_front};
 use crate::needs::Needs;
 use wc_ops::{IndexOp, MemOp, Op, OpByte, SimpleOp};
 
@@ -199,7 +201,77 @@ fn instr_front<'a>(bytes: &'a [u8], needs: &mut Needs, parts: &Vec<Part>) -> Opt
     }
 }
 
-/// Notes the entry that these bytes begin with, where it is a usual one. What follows it is answered.
+/// What this byte opens, where it is the opcode of a block, a loop or an if.
+#[inline(always)]
+fn kind_of(byte: u8) -> Option<Kind>
+    ensures { IfSome result (λ kind. opening_bytes kind ≡ byte ∷ []) }
+{
+    match byte {
+        0x02 => Some(Kind::Block),
+        0x03 => Some(Kind::Loop),
+        0x04 => Some(Kind::If),
+        _ => None,
+    }
+}
+
+/// Notes the block, the loop, the if or the end that these bytes begin with, where it is a usual one. What follows it
+/// is answered.
+#[inline(always)]
+fn mark_front<'a>(bytes: &'a [u8], parts: &mut Vec<Part>) -> Option<&'a [u8]>
+    ensures some { IfSome result (λ rest. NotesMark bytes.now rest.now parts.old.items parts.new.items) }
+    ensures none { IsNone result → parts.new.items ≡ parts.old.items }
+{
+    let (byte, rest) = bytes.split_first()?;
+    if *byte > 0x0b {
+        return None;
+    }
+    if *byte == 0x0b {
+        let _ = parts.pop()?;
+        return Some(rest);
+    }
+    let kind = kind_of(*byte)?;
+    begin_front(kind, rest, parts)
+}
+
+/// Notes the blocks, loops, ifs and ends that these bytes begin with, one after the other. What follows these is
+/// answered.
+#[inline(always)]
+fn after_marks<'a>(bytes: &'a [u8], parts: &mut Vec<Part>) -> &'a [u8]
+    ensures { NotesMarks bytes.now result.now parts.old.items parts.new.items }
+{
+    let mut rest = bytes;
+    'marks: loop {
+        let Some(behind) = mark_front(rest, parts) else {
+            break;
+        };
+        rest = behind;
+    }
+    rest
+}
+
+/// Whether four bytes of 128 or more stand behind the opcode that these bytes begin with, and may be of an integer that
+/// is longer than a usual one.
+#[inline(always)]
+pub(crate) fn is_long(bytes: &[u8]) -> bool {
+    bytes.len() >= 5 && bytes[1] & bytes[2] & bytes[3] & bytes[4] >= 128 && !is_alone(bytes[0])
+}
+
+/// Notes the instruction that these bytes begin with, where it is a usual one. What follows it is answered.
+// A long integer is seen without a call.
+#[inline(always)]
+fn shorter_front<'a>(bytes: &'a [u8], needs: &mut Needs, parts: &Vec<Part>) -> Option<&'a [u8]>
+    ensures some { IfSome result (λ rest.
+        Notes bytes.now rest.now needs.old needs.new parts.now.items parts.now.items) }
+    ensures none { IsNone result → needs.new ≡ needs.old }
+{
+    if is_long(bytes) {
+        return None;
+    }
+    instr_front(bytes, needs, parts)
+}
+
+/// Notes the entry that these bytes begin with, where it is a usual one. Behind a block, a loop, an if or an end, those
+/// that follow are noted too, since they often stand in a row. What follows all of them is answered.
 #[inline(always)]
 pub(crate) fn usual_front<'a>(
     bytes: &'a [u8],
@@ -207,23 +279,17 @@ pub(crate) fn usual_front<'a>(
     parts: &mut Vec<Part>,
 ) -> Option<&'a [u8]>
     ensures some { IfSome result (λ rest.
-        Notes bytes.now rest.now needs.old needs.new parts.old.items parts.new.items) }
+        NotesUsual bytes.now rest.now needs.old needs.new parts.old.items parts.new.items) }
     ensures none { IsNone result → (needs.new ≡ needs.old) × (parts.new.items ≡ parts.old.items) }
 {
-    let (byte, rest) = bytes.split_first()?;
-    match *byte {
-        0x02 => begin_front(Kind::Block, rest, parts),
-        0x03 => begin_front(Kind::Loop, rest, parts),
-        0x04 => begin_front(Kind::If, rest, parts),
-        0x0b => {
-            let _ = parts.pop()?;
-            Some(rest)
-        }
-        _ => instr_front(bytes, needs, parts),
+    match mark_front(bytes, parts) {
+        Some(rest) => Some(after_marks(rest, parts)),
+        None => shorter_front(bytes, needs, parts),
     }
 }
 
-/// The same. Most entries are light, so they are taken with no look at their kind.
+/// Notes the entry that these bytes begin with, where it is a usual one. Most are light, so they are taken with no look
+/// at their kind. What follows it is answered.
 #[inline(always)]
 pub(crate) fn entry_front<'a>(
     bytes: &'a [u8],
@@ -234,8 +300,11 @@ pub(crate) fn entry_front<'a>(
         Notes bytes.now rest.now needs.old needs.new parts.old.items parts.new.items) }
     ensures none { IsNone result → (needs.new ≡ needs.old) × (parts.new.items ≡ parts.old.items) }
 {
-    match light_front(bytes, parts.len(), needs) {
+    if let Some(rest) = light_front(bytes, parts.len(), needs) {
+        return Some(rest);
+    }
+    match mark_front(bytes, parts) {
         Some(rest) => Some(rest),
-        None => usual_front(bytes, needs, parts),
+        None => instr_front(bytes, needs, parts),
     }
 }

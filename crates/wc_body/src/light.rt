@@ -123,6 +123,12 @@ fn light_of(opcode: u8) -> &'static Light
     &ROWS[opcode as usize]
 }
 
+/// Whether the light entries of this opcode have no other byte.
+#[inline(always)]
+pub(crate) fn is_alone(opcode: u8) -> bool {
+    light_of(opcode).length == 1
+}
+
 /// Notes what a light entry needs, behind whose opcode this byte stands.
 #[inline(always)]
 fn note_light(needs: &mut Needs, light: &Light, second: u8)

@@ -25,6 +25,7 @@ use Rattle.wc_body.specs.declared.builder.Part.{Part}
 use Rattle.wc_body.specs.declared.needs.Needs.{Needs}
 use Rattle.wc_body.specs.Writing.EntryBytes.{opening_bytes}
 use Rattle.wc_body.specs.Drafting.AtFront.{IsSpelled, AreLast, IsSplit, NotesIndex, NotesAccess, NotesPlain, NotesBegin, Opens, Notes}
+use Rattle.wc_body.specs.Drafting.AtFront.{NotesMark}
 use Rattle.wc_body.proofs.Drafts.BuilderLemmas.{begin-needs}
 
 -- ---- integers
@@ -148,12 +149,6 @@ module _ (x y : List ℕ) (b : ℕ) (s t : Needs) (old new : List Part) (e : x �
   index-notes op is k within (Some rest) h =
       (Plain (Index op h.0), rw (e, h.1, is) refl, h.2, rw (← within) h.3, refl)
 
-  pub begin-notes : (kind : Kind) → opening_bytes kind ≡ b ∷ [] → (r : Following)
-      → IfSome r (λ rest. NotesBegin kind y rest.now old new) → IfSome r (λ rest. Notes x rest.now s s old new)
-  begin-notes kind is None h = tt
-  begin-notes kind is (Some rest) h =
-      (Begin kind h.0, rw (e, h.1, is) refl, h.2, sym (h.3 s) ∙ begin-needs s (length old) kind h.0, (h.4, h.5))
-
   pub i32-notes : b ≡ 0x41 → (r : Following) → IfSome r (λ rest. IsSplit y rest.now)
       → IfSome r (λ rest. Notes x rest.now s s old old)
   i32-notes is None h = tt
@@ -174,6 +169,14 @@ pub access-notes : (b : ℕ) (x : List ℕ) (s t : Needs) (op : MemOp) → (row 
     → IfSome r (λ rest. NotesAccess op x rest.now s t) → IfSome r (λ rest. NotesPlain b x rest.now s t)
 access-notes b x s t op is None h = tt
 access-notes b x s t op is (Some rest) h = (Mem op h.0, rw (h.1, is) refl, h.2, λ k. h.3)
+
+-- a block, a loop or an if, by its byte
+pub begin-marks : (x y : List ℕ) (b : ℕ) (old new : List Part) → x ≡ b ∷ y → (kind : Kind)
+    → opening_bytes kind ≡ b ∷ [] → (r : Following) → IfSome r (λ rest. NotesBegin kind y rest.now old new)
+    → IfSome r (λ rest. NotesMark x rest.now old new)
+begin-marks x y b old new e kind is None h = tt
+begin-marks x y b old new e kind is (Some rest) h =
+    λ s. (Begin kind h.0, rw (e, h.1, is) refl, h.2, sym (h.3 s) ∙ begin-needs s (length old) kind h.0, (h.4, h.5))
 
 -- one that is open no longer was the last
 pub end-opens : (old new : List Part) (p : Part) → old ≡ new ++ p ∷ [] → Opens End old new

@@ -15,12 +15,13 @@ use Rattle.wc_body.specs.declared.needs.Needs.{Needs}
 use Rattle.wc_body.specs.Standard.Nested.{Mark, nesting_limit}
 use Rattle.wc_body.specs.Standard.Draft.{Draft, step, steps, may_come, begins, is_open}
 use Rattle.wc_body.specs.Standard.Entries.{mark, marks, begin_of, drafted}
-use Rattle.wc_body.specs.Standard.Needed.{with_mark}
+use Rattle.wc_body.specs.Standard.Needed.{nothing, with_mark}
 use Rattle.wc_body.specs.Writing.EntryBytes.{entry_bytes, FitsEntry}
 use Rattle.wc_body.specs.Reading.Unpacked.{packed, unpacked}
 use Rattle.wc_body.specs.Drafting.OpenParts.{part_of, part_in}
 use Rattle.wc_body.specs.Drafting.PackedBody.{IsStarted}
 use Rattle.wc_body.specs.Drafting.AtFront.{NotesInstr, NotesMany, NotesRun, Opens, Notes}
+use Rattle.wc_body.specs.Drafting.AtFront.{NotesMark, NotesManyMarks, NotesUsual}
 use Rattle.wc_body.specs.Drafting.FrontEntries.{AllStand, AddsFront}
 use Rattle.wc_body.proofs.Packing.PackedLemmas.{packed-append, fits-append}
 use Rattle.wc_body.proofs.Packing.Unpacking.{has-byte}
@@ -158,6 +159,31 @@ many-shorter (suc n) k rest left s t (y, u, before, last) =
 
 pub run-shorter : (k : ℕ) (rest left : List ℕ) (s t : Needs) → NotesRun k rest left s t → length left ≤ length rest
 run-shorter k rest left s t h = many-shorter h.0 k rest left s t h.1
+
+-- ---- a usual entry, and such as need no more
+
+marks-more : (n : ℕ) (x : List ℕ) (d : Draft Instr BlockType) (bytes rest left : List ℕ) (old new : List Part) (s : Needs)
+    → Fronted x d bytes rest old s → NotesManyMarks n rest left old new → Fronted x d bytes left new s
+marks-more zero x d bytes rest left old new s f h = rw (h.0, h.1) f
+marks-more (suc n) x d bytes rest left old new s f (y, parts, before, last) =
+    fronted-more x d bytes y left parts new s s (marks-more n x d bytes rest y old parts s f before) (last s)
+
+pub fronted-usual : (x : List ℕ) (d : Draft Instr BlockType) (bytes rest left : List ℕ) (old new : List Part) (s t : Needs)
+    → Fronted x d bytes rest old s → NotesUsual rest left s t old new → Fronted x d bytes left new t
+fronted-usual x d bytes rest left old new s t f (y, parts, first, more) =
+    marks-more more.0 x d bytes y left parts new t (fronted-more x d bytes rest y old parts s t f first) more.1
+
+marks-shorter : (n : ℕ) (rest left : List ℕ) (old new : List Part) → NotesManyMarks n rest left old new
+    → length left ≤ length rest
+marks-shorter zero rest left old new h = omega (arith, ap length h.0)
+marks-shorter (suc n) rest left old new (y, parts, before, last) =
+    let one = last nothing in
+    omega (arith, marks-shorter n rest y old parts before, fronted-shorter y left one.0 one.1)
+
+pub usual-shorter : (rest left : List ℕ) (old new : List Part) (s t : Needs) → NotesUsual rest left s t old new
+    → length left < length rest
+usual-shorter rest left old new s t (y, parts, first, more) =
+    omega (arith, marks-shorter more.0 y left parts new more.1, fronted-shorter rest y first.0 first.1)
 
 -- what is added of so many bytes at most
 module _ (x : List ℕ) (d : Draft Instr BlockType) (bytes : List ℕ) (most : ℕ) (rest : List ℕ) (parts : List Part)

@@ -90,3 +90,23 @@ Opens End old new = (k : ℕ) × (k + 1 ≡ length old) × (new ≡ take k old)
 abbrev pub Notes : List ℕ → List ℕ → Needs → Needs → List Part → List Part → Type 0
 Notes x rest s t old new =
     (e : Entry) × (x ≡ entry_bytes e ++ rest) × FitsEntry e × (t ≡ with_mark s (length old) (mark e)) × Opens e old new
+
+-- whatever was needed before, the bytes begin with an entry that needs no more, and it was noted what is open behind it
+abbrev pub NotesMark : List ℕ → List ℕ → List Part → List Part → Type 0
+NotesMark x rest old new = (s : Needs) → Notes x rest s s old new
+
+-- the same of so many, one behind the other
+abbrev pub NotesManyMarks : ℕ → List ℕ → List ℕ → List Part → List Part → Type 0
+NotesManyMarks zero x rest old new = (rest ≡ x) × (new ≡ old)
+NotesManyMarks (suc n) x rest old new =
+    (y : List ℕ) × (parts : List Part) × NotesManyMarks n x y old parts × NotesMark y rest parts new
+
+-- the same of as many as there are
+abbrev pub NotesMarks : List ℕ → List ℕ → List Part → List Part → Type 0
+NotesMarks x rest old new = (n : ℕ) × NotesManyMarks n x rest old new
+
+-- the bytes begin with an entry, and as many that need no more follow it; it was noted what they need, and what is open
+-- behind them
+abbrev pub NotesUsual : List ℕ → List ℕ → Needs → Needs → List Part → List Part → Type 0
+NotesUsual x rest s t old new =
+    (y : List ℕ) × (parts : List Part) × Notes x y s t old parts × NotesMarks y rest parts new

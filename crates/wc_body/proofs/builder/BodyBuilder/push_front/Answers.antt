@@ -1,6 +1,6 @@
 use Rattle.std.proofs.Common.{◌≡◌, ◌<◌, length, refl, arith, rules}
-use Rattle.wc_body.proofs.Drafts.FrontRun.{fronted-none, fronted-more, fronted-run, fronted-length, fronted-shorter, fronted-room}
-use Rattle.wc_body.proofs.Drafts.FrontRun.{fronted-kept, fronted-added, run-shorter}
+use Rattle.wc_body.proofs.Drafts.FrontRun.{fronted-none, fronted-usual, fronted-run, fronted-length, fronted-room}
+use Rattle.wc_body.proofs.Drafts.FrontRun.{fronted-kept, fronted-added, run-shorter, usual-shorter}
 use Rattle.wc_body.proofs.builder.BodyBuilder.push_front.Goals as goal
 
 pub entries-init : goal.entries-init
@@ -11,7 +11,7 @@ pub entries-smaller : goal.entries-smaller
 entries-smaller c =
     let h = c.in-Some.ensures.some in
     let run = run-shorter _ c.entries.rest.now c.after_light-rest.result.now _ _ c.after_light-rest.ensures in
-    let last : length c.in-Some.behind.now < length c.after_light-rest.result.now = fronted-shorter _ _ h.0 h.1 in
+    let last : length c.in-Some.behind.now < length c.after_light-rest.result.now = usual-shorter _ _ _ _ _ _ h in
     let shorter : length c.in-Some.behind.now < length c.entries.rest.now = omega (arith, run, last) in
     shorter
 
@@ -20,7 +20,7 @@ entries-preserved c =
     let i = c.entries.invariant in
     let open_ : c.len-in-entries.result ≡ length c.entries.self-inside.parts.items = search rules in
     let run = fronted-run _ _ _ _ _ _ _ _ i.0 (rw open_ at c.after_light-rest.ensures) in
-    (fronted-more _ _ _ _ _ _ _ _ _ run c.in-Some.ensures.some, i.1, i.2)
+    (fronted-usual _ _ _ _ _ _ _ _ _ run c.in-Some.ensures.some, i.1, i.2)
 
 pub overflow_sub-count : goal.overflow_sub-count
 overflow_sub-count c =
