@@ -1,7 +1,7 @@
 //! Light entries: those whose integers have one byte each, and that need no label beyond the enclosing blocks and no
 //! alignment above the width of the access. What is noted of one is looked up by its opcode.
 
-ghost use Rattle.std.specs.Prelude.{◌≡◌, IfSome, IsNone};
+ghost use Rattle.std.specs.Prelude.{◌≡◌, false, IfSome, IsNone};
 ghost use Rattle.wc_body.specs.Drafting.AtFront.{NotesInstr, NotesRun};
 ghost use Rattle.wc_body.specs.Drafting.LightRows.{light_at, with_light};
 
@@ -19,7 +19,7 @@ struct Light {
     third: u8,
     // All bits where the byte behind the opcode is a label, and none elsewhere.
     label: u8,
-    // Whether a memory is needed.
+    // Whether a memory is needed, which the length tells too.
     memory: bool,
 }
 
@@ -129,17 +129,19 @@ pub(crate) fn is_alone(opcode: u8) -> bool {
     light_of(opcode).length == 1
 }
 
-/// Notes what a light entry needs, behind whose opcode this byte stands.
+/// Notes what a light entry of two bytes needs, of which this one stands behind the opcode.
 #[inline(always)]
-fn note_light(needs: &mut Needs, light: &Light, second: u8)
+fn note_pair(needs: &mut Needs, light: &Light, second: u8)
+    requires { light.now.memory ≡ false }
     ensures { needs.new ≡ with_light needs.old light.now second }
 {
     let locals = (u32::from(second) + 1).min(u32::from(light.locals));
     needs.locals = needs.locals.max(locals);
-    needs.memory = needs.memory || light.memory;
 }
 
 /// Notes the light entry that these bytes begin with, which so many blocks enclose. What follows it is answered.
+// The way branches by how many bytes the entry has: where that can be foretold, the next one is looked up before this
+// one's row is there. Those of two bytes are the most.
 #[inline(always)]
 pub(crate) fn light_front<'a>(
     bytes: &'a [u8],
@@ -154,15 +156,25 @@ pub(crate) fn light_front<'a>(
     }
     let light = light_of(bytes[0]);
     let second = bytes[1];
-    if second >= light.second || bytes[2] >= light.third {
+    if second >= light.second {
         return None;
     }
-    // A label beyond the enclosing blocks is noted elsewhere. This branch goes the same way at each kind of entry.
-    if enclosing < usize::from(second & light.label) {
+    if light.length == 2 {
+        // A label beyond the enclosing blocks is noted elsewhere.
+        if enclosing < usize::from(second & light.label) {
+            return None;
+        }
+        note_pair(needs, light, second);
+        return Some(&bytes[2..]);
+    }
+    if light.length == 1 {
+        return Some(&bytes[1..]);
+    }
+    if bytes[2] >= light.third {
         return None;
     }
-    note_light(needs, light, second);
-    Some(&bytes[usize::from(light.length)..])
+    needs.memory = true;
+    Some(&bytes[3..])
 }
 
 /// Notes the light entries that these bytes begin with, which so many blocks enclose, one after the other. What follows

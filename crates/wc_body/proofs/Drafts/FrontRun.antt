@@ -21,7 +21,7 @@ use Rattle.wc_body.specs.Reading.Unpacked.{packed, unpacked}
 use Rattle.wc_body.specs.Drafting.OpenParts.{part_of, part_in}
 use Rattle.wc_body.specs.Drafting.PackedBody.{IsStarted}
 use Rattle.wc_body.specs.Drafting.AtFront.{NotesInstr, NotesMany, NotesRun, Opens, Notes}
-use Rattle.wc_body.specs.Drafting.AtFront.{NotesMark, NotesManyMarks, NotesUsual}
+use Rattle.wc_body.specs.Drafting.AtFront.{NotesManyMarks, NotesUsual}
 use Rattle.wc_body.specs.Drafting.FrontEntries.{AllStand, AddsFront}
 use Rattle.wc_body.proofs.Packing.PackedLemmas.{packed-append, fits-append}
 use Rattle.wc_body.proofs.Packing.Unpacking.{has-byte}

@@ -1,6 +1,6 @@
 -- Light entries: the table of them, and what is noted of one.
 use Rattle.std.proofs.Common.{◌≡◌, ℕ, zero, suc, ◌+◌, ◌<◌, ◌≤◌, true, false, ◌||◌, nat_lt, max, min, List, [], ◌∷◌}
-use Rattle.std.proofs.Common.{◌++◌, length, get_or, drop, bit_and, refl, sym, ap, ◌∙◌, arith, add-zero, zero-add}
+use Rattle.std.proofs.Common.{◌⊎◌, inl, inr, ◌++◌, length, get_or, drop, bit_and, refl, sym, ap, ◌∙◌, arith, add-zero, zero-add}
 use Rattle.std.proofs.Math.Bool.{or-false, or-true}
 use Rattle.std.proofs.lemmas.Bool.Decides.{nat_tests}
 use Rattle.std.proofs.lemmas.Nat.{and_mask}
@@ -54,6 +54,12 @@ row-is b d lt = rw table-is at (row-from 0 256 b d lt) ∙ ap light_at (zero-add
 
 -- ---- what is noted
 
+-- nothing that isn't needed is noted
+nothing-noted : (b : ℕ) (s : Needs) (r : Light) → r.locals ≡ 0 → r.memory ≡ false → with_light s r b ≡ s
+nothing-noted b s r locals memory =
+    let same : max s.locals (min (b + 1) 0) ≡ s.locals = omega arith in
+    rw (locals, memory, same, or-false s.memory) refl
+
 module _ (k b c : ℕ) (y : List ℕ) (s : Needs) where
   -- the entry of this instruction was noted
   abbrev IsNoted : Op → Type 0
@@ -64,13 +70,11 @@ module _ (k b c : ℕ) (y : List ℕ) (s : Needs) where
   -- these bytes may stand behind the opcode in a light entry
   abbrev IsLight : Op → Type 0
   IsLight op =
-      (b < (op_light op).second) × (c < (op_light op).third) × (bit_and b (op_light op).label ≤ k)
+      (b < (op_light op).second) × ((op_light op).length ≡ 3 → c < (op_light op).third)
+      × ((op_light op).length ≡ 2 → bit_and b (op_light op).label ≤ k)
 
-  -- nothing that isn't needed is noted
   none-noted : (r : Light) → r.locals ≡ 0 → r.memory ≡ false → with_light s r b ≡ s
-  none-noted r locals memory =
-      let same : max s.locals (min (b + 1) 0) ≡ s.locals = omega arith in
-      rw (locals, memory, same, or-false s.memory) refl
+  none-noted r locals memory = nothing-noted b s r locals memory
 
   simple-noted : (op : SimpleOp) → IsLight (ops.Simple op) → IsNoted (ops.Simple op)
   simple-noted MemorySize h = absurd (omega (arith, h.0))
@@ -95,8 +99,8 @@ module _ (k b c : ℕ) (y : List ℕ) (s : Needs) where
   index-bytes op lt = rw (unsigned_bytes-low b lt) refl
 
   index-noted : (op : IndexOp) → IsLight (ops.Index op) → IsNoted (ops.Index op)
-  index-noted Br h = (Index Br b, index-bytes Br h.0, omega (arith, h.0), label-noted h.0 h.2)
-  index-noted BrIf h = (Index BrIf b, index-bytes BrIf h.0, omega (arith, h.0), label-noted h.0 h.2)
+  index-noted Br h = (Index Br b, index-bytes Br h.0, omega (arith, h.0), label-noted h.0 (h.2 refl))
+  index-noted BrIf h = (Index BrIf b, index-bytes BrIf h.0, omega (arith, h.0), label-noted h.0 (h.2 refl))
   index-noted LocalGet h = (Index LocalGet b, index-bytes LocalGet h.0, omega (arith, h.0), local-noted h.0)
   index-noted LocalSet h = (Index LocalSet b, index-bytes LocalSet h.0, omega (arith, h.0), local-noted h.0)
   index-noted LocalTee h = (Index LocalTee b, index-bytes LocalTee h.0, omega (arith, h.0), local-noted h.0)
@@ -116,8 +120,8 @@ module _ (k b c : ℕ) (y : List ℕ) (s : Needs) where
       let yes : (s.memory || true) ≡ true = or-true s.memory in
       let within : nat_lt (memory op).alignment b ≡ false = grind (arith, nat_tests, h.0) in (
         Mem op record { align = b; offset = c },
-        rw (unsigned_bytes-low b low, unsigned_bytes-low c h.1) refl,
-        (omega (arith, low), omega (arith, h.1)),
+        rw (unsigned_bytes-low b low, unsigned_bytes-low c (h.1 refl)) refl,
+        (omega (arith, low), omega (arith, h.1 refl)),
         rw (same, yes, within, or-false s.over_aligned) refl,
       )
 
@@ -139,7 +143,7 @@ module _ (k b c : ℕ) (y : List ℕ) (s : Needs) where
 
   -- by the meaning of the opcode
   meant-noted : (a : ℕ) (m : OpByte) → IsOpByte a m → (r : Light) → r ≡ meant_light m
-      → b < r.second → c < r.third → bit_and b r.label ≤ k
+      → b < r.second → (r.length ≡ 3 → c < r.third) → (r.length ≡ 2 → bit_and b r.label ≤ k)
       → NotesInstr k (a ∷ b ∷ c ∷ y) (drop r.length (a ∷ b ∷ c ∷ y)) s (with_light s r b)
   meant-noted a (Known op) is r e second third within =
       let byte = (is.known op).0 refl in
@@ -147,27 +151,63 @@ module _ (k b c : ℕ) (y : List ℕ) (s : Needs) where
   meant-noted a Float is r e second third within = absurd (omega (arith, rw e at second))
   meant-noted a Unknown is r e second third within = absurd (omega (arith, rw e at second))
 
--- an entry has three bytes at most
-simple-length : (op : SimpleOp) → (op_light (ops.Simple op)).length ≤ 3
-simple-length Nop = omega arith
-simple-length _ = omega arith
+-- none is light, or all have one byte and need nothing, or two and no memory, or three and a memory alone
+abbrev pub IsKind : Light → Type 0
+IsKind r =
+    (r.second ≡ 0) ⊎ (((r.length ≡ 1) × (r.locals ≡ 0) × (r.memory ≡ false))
+    ⊎ (((r.length ≡ 2) × (r.memory ≡ false)) ⊎ ((r.length ≡ 3) × (r.locals ≡ 0) × (r.memory ≡ true))))
 
-index-length : (op : IndexOp) → (op_light (ops.Index op)).length ≤ 3
-index-length Br = omega arith
-index-length _ = omega arith
+simple-kind : (op : SimpleOp) → IsKind (op_light (ops.Simple op))
+simple-kind MemorySize = inl refl
+simple-kind MemoryGrow = inl refl
+simple-kind Nop = inr (inl (refl, refl, refl))
+simple-kind _ = inr (inl (refl, refl, refl))
 
-meant-length : (m : OpByte) → (meant_light m).length ≤ 3
-meant-length (Known (ops.Simple op)) = simple-length op
-meant-length (Known (ops.Index op)) = index-length op
-meant-length _ = omega arith
+index-kind : (op : IndexOp) → IsKind (op_light (ops.Index op))
+index-kind Call = inl refl
+index-kind GlobalGet = inl refl
+index-kind GlobalSet = inl refl
+index-kind Br = inr (inr (inl (refl, refl)))
+index-kind _ = inr (inr (inl (refl, refl)))
 
-pub light-length : (b : ℕ) → (light_at b).length ≤ 3
+meant-kind : (m : OpByte) → IsKind (meant_light m)
+meant-kind (Known (ops.Simple op)) = simple-kind op
+meant-kind (Known (ops.Index op)) = index-kind op
+meant-kind (Known (ops.Mem op)) = inr (inr (inr (refl, refl, refl)))
+meant-kind (Known ops.I32Const) = inr (inr (inl (refl, refl)))
+meant-kind (Known ops.I64Const) = inr (inr (inl (refl, refl)))
+meant-kind _ = inl refl
+
+pub light-kind : (b : ℕ) → IsKind (light_at b)
 unfolding light_at
-light-length b = meant-length (meaning b)
+light-kind b = meant-kind (meaning b)
+
+-- what is noted of one, by how many bytes it has
+pub pair-memory : (r : Light) (b : ℕ) → IsKind r → b < r.second → r.length ≡ 2 → r.memory ≡ false
+pair-memory r b (inl none) lt two = absurd (omega (arith, lt, none))
+pair-memory r b (inr (inl one)) lt two = absurd (omega (arith, one.0, two))
+pair-memory r b (inr (inr (inl h))) lt two = h.1
+pair-memory r b (inr (inr (inr three))) lt two = absurd (omega (arith, three.0, two))
+
+pub bare-needs : (r : Light) (b : ℕ) (s : Needs) → IsKind r → b < r.second → r.length ≡ 1 → s ≡ with_light s r b
+bare-needs r b s (inl none) lt one = absurd (omega (arith, lt, none))
+bare-needs r b s (inr (inl h)) lt one = sym (nothing-noted b s r h.1 h.2)
+bare-needs r b s (inr (inr (inl two))) lt one = absurd (omega (arith, two.0, one))
+bare-needs r b s (inr (inr (inr three))) lt one = absurd (omega (arith, three.0, one))
+
+pub access-needs : (r : Light) (b : ℕ) (s : Needs) → IsKind r → b < r.second → (r.length ≡ 2 → ⊥) → (r.length ≡ 1 → ⊥)
+    → (r.length ≡ 3) × (record s { memory = true } ≡ with_light s r b)
+access-needs r b s (inl none) lt two one = absurd (omega (arith, lt, none))
+access-needs r b s (inr (inl h)) lt two one = absurd (one h.0)
+access-needs r b s (inr (inr (inl h))) lt two one = absurd (two h.0)
+access-needs r b s (inr (inr (inr h))) lt two one =
+    let same : max s.locals (min (b + 1) 0) ≡ s.locals = omega arith in
+    (h.0, rw (h.1, h.2, same, or-true s.memory) refl)
 
 -- whatever lies behind it follows
 pub light-noted : (x : List ℕ) (k : ℕ) (s t : Needs) (r : Light) → 3 ≤ length x → r ≡ light_at (get_or x 0 0)
-    → get_or x 1 0 < r.second → get_or x 2 0 < r.third → bit_and (get_or x 1 0) r.label ≤ k
+    → get_or x 1 0 < r.second → (r.length ≡ 3 → get_or x 2 0 < r.third)
+    → (r.length ≡ 2 → bit_and (get_or x 1 0) r.label ≤ k)
     → t ≡ with_light s r (get_or x 1 0) → NotesInstr k x (drop r.length x) s t
 unfolding light_at
 light-noted [] k s t r le e second third within is = absurd (omega arith)

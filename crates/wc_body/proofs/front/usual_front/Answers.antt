@@ -1,4 +1,3 @@
-use Rattle.std.proofs.Common.{refl}
 use Rattle.wc_body.proofs.front.usual_front.Goals as goal
 
 pub returns-in-Some-clause-some : goal.returns-in-Some-clause-some

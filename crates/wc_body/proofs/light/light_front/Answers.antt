@@ -1,26 +1,37 @@
-use Rattle.std.proofs.Common.{◌≤◌, length, get_or, arith, rules}
+use Rattle.std.proofs.Common.{get_or, arith}
 use Rattle.std.proofs.lemmas.List.{take_rest}
-use Rattle.wc_body.proofs.Drafts.LightLemmas.{light-length, light-noted}
+use Rattle.wc_body.proofs.Drafts.LightLemmas.{IsKind, light-kind, light-noted, pair-memory, bare-needs, access-needs}
 use Rattle.wc_body.proofs.light.light_front.Goals as goal
 
-pub slice_bounds-result-count : goal.slice_bounds-result-count
-slice_bounds-result-count c =
-    let short = light-length (get_or c.args.bytes.now 0 0) in
-    let within : c.light_of-light.result.now.length ≤ 3 = rw c.light_of-light.ensures short in
-    omega (arith, within, c.from-2.ensures, c.if-bytes-lt3.false)
+pub note_pair-requires : goal.note_pair-requires
+note_pair-requires c =
+    let kind : IsKind c.light_of-light.result.now = rw c.light_of-light.ensures (light-kind (get_or c.args.bytes.now 0 0)) in
+    pair-memory c.light_of-light.result.now _ kind c.if-second-light.false c.if-light-eq2.true
 
-pub slice_bounds-result-start : goal.slice_bounds-result-start
-slice_bounds-result-start c =
-    let short = light-length (get_or c.args.bytes.now 0 0) in
-    let few : c.light_of-light.result.now.length ≤ 3 = rw c.light_of-light.ensures short in
-    let within : c.from-2.result ≤ length c.args.bytes.now =
-    omega (arith, few, c.from-2.ensures, c.if-bytes-lt3.false) in
-    search rules
+pub returns-then-light-eq2-clause-some : goal.returns-then-light-eq2-clause-some
+returns-then-light-eq2-clause-some c =
+    let light = c.light_of-light.result.now in
+    let within = rw c.from.ensures at c.if-enclosing-from.false in
+    let noted = light-noted c.args.bytes.now c.args.enclosing _ _ light c.if-bytes-lt3.false c.light_of-light.ensures
+    c.if-second-light.false (λ three. absurd (omega (arith, three, c.if-light-eq2.true))) (λ two. within)
+    c.note_pair.ensures in
+    rw (take_rest c.args.bytes.now 2) (rw c.if-light-eq2.true at noted)
+
+pub returns-then-light-eq1-clause-some : goal.returns-then-light-eq1-clause-some
+returns-then-light-eq1-clause-some c =
+    let light = c.light_of-light.result.now in
+    let kind : IsKind c.light_of-light.result.now = rw c.light_of-light.ensures (light-kind (get_or c.args.bytes.now 0 0)) in
+    let same = bare-needs light _ c.args.needs.now kind c.if-second-light.false c.if-light-eq1.true in
+    let noted = light-noted c.args.bytes.now c.args.enclosing _ _ light c.if-bytes-lt3.false c.light_of-light.ensures
+    c.if-second-light.false (λ three. absurd (omega (arith, three, c.if-light-eq1.true)))
+    (λ two. absurd (c.if-light-eq2.false two)) same in
+    rw (take_rest c.args.bytes.now 1) (rw c.if-light-eq1.true at noted)
 
 pub returns-clause-some : goal.returns-clause-some
 returns-clause-some c =
     let light = c.light_of-light.result.now in
-    let within = rw c.from.ensures at c.if-enclosing-from.false in
+    let kind : IsKind c.light_of-light.result.now = rw c.light_of-light.ensures (light-kind (get_or c.args.bytes.now 0 0)) in
+    let h = access-needs light _ c.args.needs.now kind c.if-second-light.false c.if-light-eq2.false c.if-light-eq1.false in
     let noted = light-noted c.args.bytes.now c.args.enclosing _ _ light c.if-bytes-lt3.false c.light_of-light.ensures
-    c.if-second-light.false c.if-bytes-light.false within c.note_light.ensures in
-    rw (take_rest c.args.bytes.now c.from-2.result, c.from-2.ensures) noted
+    c.if-second-light.false (λ three. c.if-bytes-light.false) (λ two. absurd (c.if-light-eq2.false two)) h.1 in
+    rw (take_rest c.args.bytes.now 3) (rw h.0 at noted)
