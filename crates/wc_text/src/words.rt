@@ -284,7 +284,8 @@ fn take_bare<'a>(
 }
 
 /// A word that is none of the most usual ones.
-#[inline(always)]
+// It is a call, so that `take_token` stays small enough for the compiler to put it in place.
+#[inline(never)]
 fn take_rare<'a>(
     alloc: Global,
     reading: &mut Reading,
