@@ -1,4 +1,4 @@
--- Brief entries: which bytes are theirs, by their opcode.
+-- Brief entries (Core 1.0, 5.4): which bytes are theirs, by their opcode.
 use Rattle.std.specs.Prelude.{ℕ, ◌≡◌, ◌<◌, ◌+◌, ◌==◌, List, Some, if◌then◌else◌}
 use Rattle.wc_ops.specs.declared.op.Op.{Op}
 use Rattle.wc_ops.specs.declared.op.Op.TheVariants as ops

@@ -1,4 +1,4 @@
--- Brief entries as lines: the line of an opcode, and the text of an operand behind it.
+-- Brief entries (Core 1.0, 5.4) as lines (Core 1.0, 6.5): the line of an opcode, and the text of an operand behind it.
 use Rattle.std.specs.Prelude.{◌≡◌, ℕ, zero, suc, ◌≤◌, ◌<◌, List, [], ◌∷◌, codes, take, slice_index}
 use Rattle.wc_ops.specs.declared.op.Op.{Op}
 use Rattle.wc_ops.specs.declared.op.Op.TheVariants as ops
