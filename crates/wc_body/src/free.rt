@@ -3,6 +3,8 @@
 
 ghost use Rattle.std.specs.Prelude.{◌≡◌, IfSome, IsNone};
 ghost use Rattle.wc_leb128.specs.Standard.Integers.{U, IsAtFront};
+ghost use Rattle.wc_ops.specs.Standard.Opcodes.{row};
+ghost use Rattle.wc_ops.specs.declared.op.Op.TheVariants as ops;
 ghost use Rattle.wc_body.specs.declared.instr.Instr.{Instr as AnInstr};
 ghost use Rattle.wc_body.specs.Standard.Nested.{plain};
 ghost use Rattle.wc_body.specs.Standard.Draft.{step};
@@ -11,9 +13,8 @@ ghost use Rattle.wc_body.specs.Drafting.FrontEntries.{AddsFront};
 
 use crate::builder::BodyBuilder;
 use crate::bytes::number::i32_at;
-use crate::front::is_long;
 use crate::instr::Instr;
-use wc_ops::{Op, OpByte};
+use wc_ops::IndexOp;
 
 /// The unsigned integer of 32 bits that these bytes begin with (Core 1.0, 5.2.2), and what follows it.
 #[inline(always)]
@@ -47,23 +48,50 @@ fn u32_front(bytes: &[u8]) -> Option<(u32, &[u8])>
     Some((low + 0x1000_0000 * u32::from(*fifth), rest))
 }
 
+/// Which instruction of an index has this opcode.
+// A table of its own, so that whoever asks doesn't jump by the opcode.
+#[inline(always)]
+fn index_op(opcode: u8) -> Option<IndexOp>
+    ensures { IfSome result (λ op. (row (ops.Index op)).byte ≡ opcode) }
+{
+    match opcode {
+        0x0c => Some(IndexOp::Br),
+        0x0d => Some(IndexOp::BrIf),
+        0x10 => Some(IndexOp::Call),
+        0x20 => Some(IndexOp::LocalGet),
+        0x21 => Some(IndexOp::LocalSet),
+        0x22 => Some(IndexOp::LocalTee),
+        0x23 => Some(IndexOp::GlobalGet),
+        0x24 => Some(IndexOp::GlobalSet),
+        _ => None,
+    }
+}
+
 /// The instruction of an index, or of a constant of 32 bits, that these bytes begin with, and what follows it.
 #[inline(always)]
 fn free_front(bytes: &[u8]) -> Option<(Instr<'static>, &[u8])>
     ensures { IfSome result (λ found. BeginsFree bytes.now found.0 found.1.now) }
 {
     let (byte, rest) = bytes.split_first()?;
-    match Op::of_byte(*byte) {
-        OpByte::Known(Op::Index(op)) => {
-            let (index, rest) = u32_front(rest)?;
-            Some((Instr::Index(op, index), rest))
-        }
-        OpByte::Known(Op::I32Const) => {
-            let (n, rest) = i32_at(rest)?;
-            Some((Instr::I32Const(n), rest))
-        }
-        _ => None,
+    if *byte == 0x41 {
+        let (n, rest) = i32_at(rest)?;
+        return Some((Instr::I32Const(n), rest));
     }
+    let op = index_op(*byte)?;
+    let (index, rest) = u32_front(rest)?;
+    Some((Instr::Index(op, index), rest))
+}
+
+/// Whether these bytes begin with an instruction whose first integer `push_front` leaves: its second byte, or a later
+/// one, is a needless 0, or it has five bytes.
+#[inline(always)]
+fn is_wide(bytes: &[u8]) -> bool {
+    bytes.len() >= 5
+        && bytes[1] >= 128
+        && matches!(bytes[0], 0x0c..=0x0e | 0x10 | 0x11 | 0x20..=0x42)
+        && (bytes[2] & bytes[3] & bytes[4] >= 128
+            || bytes[2] == 0
+            || bytes[2] >= 128 && (bytes[3] == 0 || bytes[3] >= 128 && bytes[4] == 0))
 }
 
 impl BodyBuilder {
@@ -82,13 +110,12 @@ impl BodyBuilder {
         Some(rest)
     }
 
-    /// Adds the entries that these bytes begin with, as `push_front` does, or none where the first one's integer is
-    /// long.
+    /// Adds the entries that these bytes begin with, as `push_front` does, or none where it would take none.
     #[inline(always)]
-    fn push_shorter(&mut self, bytes: &[u8]) -> usize
+    fn push_others(&mut self, bytes: &[u8]) -> usize
         ensures { AddsFront self.old self.new bytes.now result }
     {
-        if is_long(bytes) {
+        if is_wide(bytes) {
             return 0;
         }
         self.push_front(bytes)
@@ -102,7 +129,7 @@ impl BodyBuilder {
     {
         let mut rest = bytes;
         'runs: loop {
-            let count = self.push_shorter(rest);
+            let count = self.push_others(rest);
             rest = &rest[count..];
             let Some(behind) = self.push_free(rest) else {
                 break;

@@ -177,8 +177,7 @@ fn meant_front<'a>(byte: u8, bytes: &'a [u8], needs: &mut Needs) -> Option<&'a [
 
 /// Notes the instruction that these bytes begin with, where it is a usual one and these blocks enclose it. What follows
 /// it is answered.
-// It is apart, so that the loop over light entries stays short.
-#[inline(never)]
+#[inline(always)]
 fn instr_front<'a>(bytes: &'a [u8], needs: &mut Needs, parts: &Vec<Part>) -> Option<&'a [u8]>
     ensures some { IfSome result (λ rest.
         Notes bytes.now rest.now needs.old needs.new parts.now.items parts.now.items) }
@@ -252,7 +251,7 @@ fn after_marks<'a>(bytes: &'a [u8], parts: &mut Vec<Part>) -> &'a [u8]
 /// Whether four bytes of 128 or more stand behind the opcode that these bytes begin with, and may be of an integer that
 /// is longer than a usual one.
 #[inline(always)]
-pub(crate) fn is_long(bytes: &[u8]) -> bool {
+fn is_long(bytes: &[u8]) -> bool {
     bytes.len() >= 5 && bytes[1] & bytes[2] & bytes[3] & bytes[4] >= 128 && !is_alone(bytes[0])
 }
 

@@ -13,13 +13,13 @@ struct Light {
     locals: u16,
     // How many bytes one has.
     length: u8,
-    // What the byte behind the opcode is below, and the byte behind that. Where it isn't of the entry this is 255,
-    // above nearly all that may stand there.
+    // What the byte behind the opcode is below: where it isn't of the entry this is 255, above nearly all that may stand
+    // there. What the byte behind that is below, which is asked of entries of three bytes alone.
     second: u8,
     third: u8,
     // All bits where the byte behind the opcode is a label, and none elsewhere.
     label: u8,
-    // Whether a memory is needed, which the length tells too.
+    // Whether a memory is needed. No code reads it, since the length tells it too.
     memory: bool,
 }
 
@@ -141,7 +141,7 @@ fn note_pair(needs: &mut Needs, light: &Light, second: u8)
 
 /// Notes the light entry that these bytes begin with, which so many blocks enclose. What follows it is answered.
 // The way branches by how many bytes the entry has: where that can be foretold, the next one is looked up before this
-// one's row is there. Those of two bytes are the most.
+// one's row is there. Those of two bytes come first, since they are the most.
 #[inline(always)]
 pub(crate) fn light_front<'a>(
     bytes: &'a [u8],

@@ -284,7 +284,7 @@ fn take_bare<'a>(
 }
 
 /// A word that is none of the most usual ones.
-// It is a call, so that `take_token` stays small enough for the compiler to put it in place.
+// It is a call, so that `take_token` stays small enough for the compiler to put that in place.
 #[inline(never)]
 fn take_rare<'a>(
     alloc: Global,
