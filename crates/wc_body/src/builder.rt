@@ -282,15 +282,13 @@ impl BodyBuilder {
         let room = self.bytes.capacity() - self.bytes.len();
         let fitting = &bytes[..room.min(bytes.len())];
         let mut rest = fitting;
-        let mut needs = self.needs;
         'entries: loop {
-            rest = after_light(rest, self.parts.len(), &mut needs);
-            let Some(behind) = usual_front(rest, &mut needs, &mut self.parts) else {
+            rest = after_light(rest, self.parts.len(), &mut self.needs);
+            let Some(behind) = usual_front(rest, &mut self.needs, &mut self.parts) else {
                 break;
             };
             rest = behind;
         }
-        self.needs = needs;
         let count = fitting.len() - rest.len();
         append(&mut self.bytes, &fitting[..count]);
         count

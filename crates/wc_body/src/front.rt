@@ -252,11 +252,14 @@ fn after_marks<'a>(bytes: &'a [u8], parts: &mut Vec<Part>) -> &'a [u8]
 /// is longer than a usual one.
 #[inline(always)]
 fn is_long(bytes: &[u8]) -> bool {
-    bytes.len() >= 5 && bytes[1] & bytes[2] & bytes[3] & bytes[4] >= 128 && !is_alone(bytes[0])
+    bytes.len() >= 5
+        && bytes[1] >= 128
+        && bytes[2] & bytes[3] & bytes[4] >= 128
+        && !is_alone(bytes[0])
 }
 
 /// Notes the instruction that these bytes begin with, where it is a usual one. What follows it is answered.
-// A long integer is seen without a call.
+// A long integer is seen without a jump by the opcode.
 #[inline(always)]
 fn shorter_front<'a>(bytes: &'a [u8], needs: &mut Needs, parts: &Vec<Part>) -> Option<&'a [u8]>
     ensures some { IfSome result (λ rest.
