@@ -11,7 +11,7 @@ use crate::bytes::put::{put_begin, put_instr};
 use crate::entry::{Entry, Kind};
 use crate::front::usual_front;
 use crate::instr::{BlockType, Instr};
-use crate::light::after_light;
+use crate::light::{after_light, is_alone, note_padded};
 use crate::needs::Needs;
 use std::alloc::{AllocError, AllocFailed, Global};
 use std::marker::Model;
@@ -50,8 +50,8 @@ impl<T: Drop> From<AllocFailed<T>> for BuildFault {
     }
 }
 
-/// How many bytes an opcode and an integer of 32 bits have at most.
-const INTEGER_LIMIT: usize = 6;
+/// How many bytes an opcode and what follows it have at most: two integers of 32 bits, or one of 64.
+const INTEGERS_LIMIT: usize = 11;
 
 /// Which part an open block, loop or if is in: the first part of an if, or any other.
 #[derive(Clone, Copy, Debug, PartialEq, Eq)]
@@ -95,13 +95,16 @@ impl Model for BodyBuilder {
 }
 
 impl BodyBuilder {
-    ghost use Rattle.std.specs.Prelude.{[], ◌≡◌, ◌≤◌, ◌↔◌, false, true, length};
+    ghost use Rattle.std.specs.Prelude.{[], ◌∷◌, ◌≡◌, ◌≤◌, ◌↔◌, false, true, length};
     ghost use Rattle.std.specs.Prelude.{IfOk, OnOk, OnErr, IfErr, IsErrOf};
     ghost use Rattle.wc_body.specs.Standard.Nested.{empty, plain, otherwise, close, nesting, nesting_limit};
     ghost use Rattle.wc_body.specs.Standard.Draft.{so_far, kept_with, whole, step, may_come, in_first_part};
     ghost use Rattle.wc_body.specs.Standard.Draft.{is_open, reach, IsTooDeep};
     ghost use Rattle.wc_body.specs.Standard.Entries.{mark, begin_of};
     ghost use Rattle.wc_body.specs.Drafting.FrontEntries.{AddsFront};
+    ghost use Rattle.wc_body.specs.Drafting.FreeEntries.{padded, SpellsEntry};
+    ghost use Rattle.wc_body.specs.declared.instr.Instr.{Instr as AnInstr};
+    ghost use Rattle.wc_body.specs.declared.entry.Entry.TheVariants.{Plain};
     ghost use Rattle.wc_body.specs.declared.builder.BuildFault.TheVariants as faults;
 
     /// Nothing so far, in this memory.
@@ -180,16 +183,52 @@ impl BodyBuilder {
         Ok(())
     }
 
-    /// Adds an instruction of one integer where there is room for it, and answers whether it was added.
+    /// Adds an instruction of an integer or two where there is room for it, and answers whether it was added.
     #[inline(always)]
     pub(crate) fn push_fitting(&mut self, instr: Instr<'_>) -> bool
         ensures added { result ≡ true → self.new ≡ step self.old (plain instr.entry) }
         ensures same { result ≡ false → self.new ≡ self.old }
     {
-        if self.bytes.capacity() - self.bytes.len() < INTEGER_LIMIT {
+        if self.bytes.capacity() - self.bytes.len() < INTEGERS_LIMIT {
             return false;
         }
         self.push_plain(instr).is_ok()
+    }
+
+    /// Adds the instruction of this opcode, where nothing follows that and there is room for it, and answers whether it
+    /// was added.
+    #[inline(always)]
+    pub(crate) fn push_alone(&mut self, opcode: u8) -> bool
+        ensures added { result ≡ true → (i : AnInstr) × SpellsEntry (Plain i) (opcode ∷ [])
+            × (self.new ≡ step self.old (plain i)) }
+        ensures same { result ≡ false → self.new ≡ self.old }
+    {
+        if self.bytes.len() >= self.bytes.capacity() || !is_alone(opcode) {
+            return false;
+        }
+        self.bytes.push_reserved(opcode);
+        self.after_else = false;
+        true
+    }
+
+    /// Adds the instruction of this opcode whose integer is so low, where it is light but for its length and there is
+    /// room for it, and answers whether it was added. The integer has five bytes where it stands.
+    #[inline(always)]
+    pub(crate) fn push_padded(&mut self, opcode: u8, low: u8) -> bool
+        ensures added { result ≡ true → (i : AnInstr) × SpellsEntry (Plain i) (opcode ∷ padded low)
+            × (self.new ≡ step self.old (plain i)) }
+        ensures same { result ≡ false → self.new ≡ self.old }
+    {
+        if self.bytes.capacity() - self.bytes.len() < 2 {
+            return false;
+        }
+        if !note_padded(opcode, low, self.parts.len(), &mut self.needs) {
+            return false;
+        }
+        self.bytes.push_reserved(opcode);
+        self.bytes.push_reserved(low);
+        self.after_else = false;
+        true
     }
 
     #[inline(never)]

@@ -1,20 +1,17 @@
-//! Instructions that bytes begin with, whose integer may be spelled longer than it is kept: as linkers leave it, which
-//! put another in its place.
+//! Instructions that bytes begin with, whose integers may be spelled longer than they are kept: as linkers leave them,
+//! which put others in their place.
 
-ghost use Rattle.std.specs.Prelude.{◌≡◌, IfSome, IsNone};
+ghost use Rattle.std.specs.Prelude.{◌≡◌, ◌∷◌, IfSome, IsNone};
 ghost use Rattle.wc_leb128.specs.Standard.Integers.{U, IsAtFront};
 ghost use Rattle.wc_ops.specs.Standard.Opcodes.{row};
 ghost use Rattle.wc_ops.specs.declared.op.Op.TheVariants as ops;
-ghost use Rattle.wc_body.specs.declared.instr.Instr.{Instr as AnInstr};
-ghost use Rattle.wc_body.specs.Standard.Nested.{plain};
-ghost use Rattle.wc_body.specs.Standard.Draft.{step};
-ghost use Rattle.wc_body.specs.Drafting.FreeEntries.{BeginsFree, AddsFree};
+ghost use Rattle.wc_body.specs.Drafting.FreeEntries.{AddsOne, AddsFree};
 ghost use Rattle.wc_body.specs.Drafting.FrontEntries.{AddsFront};
 
 use crate::builder::BodyBuilder;
-use crate::bytes::number::i32_at;
-use crate::instr::Instr;
-use wc_ops::IndexOp;
+use crate::bytes::number::{i32_at, i64_at};
+use crate::instr::{Instr, MemArg};
+use wc_ops::{IndexOp, MemOp};
 
 /// The unsigned integer of 32 bits that these bytes begin with (Core 1.0, 5.2.2), and what follows it.
 #[inline(always)]
@@ -48,66 +45,176 @@ fn u32_front(bytes: &[u8]) -> Option<(u32, &[u8])>
     Some((low + 0x1000_0000 * u32::from(*fifth), rest))
 }
 
-/// Which instruction of an index has this opcode.
+/// Which access of memory has this opcode.
 // A table of its own, so that whoever asks doesn't jump by the opcode.
 #[inline(always)]
-fn index_op(opcode: u8) -> Option<IndexOp>
-    ensures { IfSome result (λ op. (row (ops.Index op)).byte ≡ opcode) }
+fn access_of(opcode: u8) -> Option<MemOp>
+    ensures { IfSome result (λ op. (row (ops.Mem op)).byte ≡ opcode) }
 {
     match opcode {
-        0x0c => Some(IndexOp::Br),
-        0x0d => Some(IndexOp::BrIf),
-        0x10 => Some(IndexOp::Call),
-        0x20 => Some(IndexOp::LocalGet),
-        0x21 => Some(IndexOp::LocalSet),
-        0x22 => Some(IndexOp::LocalTee),
-        0x23 => Some(IndexOp::GlobalGet),
-        0x24 => Some(IndexOp::GlobalSet),
+        0x28 => Some(MemOp::I32Load),
+        0x29 => Some(MemOp::I64Load),
+        0x2c => Some(MemOp::I32Load8S),
+        0x2d => Some(MemOp::I32Load8U),
+        0x2e => Some(MemOp::I32Load16S),
+        0x2f => Some(MemOp::I32Load16U),
+        0x30 => Some(MemOp::I64Load8S),
+        0x31 => Some(MemOp::I64Load8U),
+        0x32 => Some(MemOp::I64Load16S),
+        0x33 => Some(MemOp::I64Load16U),
+        0x34 => Some(MemOp::I64Load32S),
+        0x35 => Some(MemOp::I64Load32U),
+        0x36 => Some(MemOp::I32Store),
+        0x37 => Some(MemOp::I64Store),
+        0x3a => Some(MemOp::I32Store8),
+        0x3b => Some(MemOp::I32Store16),
+        0x3c => Some(MemOp::I64Store8),
+        0x3d => Some(MemOp::I64Store16),
+        0x3e => Some(MemOp::I64Store32),
         _ => None,
     }
 }
 
-/// The instruction of an index, or of a constant of 32 bits, that these bytes begin with, and what follows it.
+/// Whether `push_front` leaves an access of memory of this opcode whose alignment has one byte, and whose offset begins
+/// with these two: it has more, or the second one is a needless 0.
 #[inline(always)]
-fn free_front(bytes: &[u8]) -> Option<(Instr<'static>, &[u8])>
-    ensures { IfSome result (λ found. BeginsFree bytes.now found.0 found.1.now) }
-{
-    let (byte, rest) = bytes.split_first()?;
-    if *byte == 0x41 {
-        let (n, rest) = i32_at(rest)?;
-        return Some((Instr::I32Const(n), rest));
-    }
-    let op = index_op(*byte)?;
-    let (index, rest) = u32_front(rest)?;
-    Some((Instr::Index(op, index), rest))
+fn is_far(opcode: u8, first: u8, second: u8) -> bool {
+    first >= 128 && (second == 0 || second >= 128) && matches!(opcode, 0x28..=0x3e)
 }
 
-/// Whether these bytes begin with an instruction whose first integer `push_front` leaves: its second byte, or a later
-/// one, is a needless 0, or it has five bytes.
+/// Whether `push_front` leaves a constant that begins with these four bytes, of which the first is 128 or more: the last
+/// byte is a needless 0, or there are five.
+#[inline(always)]
+fn is_long_constant(first: u8, second: u8, third: u8, fourth: u8) -> bool {
+    second & third & fourth >= 128
+        || second == 0 && first < 0xc0
+        || second >= 128
+            && (third == 0 && second < 0xc0 || third >= 128 && fourth == 0 && third < 0xc0)
+}
+
+/// Whether these bytes begin with an instruction that `push_front` leaves for its integers: an index of three bytes or
+/// a needless 0, or such a constant or offset.
 #[inline(always)]
 fn is_wide(bytes: &[u8]) -> bool {
-    bytes.len() >= 5
-        && bytes[1] >= 128
-        && matches!(bytes[0], 0x0c..=0x0e | 0x10 | 0x11 | 0x20..=0x42)
-        && (bytes[2] & bytes[3] & bytes[4] >= 128
-            || bytes[2] == 0
-            || bytes[2] >= 128 && (bytes[3] == 0 || bytes[3] >= 128 && bytes[4] == 0))
+    if bytes.len() < 5 {
+        return false;
+    }
+    if bytes[1] < 128 {
+        return is_far(bytes[0], bytes[2], bytes[3]);
+    }
+    match bytes[0] {
+        0x0c..=0x0e | 0x10 | 0x11 | 0x20..=0x40 => bytes[2] == 0 || bytes[2] >= 128,
+        0x41 | 0x42 => is_long_constant(bytes[1], bytes[2], bytes[3], bytes[4]),
+        _ => false,
+    }
 }
 
 impl BodyBuilder {
-    /// Adds the instruction that these bytes begin with, where it is of one integer, and fits the memory at hand. What
-    /// follows it is answered.
+    /// Adds the instruction of an index whose opcode was passed, where it fits the memory at hand. What follows the
+    /// index is answered.
     #[inline(always)]
-    fn push_free<'a>(&mut self, bytes: &'a [u8]) -> Option<&'a [u8]>
+    fn push_index<'a>(&mut self, op: IndexOp, bytes: &'a [u8]) -> Option<&'a [u8]>
         ensures some { IfSome result (λ rest.
-            (i : AnInstr) × BeginsFree bytes.now i rest.now × (self.new ≡ step self.old (plain i))) }
+            AddsOne self.old self.new ((row (ops.Index op)).byte ∷ bytes.now) rest.now) }
         ensures none { IsNone result → self.new ≡ self.old }
     {
-        let (instr, rest) = free_front(bytes)?;
-        if !self.push_fitting(instr) {
+        let (index, rest) = u32_front(bytes)?;
+        if !self.push_fitting(Instr::Index(op, index)) {
             return None;
         }
         Some(rest)
+    }
+
+    /// The same of a constant of 32 bits.
+    #[inline(always)]
+    fn push_i32<'a>(&mut self, bytes: &'a [u8]) -> Option<&'a [u8]>
+        ensures some { IfSome result (λ rest. AddsOne self.old self.new (0x41 ∷ bytes.now) rest.now) }
+        ensures none { IsNone result → self.new ≡ self.old }
+    {
+        let (n, rest) = i32_at(bytes)?;
+        if !self.push_fitting(Instr::I32Const(n)) {
+            return None;
+        }
+        Some(rest)
+    }
+
+    /// The same of a constant of 64 bits.
+    #[inline(always)]
+    fn push_i64<'a>(&mut self, bytes: &'a [u8]) -> Option<&'a [u8]>
+        ensures some { IfSome result (λ rest. AddsOne self.old self.new (0x42 ∷ bytes.now) rest.now) }
+        ensures none { IsNone result → self.new ≡ self.old }
+    {
+        let (n, rest) = i64_at(bytes)?;
+        if !self.push_fitting(Instr::I64Const(n)) {
+            return None;
+        }
+        Some(rest)
+    }
+
+    /// The same of an access of memory, by its opcode.
+    #[inline(always)]
+    fn push_access<'a>(&mut self, opcode: u8, bytes: &'a [u8]) -> Option<&'a [u8]>
+        ensures some { IfSome result (λ rest. AddsOne self.old self.new (opcode ∷ bytes.now) rest.now) }
+        ensures none { IsNone result → self.new ≡ self.old }
+    {
+        let op = access_of(opcode)?;
+        let (align, rest) = u32_front(bytes)?;
+        let (offset, rest) = u32_front(rest)?;
+        if !self.push_fitting(Instr::Mem(op, MemArg { align, offset })) {
+            return None;
+        }
+        Some(rest)
+    }
+
+    /// Adds the instruction that these bytes begin with, where it is an index's, a constant or an access of memory, and
+    /// fits the memory at hand. What follows it is answered.
+    // An arm for each, so that it isn't told apart once more when it is added.
+    #[inline(always)]
+    fn push_free<'a>(&mut self, bytes: &'a [u8]) -> Option<&'a [u8]>
+        ensures some { IfSome result (λ rest. AddsOne self.old self.new bytes.now rest.now) }
+        ensures none { IsNone result → self.new ≡ self.old }
+    {
+        let (byte, rest) = bytes.split_first()?;
+        match *byte {
+            0x0c => self.push_index(IndexOp::Br, rest),
+            0x0d => self.push_index(IndexOp::BrIf, rest),
+            0x10 => self.push_index(IndexOp::Call, rest),
+            0x20 => self.push_index(IndexOp::LocalGet, rest),
+            0x21 => self.push_index(IndexOp::LocalSet, rest),
+            0x22 => self.push_index(IndexOp::LocalTee, rest),
+            0x23 => self.push_index(IndexOp::GlobalGet, rest),
+            0x24 => self.push_index(IndexOp::GlobalSet, rest),
+            0x41 => self.push_i32(rest),
+            0x42 => self.push_i64(rest),
+            _ => self.push_access(*byte, rest),
+        }
+    }
+
+    /// Adds the instruction that these bytes begin with, where it has no integer and the second byte behind it is 128 or
+    /// more, as in a long one; or where its integer is below 64 and has five bytes; and where it is light but for these.
+    /// What follows it is answered.
+    // No jump by the opcode, and no look for a run that would mostly end at once.
+    #[inline(always)]
+    fn push_light<'a>(&mut self, bytes: &'a [u8]) -> Option<&'a [u8]>
+        ensures some { IfSome result (λ rest. AddsOne self.old self.new bytes.now rest.now) }
+        ensures none { IsNone result → self.new ≡ self.old }
+    {
+        if bytes.len() < 6 {
+            return None;
+        }
+        if bytes[1] < 128 {
+            if bytes[2] < 128 || !self.push_alone(bytes[0]) {
+                return None;
+            }
+            return Some(&bytes[1..]);
+        }
+        if bytes[2] != 0x80 || bytes[3] != 0x80 || bytes[4] != 0x80 || bytes[5] != 0 {
+            return None;
+        }
+        if !self.push_padded(bytes[0], bytes[1] - 128) {
+            return None;
+        }
+        Some(&bytes[6..])
     }
 
     /// Adds the entries that these bytes begin with, as `push_front` does, or none where it would take none.
@@ -122,13 +229,17 @@ impl BodyBuilder {
     }
 
     /// Adds the entries that these bytes begin with, as many as are usual and fit the memory at hand. Each is spelled
-    /// as it is kept, but for an index or a constant of 32 bits, whose spelling may be any. Answers how many bytes they
-    /// have. No end is added at which none is open.
+    /// as it is kept, but for integers behind an opcode, whose spelling may be any. Answers how many bytes they have.
+    /// No end is added at which none is open.
     pub fn push_ahead(&mut self, bytes: &[u8]) -> usize
         ensures { AddsFree self.old self.new bytes.now result }
     {
         let mut rest = bytes;
         'runs: loop {
+            if let Some(behind) = self.push_light(rest) {
+                rest = behind;
+                continue 'runs;
+            }
             let count = self.push_others(rest);
             rest = &rest[count..];
             let Some(behind) = self.push_free(rest) else {

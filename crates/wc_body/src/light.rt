@@ -1,8 +1,9 @@
 //! Light entries: those whose integers have one byte each, and that need no label beyond the enclosing blocks and no
 //! alignment above the width of the access. What is noted of one is looked up by its opcode.
 
-ghost use Rattle.std.specs.Prelude.{◌≡◌, false, IfSome, IsNone};
+ghost use Rattle.std.specs.Prelude.{◌≡◌, true, false, IfSome, IsNone};
 ghost use Rattle.wc_body.specs.Drafting.AtFront.{NotesInstr, NotesRun};
+ghost use Rattle.wc_body.specs.Drafting.FreeEntries.{IsAlone, NotesPadded};
 ghost use Rattle.wc_body.specs.Drafting.LightRows.{light_at, with_light};
 
 use crate::needs::Needs;
@@ -13,8 +14,8 @@ struct Light {
     locals: u16,
     // How many bytes one has.
     length: u8,
-    // What the byte behind the opcode is below: where it isn't of the entry this is 255, above nearly all that may stand
-    // there. What the byte behind that is below, which is asked of entries of three bytes alone.
+    // What the byte behind the opcode is below: where it isn't of the entry this is 255, above nearly all that may
+    // stand there. What the byte behind that is below, which is asked of entries of three bytes alone.
     second: u8,
     third: u8,
     // All bits where the byte behind the opcode is a label, and none elsewhere.
@@ -125,7 +126,9 @@ fn light_of(opcode: u8) -> &'static Light
 
 /// Whether the light entries of this opcode have no other byte.
 #[inline(always)]
-pub(crate) fn is_alone(opcode: u8) -> bool {
+pub(crate) fn is_alone(opcode: u8) -> bool
+    ensures { result ≡ true → IsAlone opcode }
+{
     light_of(opcode).length == 1
 }
 
@@ -137,6 +140,23 @@ fn note_pair(needs: &mut Needs, light: &Light, second: u8)
 {
     let locals = (u32::from(second) + 1).min(u32::from(light.locals));
     needs.locals = needs.locals.max(locals);
+}
+
+/// Notes what the instruction of this opcode and of so low an integer needs, which so many blocks enclose, where its
+/// light entries have two bytes, the integer is below 64, and it is no label beyond these blocks; answers whether it was
+/// noted. The integer has five bytes where it stands.
+// A constant from 64 on needs two bytes.
+#[inline(always)]
+pub(crate) fn note_padded(opcode: u8, low: u8, enclosing: usize, needs: &mut Needs) -> bool
+    ensures noted { result ≡ true → NotesPadded enclosing opcode low needs.old needs.new }
+    ensures same { result ≡ false → needs.new ≡ needs.old }
+{
+    let light = light_of(opcode);
+    if light.length != 2 || low >= 64 || enclosing < usize::from(low & light.label) {
+        return false;
+    }
+    note_pair(needs, light, low);
+    true
 }
 
 /// Notes the light entry that these bytes begin with, which so many blocks enclose. What follows it is answered.

@@ -7,13 +7,13 @@ use Rattle.wc_body.specs.declared.instr.BlockType.{BlockType}
 use Rattle.wc_body.specs.declared.instr.Instr.{Instr}
 use Rattle.wc_body.specs.declared.entry.Entry.{Entry}
 use Rattle.wc_body.specs.declared.entry.Entry.TheVariants.{Plain}
-use Rattle.wc_body.specs.Standard.Nested.{Mark, plain}
+use Rattle.wc_body.specs.Standard.Nested.{Mark}
 use Rattle.wc_body.specs.Standard.Draft.{Draft, step, steps}
 use Rattle.wc_body.specs.Standard.Entries.{mark, marks}
 use Rattle.wc_body.specs.Writing.EntryBytes.{entry_bytes, FitsEntry}
 use Rattle.wc_body.specs.Reading.Unpacked.{packed}
 use Rattle.wc_body.specs.Drafting.FrontEntries.{AllStand, AddsFront}
-use Rattle.wc_body.specs.Drafting.FreeEntries.{BeginsFree, SpellEntries, AddsFree}
+use Rattle.wc_body.specs.Drafting.FreeEntries.{SpellsEntry, AddsOne, SpellEntries, AddsFree}
 use Rattle.wc_body.proofs.Drafts.DraftLaws.{steps-append}
 
 -- canonical bytes spell entries
@@ -69,19 +69,26 @@ module _ (d mid after : Draft Instr BlockType) (bytes rest : List ℕ) (r : Ran 
       let split = sym (take-append-drop n rest) ∙ ap (λ (q : List ℕ). q ++ drop n rest) h.1.1 in
       rw (take_rest rest n) (ran-more h.1.0 (packed h.1.0) (drop n rest) split (packed-spell h.1.0 h.1.2) h.1.3 h.1.4)
 
-  -- one whose integer has any spelling
-  pub ran-free : (i : Instr) (left : List ℕ) → BeginsFree rest i left → after ≡ step mid (plain i)
-      → Ran d after bytes left
-  ran-free i left h is =
-      ran-more (Plain i ∷ []) h.0 left h.1 (h.0, [], sym (append-nil h.0), inr (i, refl, h.2), refl)
-      (λ e. absurd cc, refl, tt) is
+  -- one whose integers have any spelling
+  pub ran-one : (left : List ℕ) → AddsOne mid after rest left → Ran d after bytes left
+  ran-one left h =
+      ran-more (Plain h.0 ∷ []) h.1 left h.2 (h.1, [], sym (append-nil h.1), h.3, refl) (λ e. absurd cc, refl, tt) h.4
 
 -- which has a byte at least
-pub free-shorter : (n : ℕ) (rest left : List ℕ) (i : Instr) → BeginsFree (behind n rest) i left
+spelled-some : (i : Instr) (y : List ℕ) → SpellsEntry (Plain i) y → 0 < length y
+spelled-some i y (inl h) = omega (arith, ap length h.0)
+spelled-some i y (inr h) = omega (arith, ap length h.2.1)
+
+pub one-shorter : (d after : Draft Instr BlockType) (rest left : List ℕ) → AddsOne d after rest left
     → length left < length rest
-free-shorter n rest left i h =
+one-shorter d after rest left h =
+    omega (arith, ap length h.2, length-append h.1 left, spelled-some h.0 h.1 h.3)
+
+pub later-shorter : (d after : Draft Instr BlockType) (n : ℕ) (rest left : List ℕ) → AddsOne d after (behind n rest) left
+    → length left < length rest
+later-shorter d after n rest left h =
     let cut = length-take (length rest - n) (drop n rest) in
-    omega (arith, ap length h.1, length-append h.0 left, ap length h.2.1, cut)
+    omega (arith, one-shorter d after (behind n rest) left h, cut)
 
 module _ (d after : Draft Instr BlockType) (bytes rest : List ℕ) (r : Ran d after bytes rest) where
   pub ran-within : length rest ≤ length bytes

@@ -52,10 +52,10 @@ unsigned-two x mid rest b c n e f same le lt some low =
     ]
 
 -- both widths hold it
-abbrev IsHeld : ℤ → Type 0
+abbrev pub IsHeld : ℤ → Type 0
 IsHeld z = HoldsSigned 32 z × HoldsSigned 64 z
 
-signed-held : (s : Bool) (n : ℕ) → n < 2 ^ 27 → IsHeld (signed_of s n)
+pub signed-held : (s : Bool) (n : ℕ) → n < 2 ^ 27 → IsHeld (signed_of s n)
 signed-held false n lt = ((omega (arith, ints), omega (arith, ints)), (omega (arith, ints), omega (arith, ints)))
 signed-held true n lt = ((omega (arith, ints), omega (arith, ints)), (omega (arith, ints), omega (arith, ints)))
 

@@ -6,7 +6,7 @@ use Rattle.wc_body.proofs.light.light_front.Goals as goal
 pub note_pair-requires : goal.note_pair-requires
 note_pair-requires c =
     let kind : IsKind c.light_of-light.result.now = rw c.light_of-light.ensures (light-kind (get_or c.args.bytes.now 0 0)) in
-    pair-memory c.light_of-light.result.now _ kind c.if-second-light.false c.if-light-eq2.true
+    pair-memory c.light_of-light.result.now kind c.if-light-eq2.true
 
 pub returns-then-light-eq2-clause-some : goal.returns-then-light-eq2-clause-some
 returns-then-light-eq2-clause-some c =

@@ -1,25 +1,35 @@
-use Rattle.wc_body.proofs.Drafts.FreeRun.{ran-none, ran-front, ran-free, free-shorter, ran-within, ran-adds}
+use Rattle.wc_body.proofs.Drafts.FreeRun.{ran-none, ran-front, ran-one, one-shorter, later-shorter, ran-within, ran-adds}
 use Rattle.std.proofs.Common.{refl}
 use Rattle.wc_body.proofs.builder.BodyBuilder.push_ahead.Goals as goal
 
 pub runs-init : goal.runs-init
 runs-init c = ran-none _ _
 
+pub runs-smaller-in-Some : goal.runs-smaller-in-Some
+runs-smaller-in-Some c =
+    one-shorter _ _ c.runs.rest.now c.in-Some.behind.now c.in-Some.ensures.some
+
+pub runs-preserved-in-Some : goal.runs-preserved-in-Some
+runs-preserved-in-Some c = ran-one _ _ _ _ _ c.runs.invariant _ c.in-Some.ensures.some
+
 pub runs-smaller : goal.runs-smaller
 runs-smaller c =
-    let h = c.in-Some.ensures.some in
-    free-shorter c.push_others-count.result c.runs.rest.now c.in-Some.behind.now h.0 h.1
+    later-shorter _ _ c.push_others-count.result c.runs.rest.now c.in-Some-push_free.behind.now
+    c.in-Some-push_free.ensures.some
 
 pub runs-preserved : goal.runs-preserved
 runs-preserved c =
-    let h = c.in-Some.ensures.some in
-    let front = ran-front _ _ _ _ _ c.runs.invariant _ c.push_others-count.ensures in
-    ran-free _ _ _ _ _ front h.0 _ h.1 h.2
+    let light = rw (← (c.in_default.ensures.none refl)) at c.runs.invariant in
+    let front = ran-front _ _ _ _ _ light _ c.push_others-count.ensures in
+    ran-one _ _ _ _ _ front _ c.in-Some-push_free.ensures.some
 
 pub overflow_sub-result : goal.overflow_sub-result
-overflow_sub-result c = ran-within _ _ _ _ (ran-front _ _ _ _ _ c.runs.invariant _ c.push_others-count.ensures)
+overflow_sub-result c =
+    let light = rw (← (c.in_default.ensures.none refl)) at c.runs.invariant in
+    ran-within _ _ _ _ (ran-front _ _ _ _ _ light _ c.push_others-count.ensures)
 
 pub returns : goal.returns
 returns c =
-    rw (c.in_default.ensures.none refl)
-    (ran-adds _ _ _ _ (ran-front _ _ _ _ _ c.runs.invariant _ c.push_others-count.ensures))
+    let light = rw (← (c.in_default.ensures.none refl)) at c.runs.invariant in
+    rw (c.in_default-push_free.ensures.none refl)
+    (ran-adds _ _ _ _ (ran-front _ _ _ _ _ light _ c.push_others-count.ensures))
