@@ -1,7 +1,7 @@
 //! Light entries: those whose integers have one byte each, and that need no label beyond the enclosing blocks and no
 //! alignment above the width of the access. What is noted of one is looked up by its opcode.
 
-ghost use Rattle.std.specs.Prelude.{◌≡◌, true, false, IfSome, IsNone};
+ghost use Rattle.std.specs.Prelude.{◌≡◌, ◌≤◌, ℕ, true, false, length, get_or, IfSome, IsNone};
 ghost use Rattle.wc_body.specs.Drafting.AtFront.{NotesInstr, NotesRun};
 ghost use Rattle.wc_body.specs.Drafting.FreeEntries.{IsAlone, NotesPadded};
 ghost use Rattle.wc_body.specs.Drafting.LightRows.{light_at, with_light};
@@ -159,6 +159,24 @@ pub(crate) fn note_padded(opcode: u8, low: u8, enclosing: usize, needs: &mut Nee
     true
 }
 
+/// Notes the instruction of a local whose index has two bytes, and these bytes begin with. What follows it is answered.
+// Where a compiler doesn't optimise, most locals have such an index.
+#[inline(always)]
+fn long_local<'a>(bytes: &'a [u8], needs: &mut Needs) -> Option<&'a [u8]>
+    requires long { (3 ≤ length bytes.now) × (128 ≤ get_or bytes.now 1 0) }
+    requires local { (light_at (get_or bytes.now 0 0)).locals ≡ 0 → ⊥ }
+    ensures some { IfSome result (λ rest. (k : ℕ) → NotesInstr k bytes.now rest.now needs.old needs.new) }
+    ensures none { IsNone result → needs.new ≡ needs.old }
+{
+    let third = bytes[2];
+    if third == 0 || third >= 128 {
+        return None;
+    }
+    let index = u32::from(bytes[1] - 128) + 128 * u32::from(third);
+    needs.locals = needs.locals.max(index + 1);
+    Some(&bytes[3..])
+}
+
 /// Notes the light entry that these bytes begin with, which so many blocks enclose. What follows it is answered.
 // The way branches by how many bytes the entry has: where that can be foretold, the next one is looked up before this
 // one's row is there. Those of two bytes come first, since they are the most.
@@ -177,7 +195,10 @@ pub(crate) fn light_front<'a>(
     let light = light_of(bytes[0]);
     let second = bytes[1];
     if second >= light.second {
-        return None;
+        if light.locals == 0 {
+            return None;
+        }
+        return long_local(bytes, needs);
     }
     if light.length == 2 {
         // A label beyond the enclosing blocks is noted elsewhere.

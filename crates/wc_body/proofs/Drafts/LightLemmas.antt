@@ -1,5 +1,5 @@
 -- Light entries: the table of them, and what is noted of one.
-use Rattle.std.proofs.Common.{◌≡◌, ℕ, zero, suc, ◌+◌, ◌-◌, ◌<◌, ◌≤◌, true, false, ◌||◌, nat_lt, max, min, List, [], ◌∷◌}
+use Rattle.std.proofs.Common.{◌≡◌, ℕ, zero, suc, ◌+◌, ◌-◌, ◌*◌, ◌<◌, ◌≤◌, true, false, ◌||◌, nat_lt, max, min, List, [], ◌∷◌}
 use Rattle.std.proofs.Common.{◌⊎◌, inl, inr, ◌++◌, length, get_or, drop, bit_and, refl, sym, ap, ◌∙◌, arith, add-zero, zero-add}
 use Rattle.std.proofs.Math.Bool.{or-false, or-true}
 use Rattle.std.proofs.lemmas.Bool.Decides.{nat_tests}
@@ -33,7 +33,7 @@ use Rattle.wc_body.specs.Drafting.AtFront.{NotesInstr}
 use Rattle.wc_body.specs.Drafting.FreeEntries.{IsAlone, padded, NotesPadded}
 use Rattle.wc_body.specs.Drafting.LightRows.{light_at, meant_light, op_light, with_light}
 use Rattle.wc_leb128.proofs.Writing.SignedShortest.{signed_bytes-low}
-use Rattle.wc_body.proofs.Drafts.FrontLemmas.{signed-held, spelled-one}
+use Rattle.wc_body.proofs.Drafts.FrontLemmas.{signed-held, spelled-one, unsigned-two}
 
 -- ---- the table
 
@@ -286,6 +286,96 @@ pub light-padded : (a b k : ℕ) (s t : Needs) (r : Light) → r ≡ light_at a 
 unfolding light_at
 light-padded a b k s t r e lt two within is =
     rw is (meant-padded k b 0 [] s a (meaning a) (meaning-is a) r e lt two within)
+
+-- ---- locals whose index has two bytes
+
+abbrev HasLocals : Light → Type 0
+HasLocals r = r.locals ≡ 0 → ⊥
+
+op-second : (op : Op) → HasLocals (op_light op) → (op_light op).second ≡ 128
+op-second (ops.Simple MemorySize) h = absurd (h refl)
+op-second (ops.Simple MemoryGrow) h = absurd (h refl)
+op-second (ops.Simple Nop) h = absurd (h refl)
+op-second (ops.Simple op) h = absurd (h refl)
+op-second (ops.Index LocalGet) h = refl
+op-second (ops.Index LocalSet) h = refl
+op-second (ops.Index LocalTee) h = refl
+op-second (ops.Index Br) h = absurd (h refl)
+op-second (ops.Index BrIf) h = absurd (h refl)
+op-second (ops.Index Call) h = absurd (h refl)
+op-second (ops.Index GlobalGet) h = absurd (h refl)
+op-second (ops.Index GlobalSet) h = absurd (h refl)
+op-second (ops.Mem op) h = absurd (h refl)
+op-second ops.I32Const h = absurd (h refl)
+op-second ops.I64Const h = absurd (h refl)
+op-second ops.BrTable h = absurd (h refl)
+op-second ops.CallIndirect h = absurd (h refl)
+op-second ops.Block h = absurd (h refl)
+op-second ops.Loop h = absurd (h refl)
+op-second ops.If h = absurd (h refl)
+
+meant-second : (m : OpByte) → HasLocals (meant_light m) → (meant_light m).second ≡ 128
+meant-second (Known op) h = op-second op h
+meant-second Float h = absurd (h refl)
+meant-second Unknown h = absurd (h refl)
+
+pub light-second : (a : ℕ) → ((light_at a).locals ≡ 0 → ⊥) → (light_at a).second ≡ 128
+unfolding light_at
+light-second a h = meant-second (meaning a) h
+
+module _ (k b c n : ℕ) (y : List ℕ) (s : Needs) (le : 128 ≤ b) (lt : b < 256) (some : c ≡ 0 → ⊥) (low : c < 128)
+    (is : n ≡ b - 128 + 128 * c)
+  where
+    long-index : (op : IndexOp) → record s { locals = max s.locals (n + 1) } ≡ with_index s k op n
+        → NotesInstr k ((row (ops.Index op)).byte ∷ b ∷ c ∷ y) y s (record s { locals = max s.locals (n + 1) })
+    long-index op noted =
+        let two = unsigned-two (b ∷ c ∷ y) (c ∷ y) y b c n refl refl is le lt some low in
+        (Index op n, ap (λ (x : List ℕ). (row (ops.Index op)).byte ∷ x) two.0, two.1, noted)
+
+    long-enough : record s { locals = max s.locals (n + 1) } ≡ record s { locals = enough s.locals n }
+    long-enough =
+        let same : max s.locals (n + 1) ≡ enough s.locals n = omega (arith, is, lt, low) in
+        rw same refl
+
+    long-op : (op : Op) → HasLocals (op_light op)
+        → NotesInstr k ((row op).byte ∷ b ∷ c ∷ y) y s (record s { locals = max s.locals (n + 1) })
+    long-op (ops.Index LocalGet) h = long-index LocalGet long-enough
+    long-op (ops.Index LocalSet) h = long-index LocalSet long-enough
+    long-op (ops.Index LocalTee) h = long-index LocalTee long-enough
+    long-op (ops.Index Br) h = absurd (h refl)
+    long-op (ops.Index BrIf) h = absurd (h refl)
+    long-op (ops.Index Call) h = absurd (h refl)
+    long-op (ops.Index GlobalGet) h = absurd (h refl)
+    long-op (ops.Index GlobalSet) h = absurd (h refl)
+    long-op (ops.Simple MemorySize) h = absurd (h refl)
+    long-op (ops.Simple MemoryGrow) h = absurd (h refl)
+    long-op (ops.Simple Nop) h = absurd (h refl)
+    long-op (ops.Simple op) h = absurd (h refl)
+    long-op (ops.Mem op) h = absurd (h refl)
+    long-op ops.I32Const h = absurd (h refl)
+    long-op ops.I64Const h = absurd (h refl)
+    long-op ops.BrTable h = absurd (h refl)
+    long-op ops.CallIndirect h = absurd (h refl)
+    long-op ops.Block h = absurd (h refl)
+    long-op ops.Loop h = absurd (h refl)
+    long-op ops.If h = absurd (h refl)
+
+    long-meant : (a : ℕ) (m : OpByte) → IsOpByte a m → HasLocals (meant_light m)
+        → NotesInstr k (a ∷ b ∷ c ∷ y) y s (record s { locals = max s.locals (n + 1) })
+    long-meant a (Known op) is h = let byte = (is.known op).0 refl in rw (← byte) (long-op op h)
+    long-meant a Float is h = absurd (h refl)
+    long-meant a Unknown is h = absurd (h refl)
+
+pub long-noted : (x : List ℕ) (k n : ℕ) (s : Needs) → 3 ≤ length x → ((light_at (get_or x 0 0)).locals ≡ 0 → ⊥)
+    → 128 ≤ get_or x 1 0 → get_or x 1 0 < 256 → (get_or x 2 0 ≡ 0 → ⊥) → get_or x 2 0 < 128
+    → n ≡ get_or x 1 0 - 128 + 128 * get_or x 2 0
+    → NotesInstr k x (drop 3 x) s (record s { locals = max s.locals (n + 1) })
+unfolding light_at
+long-noted [] k n s le h high byte some low is = absurd (omega arith)
+long-noted (a ∷ []) k n s le h high byte some low is = absurd (omega arith)
+long-noted (a ∷ b ∷ []) k n s le h high byte some low is = absurd (omega arith)
+long-noted (a ∷ b ∷ c ∷ y) k n s le h high byte some low is =
+    long-meant k b c n y s high byte some low is a (meaning a) (meaning-is a) h
 
 -- none is light, or all have one byte and need nothing, or two and no memory, or three and a memory alone
 abbrev pub IsKind : Light → Type 0

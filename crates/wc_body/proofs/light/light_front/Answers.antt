@@ -1,7 +1,14 @@
-use Rattle.std.proofs.Common.{get_or, arith}
+use Rattle.std.proofs.Common.{◌≤◌, get_or, arith}
 use Rattle.std.proofs.lemmas.List.{take_rest}
-use Rattle.wc_body.proofs.Drafts.LightLemmas.{IsKind, light-kind, light-noted, pair-memory, bare-needs, access-needs}
+use Rattle.wc_body.proofs.Drafts.LightLemmas.{IsKind, light-kind, light-second, light-noted, pair-memory, bare-needs, access-needs}
 use Rattle.wc_body.proofs.light.light_front.Goals as goal
+
+pub long_local-requires-clause-long : goal.long_local-requires-clause-long
+long_local-requires-clause-long c =
+    let light = c.light_of-light.result.now in
+    let second = light-second (get_or c.args.bytes.now 0 0) (rw c.light_of-light.ensures at c.if-light-eq0.false) in
+    let past : light.second ≤ get_or c.args.bytes.now 1 0 = c.if-second-light.true in
+    (c.if-bytes-lt3.false, omega (arith, rw c.light_of-light.ensures at past, second))
 
 pub note_pair-requires : goal.note_pair-requires
 note_pair-requires c =
