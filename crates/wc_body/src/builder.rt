@@ -50,8 +50,8 @@ impl<T: Drop> From<AllocFailed<T>> for BuildFault {
     }
 }
 
-/// How many bytes an opcode and what follows it have at most: two integers of 32 bits, or one of 64.
-const INTEGERS_LIMIT: usize = 11;
+/// How many bytes an opcode and an integer have at most.
+const INTEGER_LIMIT: usize = 11;
 
 /// Which part an open block, loop or if is in: the first part of an if, or any other.
 #[derive(Clone, Copy, Debug, PartialEq, Eq)]
@@ -183,13 +183,13 @@ impl BodyBuilder {
         Ok(())
     }
 
-    /// Adds an instruction of an integer or two where there is room for it, and answers whether it was added.
+    /// Adds an instruction of one integer where there is room for it, and answers whether it was added.
     #[inline(always)]
     pub(crate) fn push_fitting(&mut self, instr: Instr<'_>) -> bool
         ensures added { result ≡ true → self.new ≡ step self.old (plain instr.entry) }
         ensures same { result ≡ false → self.new ≡ self.old }
     {
-        if self.bytes.capacity() - self.bytes.len() < INTEGERS_LIMIT {
+        if self.bytes.capacity() - self.bytes.len() < INTEGER_LIMIT {
             return false;
         }
         self.push_plain(instr).is_ok()

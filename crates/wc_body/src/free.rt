@@ -1,5 +1,5 @@
-//! Instructions that bytes begin with, whose integers may be spelled longer than they are kept: as linkers leave them,
-//! which put others in their place.
+//! Instructions that bytes begin with, whose integer may be spelled longer than it is kept: as linkers leave it, which
+//! put another in its place.
 
 ghost use Rattle.std.specs.Prelude.{◌≡◌, ◌∷◌, IfSome, IsNone};
 ghost use Rattle.wc_leb128.specs.Standard.Integers.{U, IsAtFront};
@@ -10,8 +10,8 @@ ghost use Rattle.wc_body.specs.Drafting.FrontEntries.{AddsFront};
 
 use crate::builder::BodyBuilder;
 use crate::bytes::number::{i32_at, i64_at};
-use crate::instr::{Instr, MemArg};
-use wc_ops::{IndexOp, MemOp};
+use crate::instr::Instr;
+use wc_ops::IndexOp;
 
 /// The unsigned integer of 32 bits that these bytes begin with (Core 1.0, 5.2.2), and what follows it.
 #[inline(always)]
@@ -45,43 +45,6 @@ fn u32_front(bytes: &[u8]) -> Option<(u32, &[u8])>
     Some((low + 0x1000_0000 * u32::from(*fifth), rest))
 }
 
-/// Which access of memory has this opcode.
-// A table of its own, so that whoever asks doesn't jump by the opcode.
-#[inline(always)]
-fn access_of(opcode: u8) -> Option<MemOp>
-    ensures { IfSome result (λ op. (row (ops.Mem op)).byte ≡ opcode) }
-{
-    match opcode {
-        0x28 => Some(MemOp::I32Load),
-        0x29 => Some(MemOp::I64Load),
-        0x2c => Some(MemOp::I32Load8S),
-        0x2d => Some(MemOp::I32Load8U),
-        0x2e => Some(MemOp::I32Load16S),
-        0x2f => Some(MemOp::I32Load16U),
-        0x30 => Some(MemOp::I64Load8S),
-        0x31 => Some(MemOp::I64Load8U),
-        0x32 => Some(MemOp::I64Load16S),
-        0x33 => Some(MemOp::I64Load16U),
-        0x34 => Some(MemOp::I64Load32S),
-        0x35 => Some(MemOp::I64Load32U),
-        0x36 => Some(MemOp::I32Store),
-        0x37 => Some(MemOp::I64Store),
-        0x3a => Some(MemOp::I32Store8),
-        0x3b => Some(MemOp::I32Store16),
-        0x3c => Some(MemOp::I64Store8),
-        0x3d => Some(MemOp::I64Store16),
-        0x3e => Some(MemOp::I64Store32),
-        _ => None,
-    }
-}
-
-/// Whether `push_front` leaves an access of memory of this opcode whose alignment has one byte, and whose offset begins
-/// with these two: it has more, or the second one is a needless 0.
-#[inline(always)]
-fn is_far(opcode: u8, first: u8, second: u8) -> bool {
-    first >= 128 && (second == 0 || second >= 128) && matches!(opcode, 0x28..=0x3e)
-}
-
 /// Whether `push_front` leaves a constant that begins with these four bytes, of which the first is 128 or more: the last
 /// byte is a needless 0, or there are five.
 #[inline(always)]
@@ -92,15 +55,12 @@ fn is_long_constant(first: u8, second: u8, third: u8, fourth: u8) -> bool {
             && (third == 0 && second < 0xc0 || third >= 128 && fourth == 0 && third < 0xc0)
 }
 
-/// Whether these bytes begin with an instruction that `push_front` leaves for its integers: an index of three bytes or
-/// a needless 0, or such a constant or offset.
+/// Whether these bytes begin with an instruction that `push_front` leaves for its integer: an index of three bytes or a
+/// needless 0, or such a constant.
 #[inline(always)]
 fn is_wide(bytes: &[u8]) -> bool {
-    if bytes.len() < 5 {
+    if bytes.len() < 5 || bytes[1] < 128 {
         return false;
-    }
-    if bytes[1] < 128 {
-        return is_far(bytes[0], bytes[2], bytes[3]);
     }
     match bytes[0] {
         0x0c..=0x0e | 0x10 | 0x11 | 0x20..=0x40 => bytes[2] == 0 || bytes[2] >= 128,
@@ -151,23 +111,8 @@ impl BodyBuilder {
         Some(rest)
     }
 
-    /// The same of an access of memory, by its opcode.
-    #[inline(always)]
-    fn push_access<'a>(&mut self, opcode: u8, bytes: &'a [u8]) -> Option<&'a [u8]>
-        ensures some { IfSome result (λ rest. AddsOne self.old self.new (opcode ∷ bytes.now) rest.now) }
-        ensures none { IsNone result → self.new ≡ self.old }
-    {
-        let op = access_of(opcode)?;
-        let (align, rest) = u32_front(bytes)?;
-        let (offset, rest) = u32_front(rest)?;
-        if !self.push_fitting(Instr::Mem(op, MemArg { align, offset })) {
-            return None;
-        }
-        Some(rest)
-    }
-
-    /// Adds the instruction that these bytes begin with, where it is an index's, a constant or an access of memory, and
-    /// fits the memory at hand. What follows it is answered.
+    /// Adds the instruction that these bytes begin with, where it is an index's or a constant, and fits the memory at
+    /// hand. What follows it is answered.
     // An arm for each, so that it isn't told apart once more when it is added.
     #[inline(always)]
     fn push_free<'a>(&mut self, bytes: &'a [u8]) -> Option<&'a [u8]>
@@ -186,7 +131,7 @@ impl BodyBuilder {
             0x24 => self.push_index(IndexOp::GlobalSet, rest),
             0x41 => self.push_i32(rest),
             0x42 => self.push_i64(rest),
-            _ => self.push_access(*byte, rest),
+            _ => None,
         }
     }
 
@@ -229,8 +174,8 @@ impl BodyBuilder {
     }
 
     /// Adds the entries that these bytes begin with, as many as are usual and fit the memory at hand. Each is spelled
-    /// as it is kept, but for integers behind an opcode, whose spelling may be any. Answers how many bytes they have.
-    /// No end is added at which none is open.
+    /// as it is kept, but for an index or a constant, whose spelling may be any. Answers how many bytes they have. No
+    /// end is added at which none is open.
     pub fn push_ahead(&mut self, bytes: &[u8]) -> usize
         ensures { AddsFree self.old self.new bytes.now result }
     {

@@ -5,7 +5,7 @@ use Rattle.wc_ops.specs.Standard.Opcodes.{row}
 use Rattle.wc_body.specs.declared.instr.Instr.{Instr}
 use Rattle.wc_body.specs.Standard.InstructionBytes.{op_of}
 use Rattle.wc_body.specs.declared.entry.Entry.TheVariants.{Plain}
-use Rattle.wc_body.specs.Drafting.FreeEntries.{SpellsIntegers, SpellsEntry}
+use Rattle.wc_body.specs.Drafting.FreeEntries.{SpellsInteger, SpellsEntry}
 
 pub last-unsigned : (N b : ℕ) (x y : List ℕ) → x ≡ b ∷ y → b < 128 → b < 2 ^ N → IsAtFront (U N) x b y
 last-unsigned N b x y e lt fits = (b ∷ [], e, inl (omega (arith, lt), fits, refl, refl))
@@ -15,8 +15,8 @@ pub next-unsigned : (N b m v : ℕ) (x r y : List ℕ) → x ≡ b ∷ r → 128
 next-unsigned N b m v x r y e le lt more (a, f, s) is =
     (b ∷ a, e ∙ ap (λ (z : List ℕ). b ∷ z) f, inr (omega (arith, le), omega (arith, lt), more, m, s, is))
 
--- an opcode, and its integers
+-- an opcode, and its integer
 pub free-one : (x rest left y : List ℕ) (b : ℕ) (i : Instr) → x ≡ b ∷ rest → (row (op_of i)).byte ≡ b
-    → rest ≡ y ++ left → SpellsIntegers i y → (w : List ℕ) × (x ≡ w ++ left) × SpellsEntry (Plain i) w
+    → rest ≡ y ++ left → SpellsInteger i y → (w : List ℕ) × (x ≡ w ++ left) × SpellsEntry (Plain i) w
 free-one x rest left y b i e byte f s =
     (b ∷ y, e ∙ ap (λ (z : List ℕ). b ∷ z) f, inr (i, refl, (y, rw byte refl, s)))

@@ -69,7 +69,7 @@ module _ (d mid after : Draft Instr BlockType) (bytes rest : List ℕ) (r : Ran 
       let split = sym (take-append-drop n rest) ∙ ap (λ (q : List ℕ). q ++ drop n rest) h.1.1 in
       rw (take_rest rest n) (ran-more h.1.0 (packed h.1.0) (drop n rest) split (packed-spell h.1.0 h.1.2) h.1.3 h.1.4)
 
-  -- one whose integers have any spelling
+  -- one whose integer has any spelling
   pub ran-one : (left : List ℕ) → AddsOne mid after rest left → Ran d after bytes left
   ran-one left h =
       ran-more (Plain h.0 ∷ []) h.1 left h.2 (h.1, [], sym (append-nil h.1), h.3, refl) (λ e. absurd cc, refl, tt) h.4

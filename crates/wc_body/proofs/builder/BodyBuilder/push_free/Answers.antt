@@ -29,6 +29,3 @@ returns-in-65-clause-some c = rw (c.in_ok-byte.ensures.cases.0, c.in-65.is) c.pu
 
 pub returns-in-66-clause-some : goal.returns-in-66-clause-some
 returns-in-66-clause-some c = rw (c.in_ok-byte.ensures.cases.0, c.in-66.is) c.push_i64.ensures.some
-
-pub returns-in_default-clause-some : goal.returns-in_default-clause-some
-returns-in_default-clause-some c = rw c.in_ok-byte.ensures.cases.0 c.push_access.ensures.some
