@@ -1,6 +1,6 @@
 //! Bodies, entry by entry.
 
-ghost use Rattle.std.specs.Prelude.{[], ◌≡◌, ◌+◌, ◌<◌, ◌≤◌, ◌++◌, true, length, OnOk, OnErr, IfErr};
+ghost use Rattle.std.specs.Prelude.{[], ◌≡◌, ◌+◌, ◌<◌, ◌≤◌, ◌++◌, true, length, take, OnOk, OnErr, IfErr};
 ghost use Rattle.std.specs.Prelude.{vec_len, vec_capacity};
 ghost use Rattle.wc_body.specs.Drafting.OpenParts.{part_of};
 ghost use Rattle.wc_body.specs.Drafting.PackedBody.{with_end};
@@ -52,6 +52,9 @@ impl<T: Drop> From<AllocFailed<T>> for BuildFault {
 
 /// How many bytes an opcode and an integer have at most.
 const INTEGER_LIMIT: usize = 11;
+
+/// How many bytes of a run are copied as one: a run of fewer with what follows it, which is then cut off.
+const COPIED: usize = 32;
 
 /// Which part an open block, loop or if is in: the first part of an if, or any other.
 #[derive(Clone, Copy, Debug, PartialEq, Eq)]
@@ -329,7 +332,7 @@ impl BodyBuilder {
             rest = behind;
         }
         let count = fitting.len() - rest.len();
-        append(&mut self.bytes, &fitting[..count]);
+        append(&mut self.bytes, fitting, count);
         count
     }
 
@@ -391,12 +394,20 @@ pub(crate) fn first_part_of(kind: Kind) -> Part
     }
 }
 
-/// Puts these bytes behind others, for which there is room.
-fn append(bytes: &mut Vec<u8>, more: &[u8])
-    requires { vec_len bytes.old + length more.now ≤ vec_capacity bytes.old }
-    ensures { bytes.new.items ≡ bytes.old.items ++ more.now }
+/// Puts the first so many of these bytes behind others. There is room for all of them. Most are few: where more stand
+/// there, as many are copied as one, so that the copy takes no branch by their number.
+#[inline(always)]
+fn append(bytes: &mut Vec<u8>, more: &[u8], count: usize)
+    requires { (count ≤ length more.now) × (vec_len bytes.old + length more.now ≤ vec_capacity bytes.old) }
+    ensures { bytes.new.items ≡ bytes.old.items ++ take count more.now }
 {
-    let _ = bytes.extend_from_slice(more);
+    if count <= COPIED && more.len() >= COPIED {
+        let length = bytes.len();
+        let _ = bytes.extend_from_slice(&more[..COPIED]);
+        bytes.truncate(length + count);
+        return;
+    }
+    let _ = bytes.extend_from_slice(&more[..count]);
 }
 
 /// Puts an end mark last; an else mark that stands last gives way to it.
