@@ -1,5 +1,7 @@
 //! Bodies, entry by entry.
 
+mod fitting;
+
 ghost use Rattle.std.specs.Prelude.{[], ◌≡◌, ◌+◌, ◌<◌, ◌≤◌, ◌++◌, true, length, take, OnOk, OnErr, IfErr};
 ghost use Rattle.std.specs.Prelude.{vec_len, vec_capacity};
 ghost use Rattle.wc_body.specs.Drafting.OpenParts.{part_of};
@@ -11,7 +13,7 @@ use crate::bytes::put::{put_begin, put_instr};
 use crate::entry::{Entry, Kind};
 use crate::front::usual_front;
 use crate::instr::{BlockType, Instr};
-use crate::light::{after_light, is_alone, note_padded};
+use crate::light::after_light;
 use crate::needs::Needs;
 use std::alloc::{AllocError, AllocFailed, Global};
 use std::marker::Model;
@@ -50,10 +52,7 @@ impl<T: Drop> From<AllocFailed<T>> for BuildFault {
     }
 }
 
-/// How many bytes an opcode and an integer have at most.
-const INTEGER_LIMIT: usize = 11;
-
-/// How many bytes of a run are copied as one: a run of fewer with what follows it, which is then cut off.
+/// How many bytes are copied for a run that has no more, where so many stand there.
 const COPIED: usize = 32;
 
 /// Which part an open block, loop or if is in: the first part of an if, or any other.
@@ -98,16 +97,13 @@ impl Model for BodyBuilder {
 }
 
 impl BodyBuilder {
-    ghost use Rattle.std.specs.Prelude.{[], ◌∷◌, ◌≡◌, ◌≤◌, ◌↔◌, false, true, length};
+    ghost use Rattle.std.specs.Prelude.{[], ◌≡◌, ◌≤◌, ◌↔◌, false, true, length};
     ghost use Rattle.std.specs.Prelude.{IfOk, OnOk, OnErr, IfErr, IsErrOf};
     ghost use Rattle.wc_body.specs.Standard.Nested.{empty, plain, otherwise, close, nesting, nesting_limit};
     ghost use Rattle.wc_body.specs.Standard.Draft.{so_far, kept_with, whole, step, may_come, in_first_part};
     ghost use Rattle.wc_body.specs.Standard.Draft.{is_open, reach, IsTooDeep};
     ghost use Rattle.wc_body.specs.Standard.Entries.{mark, begin_of};
     ghost use Rattle.wc_body.specs.Drafting.FrontEntries.{AddsFront};
-    ghost use Rattle.wc_body.specs.Drafting.FreeEntries.{padded, SpellsEntry};
-    ghost use Rattle.wc_body.specs.declared.instr.Instr.{Instr as AnInstr};
-    ghost use Rattle.wc_body.specs.declared.entry.Entry.TheVariants.{Plain};
     ghost use Rattle.wc_body.specs.declared.builder.BuildFault.TheVariants as faults;
 
     /// Nothing so far, in this memory.
@@ -184,54 +180,6 @@ impl BodyBuilder {
         self.needs.note_instr(self.parts.len(), &instr);
         self.after_else = false;
         Ok(())
-    }
-
-    /// Adds an instruction of one integer where there is room for it, and answers whether it was added.
-    #[inline(always)]
-    pub(crate) fn push_fitting(&mut self, instr: Instr<'_>) -> bool
-        ensures added { result ≡ true → self.new ≡ step self.old (plain instr.entry) }
-        ensures same { result ≡ false → self.new ≡ self.old }
-    {
-        if self.bytes.capacity() - self.bytes.len() < INTEGER_LIMIT {
-            return false;
-        }
-        self.push_plain(instr).is_ok()
-    }
-
-    /// Adds the instruction of this opcode, where nothing follows that and there is room for it, and answers whether it
-    /// was added.
-    #[inline(always)]
-    pub(crate) fn push_alone(&mut self, opcode: u8) -> bool
-        ensures added { result ≡ true → (i : AnInstr) × SpellsEntry (Plain i) (opcode ∷ [])
-            × (self.new ≡ step self.old (plain i)) }
-        ensures same { result ≡ false → self.new ≡ self.old }
-    {
-        if self.bytes.len() >= self.bytes.capacity() || !is_alone(opcode) {
-            return false;
-        }
-        self.bytes.push_reserved(opcode);
-        self.after_else = false;
-        true
-    }
-
-    /// Adds the instruction of this opcode whose integer is so low, where it is light but for its length and there is
-    /// room for it, and answers whether it was added. The integer has five bytes where it stands.
-    #[inline(always)]
-    pub(crate) fn push_padded(&mut self, opcode: u8, low: u8) -> bool
-        ensures added { result ≡ true → (i : AnInstr) × SpellsEntry (Plain i) (opcode ∷ padded low)
-            × (self.new ≡ step self.old (plain i)) }
-        ensures same { result ≡ false → self.new ≡ self.old }
-    {
-        if self.bytes.capacity() - self.bytes.len() < 2 {
-            return false;
-        }
-        if !note_padded(opcode, low, self.parts.len(), &mut self.needs) {
-            return false;
-        }
-        self.bytes.push_reserved(opcode);
-        self.bytes.push_reserved(low);
-        self.after_else = false;
-        true
     }
 
     #[inline(never)]
@@ -394,8 +342,8 @@ pub(crate) fn first_part_of(kind: Kind) -> Part
     }
 }
 
-/// Puts the first so many of these bytes behind others. There is room for all of them. Most are few: where more stand
-/// there, as many are copied as one, so that the copy takes no branch by their number.
+/// Puts the first so many of these bytes behind others. There is room for all of them.
+// Most runs are short. A copy of a fixed length, of which what is too much is cut off, has no branch by their length.
 #[inline(always)]
 fn append(bytes: &mut Vec<u8>, more: &[u8], count: usize)
     requires { (count ≤ length more.now) × (vec_len bytes.old + length more.now ≤ vec_capacity bytes.old) }

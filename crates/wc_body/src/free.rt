@@ -1,5 +1,5 @@
-//! Instructions that bytes begin with, whose integer may be spelled longer than it is kept: as linkers leave it, which
-//! put another in its place.
+//! Instructions that bytes begin with, whose integer may be spelled longer than it is kept. Linkers leave such
+//! integers, where they put one in place of another.
 
 ghost use Rattle.std.specs.Prelude.{◌≡◌, ◌∷◌, IfSome, IsNone};
 ghost use Rattle.wc_leb128.specs.Standard.Integers.{U, IsAtFront};
@@ -45,8 +45,8 @@ fn u32_front(bytes: &[u8]) -> Option<(u32, &[u8])>
     Some((low + 0x1000_0000 * u32::from(*fifth), rest))
 }
 
-/// Whether `push_front` leaves a constant that begins with these four bytes, of which the first is 128 or more: the last
-/// byte is a needless 0, or there are five.
+/// Whether `push_front` leaves a constant that begins with these four bytes, of which the first is 128 or more: the
+/// last byte is a needless 0, or there are five.
 #[inline(always)]
 fn is_long_constant(first: u8, second: u8, third: u8, fourth: u8) -> bool {
     second & third & fourth >= 128
@@ -57,6 +57,7 @@ fn is_long_constant(first: u8, second: u8, third: u8, fourth: u8) -> bool {
 
 /// Whether these bytes begin with an instruction that `push_front` leaves for its integer: an index of three bytes or a
 /// needless 0, or such a constant.
+// Of the other opcodes that are matched here it takes none whose next byte is 128 or more.
 #[inline(always)]
 fn is_wide(bytes: &[u8]) -> bool {
     if bytes.len() < 5 || bytes[1] < 128 {
@@ -135,9 +136,9 @@ impl BodyBuilder {
         }
     }
 
-    /// Adds the instruction that these bytes begin with, where it has no integer and the second byte behind it is 128 or
-    /// more, as in a long one; or where its integer is below 64 and has five bytes; and where it is light but for these.
-    /// What follows it is answered.
+    /// Adds the instruction that these bytes begin with, where it has no integer and the second byte behind it is 128
+    /// or more, as in a long one; or where its integer is below 64 and has five bytes; and where it is light but for
+    /// these. What follows it is answered.
     // No jump by the opcode, and no look for a run that would mostly end at once.
     #[inline(always)]
     fn push_light<'a>(&mut self, bytes: &'a [u8]) -> Option<&'a [u8]>
@@ -176,6 +177,8 @@ impl BodyBuilder {
     /// Adds the entries that these bytes begin with, as many as are usual and fit the memory at hand. Each is spelled
     /// as it is kept, but for an index or a constant, whose spelling may be any. Answers how many bytes they have. No
     /// end is added at which none is open.
+    // A call, so that its loops have registers of their own.
+    #[inline(never)]
     pub fn push_ahead(&mut self, bytes: &[u8]) -> usize
         ensures { AddsFree self.old self.new bytes.now result }
     {

@@ -1,5 +1,6 @@
 //! Light entries: those whose integers have one byte each, and that need no label beyond the enclosing blocks and no
-//! alignment above the width of the access. What is noted of one is looked up by its opcode.
+//! alignment above the width of the access. What is noted of one is looked up by its opcode. Locals whose index has two
+//! bytes are taken along with them.
 
 ghost use Rattle.std.specs.Prelude.{◌≡◌, ◌≤◌, ℕ, true, false, length, get_or, IfSome, IsNone};
 ghost use Rattle.wc_body.specs.Drafting.AtFront.{NotesInstr, NotesRun};
@@ -143,8 +144,8 @@ fn note_pair(needs: &mut Needs, light: &Light, second: u8)
 }
 
 /// Notes what the instruction of this opcode and of so low an integer needs, which so many blocks enclose, where its
-/// light entries have two bytes, the integer is below 64, and it is no label beyond these blocks; answers whether it was
-/// noted. The integer has five bytes where it stands.
+/// light entries have two bytes, the integer is below 64, and it is no label beyond these blocks; answers whether it
+/// was noted. The integer has five bytes where it stands.
 // A constant from 64 on needs two bytes.
 #[inline(always)]
 pub(crate) fn note_padded(opcode: u8, low: u8, enclosing: usize, needs: &mut Needs) -> bool
@@ -159,7 +160,8 @@ pub(crate) fn note_padded(opcode: u8, low: u8, enclosing: usize, needs: &mut Nee
     true
 }
 
-/// Notes the instruction of a local whose index has two bytes, and these bytes begin with. What follows it is answered.
+/// Notes the instruction of a local that these bytes begin with, where its index has two bytes, and no more than it
+/// needs. What follows it is answered.
 // Where a compiler doesn't optimise, most locals have such an index.
 #[inline(always)]
 fn long_local<'a>(bytes: &'a [u8], needs: &mut Needs) -> Option<&'a [u8]>
@@ -177,7 +179,8 @@ fn long_local<'a>(bytes: &'a [u8], needs: &mut Needs) -> Option<&'a [u8]>
     Some(&bytes[3..])
 }
 
-/// Notes the light entry that these bytes begin with, which so many blocks enclose. What follows it is answered.
+/// Notes the light entry that these bytes begin with, or the local whose index has two bytes, which so many blocks
+/// enclose. What follows it is answered.
 // The way branches by how many bytes the entry has: where that can be foretold, the next one is looked up before this
 // one's row is there. Those of two bytes come first, since they are the most.
 #[inline(always)]
@@ -198,6 +201,7 @@ pub(crate) fn light_front<'a>(
         if light.locals == 0 {
             return None;
         }
+        // The rows of locals bar what begins a longer index, and no more.
         return long_local(bytes, needs);
     }
     if light.length == 2 {
@@ -218,8 +222,8 @@ pub(crate) fn light_front<'a>(
     Some(&bytes[3..])
 }
 
-/// Notes the light entries that these bytes begin with, which so many blocks enclose, one after the other. What follows
-/// them is answered.
+/// Notes the entries of that kind that these bytes begin with, which so many blocks enclose, one after the other. What
+/// follows them is answered.
 // What is noted stands in a local, so that the loop keeps it in registers.
 #[inline(always)]
 pub(crate) fn after_light<'a>(bytes: &'a [u8], enclosing: usize, needs: &mut Needs) -> &'a [u8]

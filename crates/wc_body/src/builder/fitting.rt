@@ -1,0 +1,65 @@
+//! Instructions that are added only where the memory at hand has room for them.
+
+ghost use Rattle.std.specs.Prelude.{[], ◌∷◌, ◌≡◌, false, true};
+ghost use Rattle.wc_body.specs.Standard.Draft.{step};
+ghost use Rattle.wc_body.specs.Standard.Nested.{plain};
+ghost use Rattle.wc_body.specs.Drafting.FreeEntries.{padded, SpellsEntry};
+ghost use Rattle.wc_body.specs.declared.instr.Instr.{Instr as AnInstr};
+ghost use Rattle.wc_body.specs.declared.entry.Entry.TheVariants.{Plain};
+
+use crate::builder::BodyBuilder;
+use crate::instr::Instr;
+use crate::light::{is_alone, note_padded};
+
+/// How many bytes an opcode and an integer have at most.
+const INTEGER_LIMIT: usize = 11;
+
+impl BodyBuilder {
+    /// Adds an instruction of one integer where there is room for it, and answers whether it was added.
+    #[inline(always)]
+    pub(crate) fn push_fitting(&mut self, instr: Instr<'_>) -> bool
+        ensures added { result ≡ true → self.new ≡ step self.old (plain instr.entry) }
+        ensures same { result ≡ false → self.new ≡ self.old }
+    {
+        if self.bytes.capacity() - self.bytes.len() < INTEGER_LIMIT {
+            return false;
+        }
+        self.push_plain(instr).is_ok()
+    }
+
+    /// Adds the instruction of this opcode, where nothing follows that and there is room for it, and answers whether it
+    /// was added.
+    #[inline(always)]
+    pub(crate) fn push_alone(&mut self, opcode: u8) -> bool
+        ensures added { result ≡ true → (i : AnInstr) × SpellsEntry (Plain i) (opcode ∷ [])
+            × (self.new ≡ step self.old (plain i)) }
+        ensures same { result ≡ false → self.new ≡ self.old }
+    {
+        if self.bytes.len() >= self.bytes.capacity() || !is_alone(opcode) {
+            return false;
+        }
+        self.bytes.push_reserved(opcode);
+        self.after_else = false;
+        true
+    }
+
+    /// Adds the instruction of this opcode whose integer is so low, where it is light but for its length and there is
+    /// room for it, and answers whether it was added. The integer has five bytes where it stands.
+    #[inline(always)]
+    pub(crate) fn push_padded(&mut self, opcode: u8, low: u8) -> bool
+        ensures added { result ≡ true → (i : AnInstr) × SpellsEntry (Plain i) (opcode ∷ padded low)
+            × (self.new ≡ step self.old (plain i)) }
+        ensures same { result ≡ false → self.new ≡ self.old }
+    {
+        if self.bytes.capacity() - self.bytes.len() < 2 {
+            return false;
+        }
+        if !note_padded(opcode, low, self.parts.len(), &mut self.needs) {
+            return false;
+        }
+        self.bytes.push_reserved(opcode);
+        self.bytes.push_reserved(low);
+        self.after_else = false;
+        true
+    }
+}
