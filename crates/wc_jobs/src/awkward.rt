@@ -1,7 +1,7 @@
 //! Inputs of awkward shapes.
 
 use crate::draws::Draws;
-use crate::names::put_func_name;
+use crate::names::{put_drawn_id, put_drawn_name};
 use crate::spelling::{
     put_decimal, put_line, put_name, put_padded, put_section, put_signed, put_unsigned,
 };
@@ -188,20 +188,11 @@ pub fn put_row_text(
     put_decimal(out, mark)
 }
 
-/// Puts a long name with characters beyond ASCII.
-fn put_long_name(out: &mut Vec<u8>, index: u32) -> Result<(), AllocError> {
-    put_func_name(out, index)?;
-    if index % 4 == 0 {
-        out.extend_from_slice("_für_größere_Blöcke_der_Tabelle_…_".as_bytes())?;
-        put_func_name(out, index.wrapping_mul(7) % 100_000)?;
-    }
-    Ok(())
-}
-
-/// Puts a module of imports and exports with so many names each.
+/// Puts a module of imports and exports with so many names each, which the seed draws.
 pub fn put_names(
     alloc: Global,
     out: &mut Vec<u8>,
+    seed: u64,
     first: u32,
     count: u32,
 ) -> Result<(), AllocError> {
@@ -214,7 +205,7 @@ pub fn put_names(
     put_unsigned(&mut exports, u64::from(count))?;
     for index in 0..count {
         name.clear();
-        put_long_name(&mut name, first.wrapping_add(index))?;
+        put_drawn_name(&mut name, seed, first.wrapping_add(index))?;
         put_name(&mut imports, b"env")?;
         put_name(&mut imports, &name)?;
         imports.extend_from_slice(&[0, 0])?;
@@ -226,21 +217,26 @@ pub fn put_names(
     put_section(out, 7, &exports, false)
 }
 
-/// Puts the text of a module of imports and exports with so many names each.
-pub fn put_names_text(out: &mut Vec<u8>, first: u32, count: u32) -> Result<(), AllocError> {
+/// Puts the text of the module of imports and exports with so many names each, which the seed draws.
+pub fn put_names_text(
+    out: &mut Vec<u8>,
+    seed: u64,
+    first: u32,
+    count: u32,
+) -> Result<(), AllocError> {
     out.extend_from_slice(b"(module")?;
     for index in 0..count {
         out.extend_from_slice(b"\n  (import \"env\" \"")?;
-        put_long_name(out, first.wrapping_add(index))?;
+        put_drawn_name(out, seed, first.wrapping_add(index))?;
         out.extend_from_slice(b"\" (func $")?;
-        put_func_name(out, first.wrapping_add(index))?;
+        put_drawn_id(out, seed, first.wrapping_add(index))?;
         out.extend_from_slice(b" (param i32)))")?;
     }
     for index in 0..count {
         out.extend_from_slice(b"\n  (export \"")?;
-        put_long_name(out, first.wrapping_add(index))?;
+        put_drawn_name(out, seed, first.wrapping_add(index))?;
         out.extend_from_slice(b"\" (func $")?;
-        put_func_name(out, first.wrapping_add(index))?;
+        put_drawn_id(out, seed, first.wrapping_add(index))?;
         out.extend_from_slice(b"))")?;
     }
     out.extend_from_slice(b")\n")?;

@@ -1,7 +1,7 @@
 //! Inputs as bytes.
 
 use crate::library::Library;
-use crate::plan::{Kind, Plan, funcs_of};
+use crate::plan::{Fault, Kind, Plan, funcs_of};
 use crate::shape::{TYPES, put_types};
 use crate::spelling::{put_decimal, put_name, put_section, put_signed, put_size, put_unsigned};
 use std::alloc::{AllocError, Global};
@@ -137,6 +137,9 @@ fn put_codes(
             out.extend_from_slice(&func.code)?;
         }
     }
+    if let (Some(Fault::LastEnd), Some(end)) = (plan.fault, out.last_mut()) {
+        *end = 0xff;
+    }
     Ok(())
 }
 
@@ -153,8 +156,12 @@ fn put_data(
             data.extend_from_slice(&chunk.bytes)?;
         }
     }
+    let count = match plan.fault {
+        Some(Fault::DataCount) => 2,
+        _ => 1,
+    };
     let mut content = Vec::with_capacity(alloc, 4096)?;
-    content.extend_from_slice(&[1, 0, 0x41])?;
+    content.extend_from_slice(&[count, 0, 0x41])?;
     put_signed(&mut content, 1024)?;
     content.push(0x0b)?;
     put_unsigned(&mut content, data.len() as u64)?;
@@ -173,14 +180,19 @@ fn put_mark(alloc: Global, out: &mut Vec<u8>, mark: u64) -> Result<(), AllocErro
     put_section(out, 0, &content, false)
 }
 
-/// Puts the module of a plan behind what stands there.
+/// Puts the module of a plan, with its fault, behind what stands there.
 pub fn put_module(
     alloc: Global,
     out: &mut Vec<u8>,
     library: &Library,
     plan: &Plan,
 ) -> Result<(), AllocError> {
-    out.extend_from_slice(b"\0asm\x01\0\0\0")?;
+    let version = match plan.fault {
+        Some(Fault::Version) => 0xff,
+        _ => 1,
+    };
+    out.extend_from_slice(b"\0asm")?;
+    out.extend_from_slice(&[version, 0, 0, 0])?;
     put_types(alloc, out)?;
     put_imports(alloc, out, library, plan)?;
     put_declared(alloc, out, library, plan)?;

@@ -8,7 +8,7 @@ use crate::binary::put_module;
 use crate::carrying::Answers;
 use crate::draws::Draws;
 use crate::library::Library;
-use crate::plan::{Kind, Plan};
+use crate::plan::{Fault, Kind, Plan};
 use crate::text::{Style, put_text};
 use std::alloc::{AllocError, Global};
 use wc_canon::Job;
@@ -144,25 +144,25 @@ impl Desk {
         Ok(())
     }
 
-    /// Spoils the input: early, by its version, or late, in its last function or behind it.
-    fn spoil(&mut self, turn: u32) {
-        let length = self.input.len();
-        let place = match turn % 32 {
-            5 => 4,
-            21 => length - length.min(40),
-            _ => return,
+    /// Makes the next input of the gate as bytes. One in sixteen is spoilt: early, by its version, or late, where its
+    /// last body ends or by the count of its data.
+    fn lay_gated(&mut self, turn: u32) -> Result<(), AllocError> {
+        let kind = KINDS[turn as usize % 8];
+        let mut plan = self.plan(kind, SIZES[turn as usize % 20])?;
+        plan.fault = match turn % 64 {
+            5 | 37 => Some(Fault::Version),
+            53 if plan.chunks > 0 => Some(Fault::DataCount),
+            21 | 53 => Some(Fault::LastEnd),
+            _ => None,
         };
-        if let Some(byte) = self.input.get_mut(place) {
-            *byte = 0xff;
-        }
+        self.input.clear();
+        put_module(self.alloc, &mut self.input, &self.library, &plan)
     }
 
     /// A gate before a merge: `check` and `canonical` of many files, and `compare` of what two builds made.
     pub fn gate(&mut self, amount: u32) -> Result<(), AllocError> {
         for turn in 0..amount {
-            let kind = KINDS[turn as usize % 8];
-            self.lay_binary(kind, SIZES[turn as usize % 20])?;
-            self.spoil(turn);
+            self.lay_gated(turn)?;
             if turn % 3 == 2 {
                 self.answers.tell(self.alloc, Ask::Canonical, &self.input);
             } else {
@@ -284,11 +284,12 @@ impl Desk {
     /// Hands modules of many names to `binary`, as bytes and as text.
     fn carry_names(&mut self, count: u32, turn: u32) -> Result<(), AllocError> {
         let first = turn.wrapping_mul(count);
+        let seed = self.draws.next();
         self.input.clear();
-        put_names(self.alloc, &mut self.input, first, count)?;
+        put_names(self.alloc, &mut self.input, seed, first, count)?;
         self.answers.make(self.alloc, Job::Binary, &self.input);
         self.input.clear();
-        put_names_text(&mut self.input, first, count)?;
+        put_names_text(&mut self.input, seed, first, count)?;
         self.answers.make(self.alloc, Job::Binary, &self.input);
         Ok(())
     }

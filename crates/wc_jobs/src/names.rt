@@ -1,5 +1,6 @@
 //! Names as programs have them.
 
+use crate::draws::Draws;
 use crate::spelling::put_decimal;
 use std::alloc::AllocError;
 
@@ -13,16 +14,62 @@ const LOCALS: [&str; 12] = [
     "ptr", "len", "count", "i", "end", "flags", "result", "node", "size", "tmp", "base", "offset",
 ];
 
-/// Puts the name of the function of an index.
-pub fn put_func_name(out: &mut Vec<u8>, index: u32) -> Result<(), AllocError> {
-    let place = index as usize;
+/// Letters of two bytes.
+const LETTERS: [&str; 16] = [
+    "ä", "ö", "ü", "ß", "é", "ñ", "ø", "å", "ç", "ő", "š", "ł", "λ", "π", "ж", "я",
+];
+
+/// Characters of three bytes.
+const SIGNS: [&str; 12] = ["…", "–", "‹", "€", "→", "≤", "∑", "─", "语", "表", "ブ", "가"];
+
+/// Puts the two words of a place and a number.
+fn put_words(out: &mut Vec<u8>, place: u32, number: u32) -> Result<(), AllocError> {
+    let place = place as usize;
     let first = WORDS[place % 24];
     let second = WORDS[place / 24 % 24];
     out.extend_from_slice(first.as_bytes())?;
     out.push(b'_')?;
     out.extend_from_slice(second.as_bytes())?;
     out.push(b'_')?;
-    put_decimal(out, u64::from(index))
+    put_decimal(out, u64::from(number))
+}
+
+/// Puts the name of the function of an index.
+pub fn put_func_name(out: &mut Vec<u8>, index: u32) -> Result<(), AllocError> {
+    put_words(out, index, index)
+}
+
+/// The draws of a name, which are the same wherever it stands.
+fn draws_of(seed: u64, index: u32) -> Draws {
+    Draws::new(seed.wrapping_add(u64::from(index)))
+}
+
+/// Puts two drawn words and a number.
+fn put_drawn_words(out: &mut Vec<u8>, draws: &mut Draws, number: u32) -> Result<(), AllocError> {
+    put_words(out, draws.below(24 * 24), number)
+}
+
+/// Puts the identifier that a seed and an index draw.
+pub fn put_drawn_id(out: &mut Vec<u8>, seed: u64, index: u32) -> Result<(), AllocError> {
+    put_drawn_words(out, &mut draws_of(seed, index), index)
+}
+
+/// Puts the name that a seed and an index draw. It begins with their identifier; each fourth one goes on with drawn
+/// characters beyond ASCII.
+pub fn put_drawn_name(out: &mut Vec<u8>, seed: u64, index: u32) -> Result<(), AllocError> {
+    let mut draws = draws_of(seed, index);
+    put_drawn_words(out, &mut draws, index)?;
+    if index % 4 != 0 {
+        return Ok(());
+    }
+    for part in ["_f", "r_gr", "", "ere_Bl"] {
+        out.extend_from_slice(part.as_bytes())?;
+        out.extend_from_slice(draws.one_of(&LETTERS, "ö").as_bytes())?;
+    }
+    out.extend_from_slice(b"cke_der_Tabelle_")?;
+    out.extend_from_slice(draws.one_of(&SIGNS, "…").as_bytes())?;
+    out.push(b'_')?;
+    put_drawn_words(out, &mut draws, index.wrapping_mul(7) % 100_000)
 }
 
 /// Puts the name of the local of an index.

@@ -20,6 +20,17 @@ pub enum Kind {
     Data,
 }
 
+/// What is wrong with a module.
+#[derive(Clone, Copy)]
+pub enum Fault {
+    /// Its version is another one.
+    Version,
+    /// Where its last body ends stands a byte that is no opcode.
+    LastEnd,
+    /// It has data, and one segment more is announced than follows.
+    DataCount,
+}
+
 /// A module: which functions it has, and what stands around them.
 #[derive(Drop)]
 pub struct Plan {
@@ -34,6 +45,7 @@ pub struct Plan {
     pub mark: u64,
     /// Whether its sizes and counts are padded.
     pub padded: bool,
+    pub fault: Option<Fault>,
 }
 
 /// The functions that a module of a plan is made of.
@@ -89,6 +101,7 @@ impl Plan {
             chunks,
             mark: draws.next(),
             padded: false,
+            fault: None,
         })
     }
 }
