@@ -10,7 +10,7 @@ use crate::elements::after_elements;
 use crate::fault::LexWhy;
 use crate::lines::after_line;
 use crate::names::{after_name, after_run_from};
-use crate::spaces::after_spaces;
+use crate::spaces::count_blanks;
 use crate::token::TokenKind;
 
 /// What stands at the front of a text.
@@ -40,21 +40,17 @@ pub struct Front<'a> {
 pub fn behind_blanks(text: &[u8]) -> Option<Front<'_>>
     ensures { IsFrontOrEnd text.now result }
 {
-    let mut here = text;
-    while let Some((first, rest)) = here.split_first() {
-        if !is_blank(*first) {
+    let mut at = count_blanks(text);
+    while at < text.len() {
+        let first = text[at];
+        if !is_blank(first) {
             return Some(Front {
-                here,
-                first: *first,
-                rest,
+                here: &text[at..],
+                first,
+                rest: &text[at + 1..],
             });
         }
-        // A line begins with many spaces, where it is indented.
-        here = if *first == b'\n' {
-            after_spaces(rest)
-        } else {
-            rest
-        };
+        at += 1;
     }
     None
 }

@@ -18,20 +18,14 @@ fn feeds_in_chunk(text: &[u8], at: usize) -> u64
         .to_bitmask()
 }
 
-/// How many bytes stand at the front of a text before a line feed. The last bytes, fewer than a chunk, aren't looked
-/// at.
+/// How many bytes stand at the front of a text in chunks with no line feed.
 #[inline(always)]
 fn count_in_line(text: &[u8]) -> usize
     ensures within { result ≤ length text.now }
     ensures no_feed { (k : ℕ) → k < result → slice_index text.now k ≢ 10 }
-    ensures ended { result + 16 ≤ length text.now → slice_index text.now result ≡ 10 }
 {
     let mut at = 0;
-    while text.len() - at >= CHUNK {
-        let feeds = feeds_in_chunk(text, at);
-        if feeds != 0 {
-            return at + feeds.trailing_zeros() as usize;
-        }
+    while text.len() - at >= CHUNK && feeds_in_chunk(text, at) == 0 {
         at += CHUNK;
     }
     at
@@ -41,6 +35,10 @@ fn count_in_line(text: &[u8]) -> usize
 pub fn after_line(text: &[u8]) -> &[u8]
     ensures { LineEnds text.now result.now }
 {
+    // No chunk is looked at for a comment with nothing in it.
+    if !text.is_empty() && text[0] == b'\n' {
+        return text;
+    }
     let mut at = count_in_line(text);
     while at < text.len() && text[at] != b'\n' {
         at += 1;

@@ -68,12 +68,24 @@ pub fn after_run_from(text: &[u8], seen: usize) -> &[u8]
     &text[text.len()..]
 }
 
-/// What follows the run of idchars of an identifier.
+/// What follows the run of idchars of a long identifier.
 // It is apart, since most runs are words, which are shorter.
 #[inline(never)]
-pub fn after_name(text: &[u8]) -> &[u8]
+fn after_long(text: &[u8]) -> &[u8]
     ensures { RunEnds text.now result.now }
 {
     // The byte that ends the count may be an idchar too.
     after_run_from(text, count_in_name(text))
+}
+
+/// What follows the run of idchars of an identifier.
+#[inline(always)]
+pub fn after_name(text: &[u8]) -> &[u8]
+    ensures { RunEnds text.now result.now }
+{
+    // The few characters of a short name are passed faster one by one.
+    if text.len() >= CHUNK && text[1] >= b'-' && text[2] >= b'-' && text[3] >= b'-' {
+        return after_long(text);
+    }
+    after_run_from(text, 0)
 }

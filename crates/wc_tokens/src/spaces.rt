@@ -1,32 +1,52 @@
-//! Spaces one after another, many at a time.
+//! Blanks one after another, many at a time.
 
-ghost use Rattle.std.specs.Prelude.{◌≡◌, ◌≢◌, ◌+◌, ◌<◌, ◌≤◌, ◌==◌, ◌++◌, ℕ, not, length, map, replicate, slice_index};
+ghost use Rattle.std.specs.Prelude.{◌≡◌, ◌+◌, ◌<◌, ◌≤◌, ℕ, not, true, IsTrue, length, map, slice_index};
 ghost use Rattle.std.specs.Simd.Lanes.{chunk, mask_l};
-ghost use Rattle.wc_tokens.specs.Standard.Gaps.{BeginsNot};
+ghost use Rattle.wc_tokens.specs.Standard.Gaps.{is_blank};
 
 use std::simd::prelude::*;
 
 /// How many bytes are looked at together.
 pub const CHUNK: usize = 16;
 
-/// A bit for each byte of a chunk, which is set where the byte isn't a space.
+/// A bit for each byte of a chunk, which is set where the byte isn't a blank.
 #[inline(always)]
 fn others_in_chunk(text: &[u8], at: usize) -> u64
     requires { at + 16 ≤ length text.now }
-    ensures { result ≡ mask_l (map (λ c. not (c == 32)) (chunk at 16 text.now)) }
+    ensures { result ≡ mask_l (map (λ c. not (is_blank c)) (chunk at 16 text.now)) }
 {
-    u8x16::from_slice(&text[at..])
-        .simd_ne(u8x16::splat(b' '))
-        .to_bitmask()
+    let bytes = u8x16::from_slice(&text[at..]);
+    let others = bytes.simd_ne(u8x16::splat(b' '))
+        & bytes.simd_ne(u8x16::splat(b'\t'))
+        & bytes.simd_ne(u8x16::splat(b'\n'))
+        & bytes.simd_ne(u8x16::splat(b'\r'));
+    others.to_bitmask()
 }
 
-/// How many spaces stand at the front of a text. The last bytes, fewer than a chunk, aren't looked at.
+/// Whether a chunk stands at the front of a text whose first bytes may all be blanks.
+// Fewer blanks are passed faster one by one. Most gaps are one space, so the second byte is looked at first.
 #[inline(always)]
-fn count_spaces(text: &[u8]) -> usize
-    ensures within { result ≤ length text.now }
-    ensures spaces { (k : ℕ) → k < result → slice_index text.now k ≡ 32 }
-    ensures ended { result + 16 ≤ length text.now → slice_index text.now result ≢ 32 }
+fn begins_many(text: &[u8]) -> bool
+    ensures { IsTrue result → 16 ≤ length text.now }
 {
+    text.len() >= CHUNK
+        && text[1] <= b' '
+        && text[0] <= b' '
+        && text[2] <= b' '
+        && text[3] <= b' '
+        && text[4] <= b' '
+}
+
+/// How many blanks stand at the front of a text, where they are many; else none is counted. The last bytes, fewer
+/// than a chunk, aren't looked at.
+#[inline(always)]
+pub fn count_blanks(text: &[u8]) -> usize
+    ensures within { result ≤ length text.now }
+    ensures blanks { (k : ℕ) → k < result → is_blank (slice_index text.now k) ≡ true }
+{
+    if !begins_many(text) {
+        return 0;
+    }
     let mut at = 0;
     while text.len() - at >= CHUNK {
         let others = others_in_chunk(text, at);
@@ -36,13 +56,4 @@ fn count_spaces(text: &[u8]) -> usize
         at += CHUNK;
     }
     at
-}
-
-/// What follows the spaces at the front of a text. The last bytes, fewer than a chunk, aren't looked at.
-#[inline(always)]
-pub fn after_spaces(text: &[u8]) -> &[u8]
-    ensures spaces { (n : ℕ) × (text.now ≡ replicate n 32 ++ result.now) }
-    ensures ended { 16 ≤ length result.now → BeginsNot 32 result.now }
-{
-    &text[count_spaces(text)..]
 }

@@ -6,7 +6,7 @@ use Rattle.wc_tokens.specs.Standard.Gaps.{Gaps, none, more}
 use Rattle.wc_tokens.specs.Reading.Heads.{IsFrontOrEnd}
 use Rattle.wc_tokens.proofs.Lexing.RunLaws.{Gaps-shorter}
 
-pub Gaps-both : {text middle rest : List ℕ} → Gaps text middle → Gaps middle rest → Gaps text rest
+Gaps-both : {text middle rest : List ℕ} → Gaps text middle → Gaps middle rest → Gaps text rest
 Gaps-both none h = h
 Gaps-both (more g i) h = more g (Gaps-both i h)
 

@@ -1,9 +1,6 @@
 -- Bytes before a line feed.
-use Rattle.std.proofs.Common.{◌≡◌, ◌≢◌, ℕ, nat_eq, true, false, arith}
+use Rattle.std.proofs.Common.{◌≡◌, ◌≢◌, ℕ, nat_eq, false, arith}
 use Rattle.std.proofs.lemmas.Bool.Decides.{nat_tests}
-
-pub is-feed : (c : ℕ) → nat_eq c 10 ≡ true → c ≡ 10
-is-feed c e = grind (arith, nat_tests)
 
 pub no-feed : (c : ℕ) → nat_eq c 10 ≡ false → c ≢ 10
 no-feed c e = λ g. grind (arith, nat_tests)
