@@ -109,11 +109,7 @@ pub line-put : (p : Printed) {old new line : List ℕ} → IsSpelled p → line 
     → Put (below 4 p ∷ []) old new
 line-put p h is e = text (below 4 p ∷ []) (h, tt) is e
 
--- an offset of zero isn't printed
-pub offset-none : (n : ℕ) (p : Printed) {old new : List ℕ} → n ≡ 0 → Put (below 4 p ∷ []) old new
-    → Put (below 4 p ∷ offset_items n) old new
-offset-none n p e h = rw e h
-
+-- an offset that isn't zero is printed
 pub offset-some : (n : ℕ) (old mid new : List ℕ) → n ≢ 0 → n < 2 ^ 32 → mid ≡ old ++ (32 ∷ codes "offset=")
     → new ≡ mid ++ decimal n → Put (offset_items n) old new
 unfolding is_idchar

@@ -66,18 +66,16 @@ fn write_brief(page: &mut [u8; PAGE], at: usize, brief: Brief) -> usize
     write_text(page, end, operand_text(line[22], brief.operand))
 }
 
-/// Writes the line of a load or a store of the natural alignment.
+/// Writes the line of a load or a store of the natural alignment, whose offset is above those of brief entries.
 #[inline(always)]
 fn write_memory(page: &mut [u8; PAGE], at: usize, op: MemOp, offset: u8) -> usize
-    requires { at + 48 ≤ 512 }
+    requires room { at + 48 ≤ 512 }
+    requires high { 128 ≤ offset }
     ensures within { result ≤ 512 }
     ensures put { Put (below 4 (word (memory op).name) ∷ offset_items offset)
         (take at page.old) (take result page.new) }
 {
     let end = write_row(page, at, op_line(Op::Mem(op)));
-    if offset == 0 {
-        return end;
-    }
     let behind = write_row(page, end, b" offset=               \x08");
     write_few_digits(page, behind, u32::from(offset))
 }
@@ -138,8 +136,9 @@ fn put_line<S: Sink>(out: &mut S, page: &mut [u8; PAGE], at: usize, entry: Entry
         (out.old, take at page.old) (out.new, take result page.new) }
 {
     match entry {
+        // With an offset below 128 such an entry is brief.
         Entry::Plain(Instr::Mem(op, arg))
-            if arg.align == op.natural_alignment() && arg.offset < 256 => {
+            if arg.align == op.natural_alignment() && (128..256).contains(&arg.offset) => {
             write_memory(page, at, op, arg.offset as u8)
         }
         _ => {

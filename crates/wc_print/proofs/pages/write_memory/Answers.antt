@@ -3,18 +3,12 @@ use Rattle.wc_ops.specs.Standard.Opcodes.{memory}
 use Rattle.wc_print.specs.Printed.{word}
 use Rattle.wc_print.proofs.Naming.{memory-word}
 use Rattle.wc_print.proofs.Putting.{chain}
-use Rattle.wc_print.proofs.Paging.{line-put, offset-none, offset-some}
+use Rattle.wc_print.proofs.Paging.{line-put, offset-some}
 use Rattle.wc_print.proofs.pages.write_memory.Goals as goal
-
-pub returns-then-offset-eq0-clause-put : goal.returns-then-offset-eq0-clause-put
-returns-then-offset-eq0-clause-put c =
-    let op = c.args.op in
-    offset-none _ _ c.if-offset-eq0.true
-    (line-put (word (memory op).name) (memory-word op) c.op_line.ensures.line c.write_row-end.ensures.bytes)
 
 pub returns-clause-put : goal.returns-clause-put
 returns-clause-put c =
     let op = c.args.op in
     chain (line-put (word (memory op).name) (memory-word op) c.op_line.ensures.line c.write_row-end.ensures.bytes)
-    (offset-some _ _ _ _ c.if-offset-eq0.false (omega arith) c.write_row-behind.ensures.bytes
+    (offset-some _ _ _ _ (omega (arith, c.requires.high)) (omega arith) c.write_row-behind.ensures.bytes
     (rw c.from.ensures at c.write_few_digits.ensures.bytes))
