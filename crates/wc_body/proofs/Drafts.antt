@@ -5,6 +5,8 @@ pub mod NeedsLemmas
 pub mod BuilderLemmas
 pub mod FrontLemmas
 pub mod LightLemmas
+pub mod LongLemmas
+pub mod PaddedLemmas
 pub mod FrontRun
 pub mod FreeIntegers
 pub mod FreeRun

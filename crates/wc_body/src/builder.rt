@@ -55,6 +55,9 @@ impl<T: Drop> From<AllocFailed<T>> for BuildFault {
 /// How many bytes are copied for a run that has no more, where so many stand there.
 const COPIED: usize = 32;
 
+/// For how many open blocks a builder keeps room from one body to the next.
+const KEPT_OPEN: usize = 64;
+
 /// Which part an open block, loop or if is in: the first part of an if, or any other.
 #[derive(Clone, Copy, Debug, PartialEq, Eq)]
 pub(crate) enum Part {
@@ -143,7 +146,8 @@ impl BodyBuilder {
         BodyBuilder::in_memory(memory_of(body))
     }
 
-    /// Begins anew, in the memory of a body that is wanted no longer. What is held for open ones is kept.
+    /// Begins anew, in the memory of a body that is wanted no longer. What is held for open ones is kept, as far as it
+    /// is for few.
     pub fn restart(&mut self, body: Body)
         ensures { self.new ≡ whole empty }
     {
@@ -305,8 +309,8 @@ impl BodyBuilder {
         builder.take_body()
     }
 
-    /// The same, and the builder stays, with nothing so far: what is held for open ones is there for the next body.
-    /// After an error it is as it was.
+    /// The same, and the builder stays, with nothing so far: what is held for open ones is there for the next body, but
+    /// goes back where it is for many. After an error it is as it was.
     pub fn take_body(&mut self) -> Result<Body, BuildFault>
         ensures ok { IfOk result (λ body. self.old ≡ whole body) }
         ensures rest { OnOk result (self.new ≡ whole empty) }
@@ -320,7 +324,19 @@ impl BodyBuilder {
         let bytes = replace(&mut self.bytes, Vec::new(alloc));
         let needs = replace(&mut self.needs, Needs::nothing());
         self.after_else = false;
+        give_back(&mut self.parts);
         Ok(Body::from_bytes(bytes, needs))
+    }
+}
+
+/// Gives back the room for open ones, of which there are none, where it is for many.
+fn give_back(parts: &mut Vec<Part>)
+    requires { parts.old.items ≡ [] }
+    ensures { parts.new.items ≡ [] }
+{
+    if parts.capacity() > KEPT_OPEN {
+        let alloc = *parts.allocator();
+        *parts = Vec::new(alloc);
     }
 }
 

@@ -1,7 +1,6 @@
-//! Instructions that bytes begin with, whose integer may be spelled longer than it is kept. Linkers leave such
-//! integers, where they put one in place of another.
+//! Instructions that bytes begin with, whose integer may be spelled longer than it is kept.
 
-ghost use Rattle.std.specs.Prelude.{◌≡◌, ◌∷◌, IfSome, IsNone};
+ghost use Rattle.std.specs.Prelude.{◌≡◌, ◌≤◌, ◌∷◌, length, IfSome, IsNone};
 ghost use Rattle.wc_leb128.specs.Standard.Integers.{U, IsAtFront};
 ghost use Rattle.wc_ops.specs.Standard.Opcodes.{row};
 ghost use Rattle.wc_ops.specs.declared.op.Op.TheVariants as ops;
@@ -45,29 +44,13 @@ fn u32_front(bytes: &[u8]) -> Option<(u32, &[u8])>
     Some((low + 0x1000_0000 * u32::from(*fifth), rest))
 }
 
-/// Whether `push_front` leaves a constant that begins with these four bytes, of which the first is 128 or more: the
-/// last byte is a needless 0, or there are five.
-#[inline(always)]
-fn is_long_constant(first: u8, second: u8, third: u8, fourth: u8) -> bool {
-    second & third & fourth >= 128
-        || second == 0 && first < 0xc0
-        || second >= 128
-            && (third == 0 && second < 0xc0 || third >= 128 && fourth == 0 && third < 0xc0)
-}
-
-/// Whether these bytes begin with an instruction that `push_front` leaves for its integer: an index of three bytes or a
-/// needless 0, or such a constant.
-// Of the other opcodes that are matched here it takes none whose next byte is 128 or more.
+/// Whether these bytes begin with an index or a constant that has five bytes or more.
+// Linkers leave such integers, where they put one in place of another.
 #[inline(always)]
 fn is_wide(bytes: &[u8]) -> bool {
-    if bytes.len() < 5 || bytes[1] < 128 {
-        return false;
-    }
-    match bytes[0] {
-        0x0c..=0x0e | 0x10 | 0x11 | 0x20..=0x40 => bytes[2] == 0 || bytes[2] >= 128,
-        0x41 | 0x42 => is_long_constant(bytes[1], bytes[2], bytes[3], bytes[4]),
-        _ => false,
-    }
+    bytes.len() >= 6
+        && bytes[1] & bytes[2] & bytes[3] & bytes[4] >= 128
+        && matches!(bytes[0], 0x0c | 0x0d | 0x10 | 0x20..=0x24 | 0x41 | 0x42)
 }
 
 impl BodyBuilder {
@@ -136,10 +119,30 @@ impl BodyBuilder {
         }
     }
 
-    /// Adds the instruction that these bytes begin with, where it has no integer and the second byte behind it is 128
-    /// or more, as in a long one; or where its integer is below 64 and has five bytes; and where it is light but for
-    /// these. What follows it is answered.
-    // No jump by the opcode, and no look for a run that would mostly end at once.
+    /// Adds the instruction that these bytes begin with, of one byte or two, where the second byte behind it is 128 or
+    /// more, as in a long integer. What follows it is answered.
+    // No look for a run that would mostly end at once.
+    #[inline(always)]
+    fn push_before<'a>(&mut self, bytes: &'a [u8]) -> Option<&'a [u8]>
+        requires { 6 ≤ length bytes.now }
+        ensures some { IfSome result (λ rest. AddsOne self.old self.new bytes.now rest.now) }
+        ensures none { IsNone result → self.new ≡ self.old }
+    {
+        if bytes[2] >= 128 {
+            if !self.push_alone(bytes[0]) {
+                return None;
+            }
+            return Some(&bytes[1..]);
+        }
+        if bytes[3] < 128 || !self.push_two(bytes[0], bytes[1]) {
+            return None;
+        }
+        Some(&bytes[2..])
+    }
+
+    /// Adds the instruction that these bytes begin with, where it seems to stand before a long integer; or where its
+    /// integer is below 64 and has five bytes. What follows it is answered.
+    // No jump by the opcode.
     #[inline(always)]
     fn push_light<'a>(&mut self, bytes: &'a [u8]) -> Option<&'a [u8]>
         ensures some { IfSome result (λ rest. AddsOne self.old self.new bytes.now rest.now) }
@@ -149,10 +152,7 @@ impl BodyBuilder {
             return None;
         }
         if bytes[1] < 128 {
-            if bytes[2] < 128 || !self.push_alone(bytes[0]) {
-                return None;
-            }
-            return Some(&bytes[1..]);
+            return self.push_before(bytes);
         }
         if bytes[2] != 0x80 || bytes[3] != 0x80 || bytes[4] != 0x80 || bytes[5] != 0 {
             return None;
@@ -174,6 +174,20 @@ impl BodyBuilder {
         self.push_front(bytes)
     }
 
+    /// Adds the instruction that these bytes begin with, where its integer has five bytes or more. What follows it is
+    /// answered.
+    // No jump by the opcode where a run ends for another reason.
+    #[inline(always)]
+    fn push_wide<'a>(&mut self, bytes: &'a [u8]) -> Option<&'a [u8]>
+        ensures some { IfSome result (λ rest. AddsOne self.old self.new bytes.now rest.now) }
+        ensures none { IsNone result → self.new ≡ self.old }
+    {
+        if !is_wide(bytes) {
+            return None;
+        }
+        self.push_free(bytes)
+    }
+
     /// Adds the entries that these bytes begin with, as many as are usual and fit the memory at hand. Each is spelled
     /// as it is kept, but for an index or a constant, whose spelling may be any. Answers how many bytes they have. No
     /// end is added at which none is open.
@@ -190,7 +204,7 @@ impl BodyBuilder {
             }
             let count = self.push_others(rest);
             rest = &rest[count..];
-            let Some(behind) = self.push_free(rest) else {
+            let Some(behind) = self.push_wide(rest) else {
                 break;
             };
             rest = behind;

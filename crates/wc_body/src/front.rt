@@ -11,7 +11,6 @@ ghost use Rattle.wc_body.specs.Writing.EntryBytes.{opening_bytes};
 use crate::body::NESTING_LIMIT;
 use crate::builder::{Part, first_part_of};
 use crate::entry::Kind;
-use crate::light::{is_alone, light_front};
 use crate::needs::Needs;
 use wc_ops::{IndexOp, MemOp, Op, OpByte, SimpleOp};
 
@@ -78,7 +77,7 @@ fn behind_last(last_but_one: u8, last: u8, rest: &[u8]) -> Option<&[u8]>
 
 /// Whether the bytes spell a signed integer together that one byte can't.
 #[inline(always)]
-fn are_last(first: u8, second: u8) -> bool
+pub(crate) fn are_last(first: u8, second: u8) -> bool
     requires { 128 ≤ first }
     ensures { IsTrue result → AreLast first second }
 {
@@ -178,7 +177,11 @@ fn meant_front<'a>(byte: u8, bytes: &'a [u8], needs: &mut Needs) -> Option<&'a [
 /// Notes the instruction that these bytes begin with, where it is a usual one and these blocks enclose it. What follows
 /// it is answered.
 #[inline(always)]
-fn instr_front<'a>(bytes: &'a [u8], needs: &mut Needs, parts: &Vec<Part>) -> Option<&'a [u8]>
+pub(crate) fn instr_front<'a>(
+    bytes: &'a [u8],
+    needs: &mut Needs,
+    parts: &Vec<Part>,
+) -> Option<&'a [u8]>
     ensures some { IfSome result (λ rest.
         Notes bytes.now rest.now needs.old needs.new parts.now.items parts.now.items) }
     ensures none { IsNone result → needs.new ≡ needs.old }
@@ -248,30 +251,6 @@ fn after_marks<'a>(bytes: &'a [u8], parts: &mut Vec<Part>) -> &'a [u8]
     rest
 }
 
-/// Whether four bytes of 128 or more stand behind the opcode that these bytes begin with, and may be of an integer that
-/// is longer than a usual one.
-#[inline(always)]
-fn is_long(bytes: &[u8]) -> bool {
-    bytes.len() >= 5
-        && bytes[1] >= 128
-        && bytes[2] & bytes[3] & bytes[4] >= 128
-        && !is_alone(bytes[0])
-}
-
-/// Notes the instruction that these bytes begin with, where it is a usual one. What follows it is answered.
-// A long integer is seen without a jump by the opcode.
-#[inline(always)]
-fn shorter_front<'a>(bytes: &'a [u8], needs: &mut Needs, parts: &Vec<Part>) -> Option<&'a [u8]>
-    ensures some { IfSome result (λ rest.
-        Notes bytes.now rest.now needs.old needs.new parts.now.items parts.now.items) }
-    ensures none { IsNone result → needs.new ≡ needs.old }
-{
-    if is_long(bytes) {
-        return None;
-    }
-    instr_front(bytes, needs, parts)
-}
-
 /// Notes the entry that these bytes begin with, where it is a usual one. Behind a block, a loop, an if or an end, those
 /// that follow are noted too, since they often stand in a row. What follows all of them is answered.
 #[inline(always)]
@@ -286,27 +265,6 @@ pub(crate) fn usual_front<'a>(
 {
     match mark_front(bytes, parts) {
         Some(rest) => Some(after_marks(rest, parts)),
-        None => shorter_front(bytes, needs, parts),
-    }
-}
-
-/// Notes the entry that these bytes begin with, where it is a usual one. Most are light, so they are taken with no look
-/// at their kind. What follows it is answered.
-#[inline(always)]
-pub(crate) fn entry_front<'a>(
-    bytes: &'a [u8],
-    needs: &mut Needs,
-    parts: &mut Vec<Part>,
-) -> Option<&'a [u8]>
-    ensures some { IfSome result (λ rest.
-        Notes bytes.now rest.now needs.old needs.new parts.old.items parts.new.items) }
-    ensures none { IsNone result → (needs.new ≡ needs.old) × (parts.new.items ≡ parts.old.items) }
-{
-    if let Some(rest) = light_front(bytes, parts.len(), needs) {
-        return Some(rest);
-    }
-    match mark_front(bytes, parts) {
-        Some(rest) => Some(rest),
         None => instr_front(bytes, needs, parts),
     }
 }

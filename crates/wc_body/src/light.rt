@@ -1,19 +1,22 @@
 //! Light entries: those whose integers have one byte each, and that need no label beyond the enclosing blocks and no
-//! alignment above the width of the access. What is noted of one is looked up by its opcode. Locals whose index has two
-//! bytes are taken along with them.
+//! alignment above the width of the access. What is noted of one is looked up by its opcode. Indices, constants and
+//! offsets of two bytes are taken along with them.
 
-ghost use Rattle.std.specs.Prelude.{◌≡◌, ◌≤◌, ℕ, true, false, length, get_or, IfSome, IsNone};
+ghost use Rattle.std.specs.Prelude.{◌≡◌, ◌<◌, ◌≤◌, ◌+◌, ◌-◌, ◌*◌, ◌^◌, ℕ, true, false, max, min, length, get_or, IfSome, IsNone};
 ghost use Rattle.wc_body.specs.Drafting.AtFront.{NotesInstr, NotesRun};
-ghost use Rattle.wc_body.specs.Drafting.FreeEntries.{IsAlone, NotesPadded};
-ghost use Rattle.wc_body.specs.Drafting.LightRows.{light_at, with_light};
+ghost use Rattle.wc_body.specs.Drafting.FreeEntries.{IsAlone, NotesTwo, NotesPadded};
+ghost use Rattle.wc_body.specs.Drafting.LightRows.{light_at, with_noted, IsOuterAt, NotesOuter, IsConstantAt};
+ghost use Rattle.wc_body.specs.declared.light.LightNeeds.{LightNeeds};
+ghost use Rattle.wc_body.specs.declared.needs.Needs.{Needs};
 
+use crate::front::are_last;
 use crate::needs::Needs;
 
 /// What an opcode's light entries are like.
 struct Light {
     // The most locals that the byte behind the opcode asks for.
     locals: u16,
-    // How many bytes one has.
+    // How many bytes one has, or 0 where the opcode tells what it needs, or 255 where none is light.
     length: u8,
     // What the byte behind the opcode is below: where it isn't of the entry this is 255, above nearly all that may
     // stand there. What the byte behind that is below, which is asked of entries of three bytes alone.
@@ -21,14 +24,14 @@ struct Light {
     third: u8,
     // All bits where the byte behind the opcode is a label, and none elsewhere.
     label: u8,
-    // Whether a memory is needed. No code reads it, since the length tells it too.
+    // Whether a memory is needed: of accesses alone.
     memory: bool,
 }
 
 // None are light.
 const OTHER: Light = Light {
     locals: 0,
-    length: 0,
+    length: 255,
     second: 0,
     third: 255,
     label: 0,
@@ -55,6 +58,13 @@ const LOCAL: Light = Light {
 const LABEL: Light = Light {
     label: 255,
     ..CONSTANT
+};
+
+// A call, or an access of a global.
+const OUTER: Light = Light {
+    length: 0,
+    second: 128,
+    ..OTHER
 };
 
 // An access of so many bits, whose alignment is no wider.
@@ -85,9 +95,9 @@ const ACCESS_64: Light = Light {
 static ROWS: [Light; 256] = [
     BARE, BARE, OTHER, OTHER, OTHER, OTHER, OTHER, OTHER, // 00
     OTHER, OTHER, OTHER, OTHER, LABEL, LABEL, OTHER, BARE, // 08
-    OTHER, OTHER, OTHER, OTHER, OTHER, OTHER, OTHER, OTHER, // 10
+    OUTER, OTHER, OTHER, OTHER, OTHER, OTHER, OTHER, OTHER, // 10
     OTHER, OTHER, BARE, BARE, OTHER, OTHER, OTHER, OTHER, // 18
-    LOCAL, LOCAL, LOCAL, OTHER, OTHER, OTHER, OTHER, OTHER, // 20
+    LOCAL, LOCAL, LOCAL, OUTER, OUTER, OTHER, OTHER, OTHER, // 20
     ACCESS_32, ACCESS_64, OTHER, OTHER, ACCESS_8, ACCESS_8, ACCESS_16, ACCESS_16, // 28
     ACCESS_8, ACCESS_8, ACCESS_16, ACCESS_16, ACCESS_32, ACCESS_32, ACCESS_32, ACCESS_64, // 30
     OTHER, OTHER, ACCESS_8, ACCESS_16, ACCESS_8, ACCESS_16, ACCESS_32, OTHER, // 38
@@ -117,12 +127,48 @@ static ROWS: [Light; 256] = [
     OTHER, OTHER, OTHER, OTHER, OTHER, OTHER, OTHER, OTHER, // f8
 ];
 
+/// Of what instructions need, that which most light entries do: all but calls and accesses of globals.
+#[derive(Clone, Copy)]
+struct LightNeeds {
+    locals: u32,
+    memory: bool,
+}
+
+impl LightNeeds {
+    #[inline(always)]
+    fn of(needs: &Needs) -> LightNeeds
+        ensures { result ≡ record { locals = needs.now.locals; memory = needs.now.memory } }
+    {
+        LightNeeds {
+            locals: needs.locals,
+            memory: needs.memory,
+        }
+    }
+
+    #[inline(always)]
+    fn give_back(self, needs: &mut Needs)
+        ensures { needs.new ≡ with_noted self needs.old }
+    {
+        needs.locals = self.locals;
+        needs.memory = self.memory;
+    }
+}
+
 /// What the light entries of this opcode are like.
 #[inline(always)]
 fn light_of(opcode: u8) -> &'static Light
     ensures { result.now ≡ light_at opcode }
 {
     &ROWS[opcode as usize]
+}
+
+/// Notes what a light entry of two bytes needs, of which this one stands behind the opcode.
+#[inline(always)]
+fn note_pair(noted: &mut LightNeeds, light: &Light, second: u8)
+    ensures { noted.new ≡ record noted.old { locals = max noted.old.locals (min (second + 1) light.now.locals) } }
+{
+    let locals = (u32::from(second) + 1).min(u32::from(light.locals));
+    noted.locals = noted.locals.max(locals);
 }
 
 /// Whether the light entries of this opcode have no other byte.
@@ -133,19 +179,27 @@ pub(crate) fn is_alone(opcode: u8) -> bool
     light_of(opcode).length == 1
 }
 
-/// Notes what a light entry of two bytes needs, of which this one stands behind the opcode.
+/// Notes what the instruction of these two bytes needs, which so many blocks enclose, where it is a light one, and no
+/// call nor access of a global; answers whether it was noted.
 #[inline(always)]
-fn note_pair(needs: &mut Needs, light: &Light, second: u8)
-    requires { light.now.memory ≡ false }
-    ensures { needs.new ≡ with_light needs.old light.now second }
+pub(crate) fn note_two(opcode: u8, second: u8, enclosing: usize, needs: &mut Needs) -> bool
+    ensures noted { result ≡ true → NotesTwo enclosing opcode second needs.old needs.new }
+    ensures same { result ≡ false → needs.new ≡ needs.old }
 {
-    let locals = (u32::from(second) + 1).min(u32::from(light.locals));
-    needs.locals = needs.locals.max(locals);
+    let light = light_of(opcode);
+    if light.length != 2
+        || second >= light.second
+        || enclosing < usize::from(second & light.label)
+    {
+        return false;
+    }
+    let mut noted = LightNeeds::of(needs);
+    note_pair(&mut noted, light, second);
+    noted.give_back(needs);
+    true
 }
 
-/// Notes what the instruction of this opcode and of so low an integer needs, which so many blocks enclose, where its
-/// light entries have two bytes, the integer is below 64, and it is no label beyond these blocks; answers whether it
-/// was noted. The integer has five bytes where it stands.
+/// The same of an integer below 64 that has five bytes where it stands.
 // A constant from 64 on needs two bytes.
 #[inline(always)]
 pub(crate) fn note_padded(opcode: u8, low: u8, enclosing: usize, needs: &mut Needs) -> bool
@@ -156,41 +210,152 @@ pub(crate) fn note_padded(opcode: u8, low: u8, enclosing: usize, needs: &mut Nee
     if light.length != 2 || low >= 64 || enclosing < usize::from(low & light.label) {
         return false;
     }
-    note_pair(needs, light, low);
+    let mut noted = LightNeeds::of(needs);
+    note_pair(&mut noted, light, low);
+    noted.give_back(needs);
     true
+}
+
+/// Notes what a call or an access of a global needs, of this opcode and this index.
+// No jump by the opcode.
+#[inline(always)]
+fn note_outer(needs: &mut Needs, opcode: u8, index: u32)
+    requires { index < 2 ^ 14 }
+    ensures { NotesOuter opcode index needs.old needs.new }
+{
+    if opcode == 0x10 {
+        needs.funcs = needs.funcs.max(index + 1);
+    } else if opcode == 0x23 {
+        needs.globals = needs.globals.max(index + 1);
+    } else {
+        needs.set_globals = needs.set_globals.max(index + 1);
+        needs.lowest_set_global = needs.lowest_set_global.min(index);
+    }
+}
+
+/// The index of two bytes that stands behind the opcode, where it needs both.
+#[inline(always)]
+fn long_index(bytes: &[u8]) -> Option<u32>
+    requires { (3 ≤ length bytes.now) × (128 ≤ get_or bytes.now 1 0) }
+    ensures { IfSome result (λ n. (get_or bytes.now 2 0 ≡ 0 → ⊥) × (get_or bytes.now 2 0 < 128)
+        × (n ≡ get_or bytes.now 1 0 - 128 + 128 * get_or bytes.now 2 0)) }
+{
+    let third = bytes[2];
+    if third == 0 || third >= 128 {
+        return None;
+    }
+    Some(u32::from(bytes[1] - 128) + 128 * u32::from(third))
 }
 
 /// Notes the instruction of a local that these bytes begin with, where its index has two bytes, and no more than it
 /// needs. What follows it is answered.
 // Where a compiler doesn't optimise, most locals have such an index.
 #[inline(always)]
-fn long_local<'a>(bytes: &'a [u8], needs: &mut Needs) -> Option<&'a [u8]>
+fn long_local<'a>(bytes: &'a [u8], noted: &mut LightNeeds) -> Option<&'a [u8]>
     requires long { (3 ≤ length bytes.now) × (128 ≤ get_or bytes.now 1 0) }
     requires local { (light_at (get_or bytes.now 0 0)).locals ≡ 0 → ⊥ }
-    ensures some { IfSome result (λ rest. (k : ℕ) → NotesInstr k bytes.now rest.now needs.old needs.new) }
-    ensures none { IsNone result → needs.new ≡ needs.old }
+    ensures some { IfSome result (λ rest. (k : ℕ) (s : Needs) →
+        NotesInstr k bytes.now rest.now (with_noted noted.old s) (with_noted noted.new s)) }
+    ensures none { IsNone result → noted.new ≡ noted.old }
 {
-    let third = bytes[2];
-    if third == 0 || third >= 128 {
-        return None;
-    }
-    let index = u32::from(bytes[1] - 128) + 128 * u32::from(third);
-    needs.locals = needs.locals.max(index + 1);
+    let index = long_index(bytes)?;
+    noted.locals = noted.locals.max(index + 1);
     Some(&bytes[3..])
 }
 
-/// Notes the light entry that these bytes begin with, or the local whose index has two bytes, which so many blocks
-/// enclose. What follows it is answered.
-// The way branches by how many bytes the entry has: where that can be foretold, the next one is looked up before this
-// one's row is there. Those of two bytes come first, since they are the most.
+/// The same of a call or an access of a global.
 #[inline(always)]
-pub(crate) fn light_front<'a>(
+fn long_outer<'a>(bytes: &'a [u8], needs: &mut Needs) -> Option<&'a [u8]>
+    requires long { (3 ≤ length bytes.now) × (128 ≤ get_or bytes.now 1 0) }
+    requires outer { IsOuterAt (get_or bytes.now 0 0) }
+    ensures some { IfSome result (λ rest. (k : ℕ) (n : LightNeeds) →
+        NotesInstr k bytes.now rest.now (with_noted n needs.old) (with_noted n needs.new)) }
+    ensures none { IsNone result → needs.new ≡ needs.old }
+{
+    let index = long_index(bytes)?;
+    note_outer(needs, bytes[0], index);
+    Some(&bytes[3..])
+}
+
+/// What follows the constant that these bytes begin with, where it has two bytes, and no more than it needs.
+#[inline(always)]
+fn behind_constant(bytes: &[u8]) -> Option<&[u8]>
+    requires long { (3 ≤ length bytes.now) × (128 ≤ get_or bytes.now 1 0) }
+    requires constant { IsConstantAt (get_or bytes.now 0 0) }
+    ensures { IfSome result (λ rest. (k : ℕ) (s : Needs) → NotesInstr k bytes.now rest.now s s) }
+{
+    if !are_last(bytes[1], bytes[2]) {
+        return None;
+    }
+    Some(&bytes[3..])
+}
+
+/// The same of an integer of two bytes, where the row of the opcode bars no less.
+#[inline(always)]
+fn long_front<'a>(
     bytes: &'a [u8],
-    enclosing: usize,
+    light: &Light,
+    noted: &mut LightNeeds,
     needs: &mut Needs,
 ) -> Option<&'a [u8]>
-    ensures some { IfSome result (λ rest. NotesInstr enclosing bytes.now rest.now needs.old needs.new) }
-    ensures none { IsNone result → needs.new ≡ needs.old }
+    requires long { 3 ≤ length bytes.now }
+    requires row { light.now ≡ light_at (get_or bytes.now 0 0) }
+    requires past { light.now.second ≤ get_or bytes.now 1 0 }
+    ensures some { IfSome result (λ rest. (k : ℕ) →
+        NotesInstr k bytes.now rest.now (with_noted noted.old needs.old) (with_noted noted.new needs.new)) }
+    ensures none { IsNone result → (noted.new ≡ noted.old) × (needs.new ≡ needs.old) }
+{
+    if light.locals != 0 {
+        return long_local(bytes, noted);
+    }
+    if light.length == 0 {
+        return long_outer(bytes, needs);
+    }
+    if light.length != 2 {
+        return None;
+    }
+    if light.label != 0 {
+        return None;
+    }
+    behind_constant(bytes)
+}
+
+/// Notes the access of memory that these bytes begin with, where its offset has two bytes, and no more than it needs.
+/// What follows it is answered.
+#[inline(always)]
+fn far_access<'a>(bytes: &'a [u8], noted: &mut LightNeeds) -> Option<&'a [u8]>
+    requires far { (3 ≤ length bytes.now) × (128 ≤ get_or bytes.now 2 0) }
+    requires access { (light_at (get_or bytes.now 0 0)).length ≡ 3 }
+    requires aligned { get_or bytes.now 1 0 < (light_at (get_or bytes.now 0 0)).second }
+    ensures some { IfSome result (λ rest. (k : ℕ) (s : Needs) →
+        NotesInstr k bytes.now rest.now (with_noted noted.old s) (with_noted noted.new s)) }
+    ensures none { IsNone result → noted.new ≡ noted.old }
+{
+    if bytes.len() < 4 {
+        return None;
+    }
+    let fourth = bytes[3];
+    if fourth == 0 || fourth >= 128 {
+        return None;
+    }
+    noted.memory = true;
+    Some(&bytes[4..])
+}
+
+/// Notes the light entry that these bytes begin with, or one with two bytes for its index, constant or offset, which so
+/// many blocks enclose. What follows it is answered.
+// The way branches by how many bytes the entry has: where that can be foretold, the next one is looked up before this
+// one's row is there.
+#[inline(always)]
+fn light_front<'a>(
+    bytes: &'a [u8],
+    enclosing: usize,
+    noted: &mut LightNeeds,
+    needs: &mut Needs,
+) -> Option<&'a [u8]>
+    ensures some { IfSome result (λ rest. NotesInstr enclosing bytes.now rest.now
+        (with_noted noted.old needs.old) (with_noted noted.new needs.new)) }
+    ensures none { IsNone result → (noted.new ≡ noted.old) × (needs.new ≡ needs.old) }
 {
     if bytes.len() < 3 {
         return None;
@@ -198,45 +363,45 @@ pub(crate) fn light_front<'a>(
     let light = light_of(bytes[0]);
     let second = bytes[1];
     if second >= light.second {
-        if light.locals == 0 {
-            return None;
-        }
-        // The rows of locals bar what begins a longer index, and no more.
-        return long_local(bytes, needs);
+        return long_front(bytes, light, noted, needs);
     }
     if light.length == 2 {
         // A label beyond the enclosing blocks is noted elsewhere.
         if enclosing < usize::from(second & light.label) {
             return None;
         }
-        note_pair(needs, light, second);
+        note_pair(noted, light, second);
         return Some(&bytes[2..]);
     }
     if light.length == 1 {
         return Some(&bytes[1..]);
     }
-    if bytes[2] >= light.third {
-        return None;
+    if light.memory {
+        if bytes[2] >= light.third {
+            return far_access(bytes, noted);
+        }
+        noted.memory = true;
+        return Some(&bytes[3..]);
     }
-    needs.memory = true;
-    Some(&bytes[3..])
+    note_outer(needs, bytes[0], u32::from(second));
+    Some(&bytes[2..])
 }
 
 /// Notes the entries of that kind that these bytes begin with, which so many blocks enclose, one after the other. What
 /// follows them is answered.
-// What is noted stands in a local, so that the loop keeps it in registers.
+// What most of them need stands in a local, so that the loop keeps it in registers.
 #[inline(always)]
 pub(crate) fn after_light<'a>(bytes: &'a [u8], enclosing: usize, needs: &mut Needs) -> &'a [u8]
     ensures { NotesRun enclosing bytes.now result.now needs.old needs.new }
 {
-    let mut noted = *needs;
+    let mut noted = LightNeeds::of(needs);
     let mut rest = bytes;
     'entries: loop {
-        let Some(behind) = light_front(rest, enclosing, &mut noted) else {
+        let Some(behind) = light_front(rest, enclosing, &mut noted, needs) else {
             break;
         };
         rest = behind;
     }
-    *needs = noted;
+    noted.give_back(needs);
     rest
 }

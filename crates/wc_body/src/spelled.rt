@@ -1,9 +1,10 @@
 //! Whole bodies by the bytes that they are kept by.
 
-ghost use Rattle.std.specs.Prelude.{◌≡◌, ◌++◌, ◌∷◌, [], IfSome};
+ghost use Rattle.std.specs.Prelude.{◌≡◌, ◌++◌, ◌∷◌, [], ℕ, List, IfSome};
 ghost use Rattle.wc_body.specs.Drafting.PackedBody.{IsBody};
 
-use crate::front::entry_front;
+use crate::front::instr_front;
+use crate::light::after_light;
 use crate::needs::Needs;
 use std::alloc::Global;
 
@@ -17,23 +18,29 @@ pub(crate) fn body_spelled(alloc: Global, bytes: &[u8]) -> Option<(&[u8], Needs)
     if *last != 0x0b {
         return None;
     }
-    let needs = instructions_spelled(alloc, row)?;
+    let needs = instructions_spelled(alloc, bytes)?;
     Some((row, needs))
 }
 
-/// What the instructions need that these are the canonical bytes of, where these are usual ones and none is a block.
+/// What the instructions need that these are the canonical bytes of, but for the last byte, where these are usual ones
+/// and none is a block.
+// The last byte is given so that the last instruction has bytes behind it, as the others have.
 #[inline(always)]
 fn instructions_spelled(alloc: Global, bytes: &[u8]) -> Option<Needs>
-    ensures { IfSome result (IsBody bytes.now) }
+    ensures { IfSome result (λ needs. (row : List ℕ) (last : ℕ) → bytes.now ≡ row ++ last ∷ [] → IsBody row needs) }
 {
     let mut needs = Needs::nothing();
-    // It has no room, so no block is taken.
-    let mut parts = Vec::new(alloc);
+    // None is open.
+    let parts = Vec::new(alloc);
     let mut rest = bytes;
-    while !rest.is_empty() {
-        rest = entry_front(rest, &mut needs, &mut parts)?;
+    'entries: loop {
+        rest = after_light(rest, 0, &mut needs);
+        if rest.len() < 2 {
+            break;
+        }
+        rest = instr_front(rest, &mut needs, &parts)?;
     }
-    if !parts.is_empty() {
+    if rest.is_empty() {
         return None;
     }
     Some(needs)

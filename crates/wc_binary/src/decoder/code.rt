@@ -100,9 +100,9 @@ fn code_ahead<S: Source>(codes: &mut Codes, source: &mut S) -> Result<bool, BinF
     Ok(true)
 }
 
-/// Reads a code, and puts it behind the others. Where that can't be done at once, it is read into the memory of one
-/// that is wanted no longer; such memory is answered.
-fn next_code<S: Source>(
+/// Reads a code part by part, in the memory of one that is wanted no longer, and puts a copy behind the others.
+/// Answers what was read, for its memory.
+fn read_code<S: Source>(
     alloc: Global,
     builder: &mut BodyBuilder,
     codes: &mut Codes,
@@ -111,9 +111,6 @@ fn next_code<S: Source>(
 ) -> Result<FuncCode, BinFault>
     ensures { AddsItem code_phrase codes.old codes.new (S.input source.old) (S.input source.new) result }
 {
-    if code_ahead(codes, source)? {
-        return Ok(spare);
-    }
     let found = code(alloc, builder, spare, source)?;
     codes.push(&found.locals, &found.body)?;
     Ok(found)
@@ -131,7 +128,10 @@ fn codes<S: Source>(alloc: Global, count: u32, source: &mut S) -> Result<Codes, 
         body: Body::new(alloc),
     };
     for _ in 0..count {
-        spare = next_code(alloc, &mut builder, &mut codes, spare, source)?;
+        if code_ahead(&mut codes, source)? {
+            continue;
+        }
+        spare = read_code(alloc, &mut builder, &mut codes, spare, source)?;
     }
     Ok(codes)
 }

@@ -1,12 +1,9 @@
 -- Light entries: the table of them, and what is noted of one.
-use Rattle.std.proofs.Common.{◌≡◌, ℕ, zero, suc, ◌+◌, ◌-◌, ◌*◌, ◌<◌, ◌≤◌, true, false, ◌||◌, nat_lt, max, min, List, [], ◌∷◌}
+use Rattle.std.proofs.Common.{◌≡◌, ℕ, zero, suc, ◌+◌, ◌-◌, ◌*◌, ◌<◌, ◌≤◌, Bool, true, false, ◌||◌, nat_lt, max, min, List, [], ◌∷◌}
 use Rattle.std.proofs.Common.{◌⊎◌, inl, inr, ◌++◌, length, get_or, drop, bit_and, refl, sym, ap, ◌∙◌, arith, add-zero, zero-add}
 use Rattle.std.proofs.Math.Bool.{or-false, or-true}
 use Rattle.std.proofs.lemmas.Bool.Decides.{nat_tests}
 use Rattle.std.proofs.lemmas.Nat.{and_mask}
-use Rattle.std.proofs.lemmas.Int.{ints}
-use Rattle.std.specs.Prelude.{pos}
-use Rattle.wc_leb128.specs.Standard.Integers.{U, S}
 use Rattle.wc_leb128.proofs.Writing.UnsignedShortest.{unsigned_bytes-low}
 use Rattle.wc_ops.specs.declared.op.Op.{Op}
 use Rattle.wc_ops.specs.declared.op.Op.TheVariants as ops
@@ -25,15 +22,14 @@ use Rattle.wc_ops.specs.Reading.OpcodeMeaning.{meaning}
 use Rattle.wc_ops.proofs.Meanings.OfBytes.{meaning-is}
 use Rattle.wc_body.specs.declared.instr.Instr.TheVariants.{Simple, Index, Mem, I32Const, I64Const}
 use Rattle.wc_body.specs.declared.light.Light.{Light}
+use Rattle.wc_body.specs.declared.light.LightNeeds.{LightNeeds}
 use Rattle.wc_body.specs.declared.light.TheConstants.{ROWS, BARE, CONSTANT, LOCAL, LABEL}
 use Rattle.wc_body.specs.declared.needs.Needs.{Needs}
 use Rattle.wc_body.specs.Standard.InstructionBytes.{instr_bytes}
 use Rattle.wc_body.specs.Standard.Needed.{enough, with_index}
 use Rattle.wc_body.specs.Drafting.AtFront.{NotesInstr}
-use Rattle.wc_body.specs.Drafting.FreeEntries.{IsAlone, padded, NotesPadded}
-use Rattle.wc_body.specs.Drafting.LightRows.{light_at, meant_light, op_light, with_light}
-use Rattle.wc_leb128.proofs.Writing.SignedShortest.{signed_bytes-low}
-use Rattle.wc_body.proofs.Drafts.FrontLemmas.{signed-held, spelled-one, unsigned-two}
+use Rattle.wc_body.specs.Drafting.LightRows.{light_at, meant_light, op_light, with_light, with_noted}
+use Rattle.wc_body.proofs.Drafts.FrontLemmas.{spelled-one, unsigned-two}
 
 -- ---- the table
 
@@ -65,36 +61,10 @@ nothing-noted b s r locals memory =
     let same : max s.locals (min (b + 1) 0) ≡ s.locals = omega arith in
     rw (locals, memory, same, or-false s.memory) refl
 
--- an integer below 64 by five bytes
-pads-unsigned : (b : ℕ) → b < 64 → U 32 (padded b) b
-pads-unsigned b lt =
-    let last : U 4 (0 ∷ []) 0 = inl (omega arith, omega arith, refl, refl) in
-    let fourth : U 11 (128 ∷ 0 ∷ []) 0 = inr (omega arith, omega arith, omega arith, 0, last, refl) in
-    let third : U 18 (128 ∷ 128 ∷ 0 ∷ []) 0 = inr (omega arith, omega arith, omega arith, 0, fourth, refl) in
-    let second : U 25 (128 ∷ 128 ∷ 128 ∷ 0 ∷ []) 0 = inr (omega arith, omega arith, omega arith, 0, third, refl) in
-    inr (omega arith, omega (arith, lt), omega arith, 0, second, omega arith)
-
-pads-none : (N : ℕ) (x : List ℕ) → 7 < N → S (N - 7) x (pos 0) → S N (128 ∷ x) (pos 0)
-pads-none N x wide s = inr (inr (omega arith, omega arith, wide, pos 0, s, refl))
-
-pads-low : (N b : ℕ) (x : List ℕ) → 7 < N → b < 64 → S (N - 7) x (pos 0) → S N ((128 + b) ∷ x) (pos b)
-pads-low N b x wide lt s = inr (inr (omega arith, omega (arith, lt), wide, pos 0, s, omega (arith, ints)))
-
-pads-32 : (b : ℕ) → b < 64 → S 32 (padded b) (pos b)
-pads-32 b lt =
-    let last : S 4 (0 ∷ []) (pos 0) = inl (omega arith, omega arith, refl, refl) in
-    let fourth = pads-none 11 (0 ∷ []) (omega arith) last in
-    let third = pads-none 18 (128 ∷ 0 ∷ []) (omega arith) fourth in
-    pads-low 32 b (128 ∷ 128 ∷ 128 ∷ 0 ∷ []) (omega arith) lt
-    (pads-none 25 (128 ∷ 128 ∷ 0 ∷ []) (omega arith) third)
-
-pads-64 : (b : ℕ) → b < 64 → S 64 (padded b) (pos b)
-pads-64 b lt =
-    let last : S 36 (0 ∷ []) (pos 0) = inl (omega arith, omega arith, refl, refl) in
-    let fourth = pads-none 43 (0 ∷ []) (omega arith) last in
-    let third = pads-none 50 (128 ∷ 0 ∷ []) (omega arith) fourth in
-    pads-low 64 b (128 ∷ 128 ∷ 128 ∷ 0 ∷ []) (omega arith) lt
-    (pads-none 57 (128 ∷ 128 ∷ 0 ∷ []) (omega arith) third)
+-- no access is of more than 64 bits
+pub width : (op : MemOp) → (memory op).alignment ≤ 3
+width I32Load = omega arith
+width _ = omega arith
 
 module _ (k b c : ℕ) (y : List ℕ) (s : Needs) where
   -- the entry of this instruction was noted
@@ -107,9 +77,9 @@ module _ (k b c : ℕ) (y : List ℕ) (s : Needs) where
   abbrev IsLight : Op → Type 0
   IsLight op =
       (b < (op_light op).second) × ((op_light op).length ≡ 3 → c < (op_light op).third)
-      × ((op_light op).length ≡ 2 → bit_and b (op_light op).label ≤ k)
+      × ((op_light op).length ≡ 2 → bit_and b (op_light op).label ≤ k) × ((op_light op).length ≡ 0 → ⊥)
 
-  none-noted : (r : Light) → r.locals ≡ 0 → r.memory ≡ false → with_light s r b ≡ s
+  pub none-noted : (r : Light) → r.locals ≡ 0 → r.memory ≡ false → with_light s r b ≡ s
   none-noted r locals memory = nothing-noted b s r locals memory
 
   simple-noted : (op : SimpleOp) → IsLight (ops.Simple op) → IsNoted (ops.Simple op)
@@ -119,14 +89,14 @@ module _ (k b c : ℕ) (y : List ℕ) (s : Needs) where
   simple-noted op h = (Simple op, refl, tt, none-noted BARE refl refl)
 
   -- a label of an enclosing block
-  label-noted : b < 128 → bit_and b 255 ≤ k
+  pub label-noted : b < 128 → bit_and b 255 ≤ k
       → with_light s LABEL b ≡ record s { outer_label = s.outer_label || nat_lt k b }
   label-noted lt le =
       let within : nat_lt k b ≡ false = grind (arith, nat_tests, lt, le, and_mask b 8) in
       none-noted LABEL refl refl ∙ sym (rw (within, or-false s.outer_label) refl)
 
   -- a local
-  local-noted : b < 128 → with_light s LOCAL b ≡ record s { locals = enough s.locals b }
+  pub local-noted : b < 128 → with_light s LOCAL b ≡ record s { locals = enough s.locals b }
   local-noted lt =
       let same : max s.locals (min (b + 1) 128) ≡ enough s.locals b = omega (arith, lt) in
       rw (same, or-false s.memory) refl
@@ -140,14 +110,9 @@ module _ (k b c : ℕ) (y : List ℕ) (s : Needs) where
   index-noted LocalGet h = (Index LocalGet b, index-bytes LocalGet h.0, omega (arith, h.0), local-noted h.0)
   index-noted LocalSet h = (Index LocalSet b, index-bytes LocalSet h.0, omega (arith, h.0), local-noted h.0)
   index-noted LocalTee h = (Index LocalTee b, index-bytes LocalTee h.0, omega (arith, h.0), local-noted h.0)
-  index-noted Call h = absurd (omega (arith, h.0))
-  index-noted GlobalGet h = absurd (omega (arith, h.0))
-  index-noted GlobalSet h = absurd (omega (arith, h.0))
-
-  -- no access is of more than 64 bits
-  width : (op : MemOp) → (memory op).alignment ≤ 3
-  width I32Load = omega arith
-  width _ = omega arith
+  index-noted Call h = absurd (h.3 refl)
+  index-noted GlobalGet h = absurd (h.3 refl)
+  index-noted GlobalSet h = absurd (h.3 refl)
 
   access-noted : (op : MemOp) → IsLight (ops.Mem op) → IsNoted (ops.Mem op)
   access-noted op h =
@@ -177,115 +142,15 @@ module _ (k b c : ℕ) (y : List ℕ) (s : Needs) where
   op-noted ops.Loop h = absurd (omega (arith, h.0))
   op-noted ops.If h = absurd (omega (arith, h.0))
 
-  -- the instruction of this opcode and of a low integer in five bytes was noted
-  abbrev PadsNoted : Op → Type 0
-  PadsNoted op = NotesPadded k (row op).byte b s (with_light s (op_light op) b)
-
-  index-padded : (op : IndexOp) → b < 64 → (op_light (ops.Index op)).length ≡ 2
-      → bit_and b (op_light (ops.Index op)).label ≤ k
-      → with_light s (op_light (ops.Index op)) b ≡ with_index s k op b → PadsNoted (ops.Index op)
-  index-padded op lt two within noted = (
-    Index op b,
-    rw (unsigned_bytes-low b (omega (arith, lt))) refl,
-    omega (arith, lt),
-    (padded b, refl, pads-unsigned b lt),
-    noted,
-  )
-
-  op-padded : (op : Op) → b < 64 → (op_light op).length ≡ 2 → bit_and b (op_light op).label ≤ k → PadsNoted op
-  op-padded (ops.Index Br) lt two within =
-      index-padded Br lt two within (label-noted (omega (arith, lt)) within)
-  op-padded (ops.Index BrIf) lt two within =
-      index-padded BrIf lt two within (label-noted (omega (arith, lt)) within)
-  op-padded (ops.Index LocalGet) lt two within = index-padded LocalGet lt two within (local-noted (omega (arith, lt)))
-  op-padded (ops.Index LocalSet) lt two within = index-padded LocalSet lt two within (local-noted (omega (arith, lt)))
-  op-padded (ops.Index LocalTee) lt two within = index-padded LocalTee lt two within (local-noted (omega (arith, lt)))
-  op-padded ops.I32Const lt two within = (
-    I32Const (pos b),
-    rw (signed_bytes-low false b lt) refl,
-    (signed-held false b (omega (arith, lt))).0,
-    (padded b, refl, pads-32 b lt),
-    none-noted CONSTANT refl refl,
-  )
-  op-padded ops.I64Const lt two within = (
-    I64Const (pos b),
-    rw (signed_bytes-low false b lt) refl,
-    (signed-held false b (omega (arith, lt))).1,
-    (padded b, refl, pads-64 b lt),
-    none-noted CONSTANT refl refl,
-  )
-  op-padded (ops.Simple MemorySize) lt two within = absurd (omega (arith, two))
-  op-padded (ops.Simple MemoryGrow) lt two within = absurd (omega (arith, two))
-  op-padded (ops.Simple Nop) lt two within = absurd (omega (arith, two))
-  op-padded (ops.Simple op) lt two within = absurd (omega (arith, two))
-  op-padded (ops.Index Call) lt two within = absurd (omega (arith, two))
-  op-padded (ops.Index GlobalGet) lt two within = absurd (omega (arith, two))
-  op-padded (ops.Index GlobalSet) lt two within = absurd (omega (arith, two))
-  op-padded (ops.Mem op) lt two within = absurd (omega (arith, two))
-  op-padded ops.BrTable lt two within = absurd (omega (arith, two))
-  op-padded ops.CallIndirect lt two within = absurd (omega (arith, two))
-  op-padded ops.Block lt two within = absurd (omega (arith, two))
-  op-padded ops.Loop lt two within = absurd (omega (arith, two))
-  op-padded ops.If lt two within = absurd (omega (arith, two))
-
-  meant-padded : (a : ℕ) (m : OpByte) → IsOpByte a m → (r : Light) → r ≡ meant_light m
-      → b < 64 → r.length ≡ 2 → bit_and b r.label ≤ k → NotesPadded k a b s (with_light s r b)
-  meant-padded a (Known op) is r e lt two within =
-      let byte = (is.known op).0 refl in
-      rw (e, ← byte) (op-padded op lt (rw e at two) (rw e at within))
-  meant-padded a Float is r e lt two within = absurd (omega (arith, rw e at two))
-  meant-padded a Unknown is r e lt two within = absurd (omega (arith, rw e at two))
-
   -- by the meaning of the opcode
   meant-noted : (a : ℕ) (m : OpByte) → IsOpByte a m → (r : Light) → r ≡ meant_light m
-      → b < r.second → (r.length ≡ 3 → c < r.third) → (r.length ≡ 2 → bit_and b r.label ≤ k)
+      → b < r.second → (r.length ≡ 3 → c < r.third) → (r.length ≡ 2 → bit_and b r.label ≤ k) → (r.length ≡ 0 → ⊥)
       → NotesInstr k (a ∷ b ∷ c ∷ y) (drop r.length (a ∷ b ∷ c ∷ y)) s (with_light s r b)
-  meant-noted a (Known op) is r e second third within =
+  meant-noted a (Known op) is r e second third within some =
       let byte = (is.known op).0 refl in
-      rw (e, ← byte) (op-noted op (rw e at second, rw e at third, rw e at within))
-  meant-noted a Float is r e second third within = absurd (omega (arith, rw e at second))
-  meant-noted a Unknown is r e second third within = absurd (omega (arith, rw e at second))
-
--- an opcode of which nothing follows
-simple-alone : (op : SimpleOp) → (op_light (ops.Simple op)).length ≡ 1 → IsAlone (row (ops.Simple op)).byte
-simple-alone MemorySize one = absurd (omega (arith, one))
-simple-alone MemoryGrow one = absurd (omega (arith, one))
-simple-alone Nop one = (Nop, refl, λ s k. refl)
-simple-alone op one = (op, refl, λ s k. refl)
-
-op-alone : (op : Op) → (op_light op).length ≡ 1 → IsAlone (row op).byte
-op-alone (ops.Simple op) one = simple-alone op one
-op-alone (ops.Index Br) one = absurd (omega (arith, one))
-op-alone (ops.Index BrIf) one = absurd (omega (arith, one))
-op-alone (ops.Index LocalGet) one = absurd (omega (arith, one))
-op-alone (ops.Index LocalSet) one = absurd (omega (arith, one))
-op-alone (ops.Index LocalTee) one = absurd (omega (arith, one))
-op-alone (ops.Index Call) one = absurd (omega (arith, one))
-op-alone (ops.Index GlobalGet) one = absurd (omega (arith, one))
-op-alone (ops.Index GlobalSet) one = absurd (omega (arith, one))
-op-alone (ops.Mem op) one = absurd (omega (arith, one))
-op-alone ops.I32Const one = absurd (omega (arith, one))
-op-alone ops.I64Const one = absurd (omega (arith, one))
-op-alone ops.BrTable one = absurd (omega (arith, one))
-op-alone ops.CallIndirect one = absurd (omega (arith, one))
-op-alone ops.Block one = absurd (omega (arith, one))
-op-alone ops.Loop one = absurd (omega (arith, one))
-op-alone ops.If one = absurd (omega (arith, one))
-
-meant-alone : (a : ℕ) (m : OpByte) → IsOpByte a m → (meant_light m).length ≡ 1 → IsAlone a
-meant-alone a (Known op) is one = let byte = (is.known op).0 refl in rw (← byte) (op-alone op one)
-meant-alone a Float is one = absurd (omega (arith, one))
-meant-alone a Unknown is one = absurd (omega (arith, one))
-
-pub light-alone : (a : ℕ) (r : Light) → r ≡ light_at a → r.length ≡ 1 → IsAlone a
-unfolding light_at
-light-alone a r e one = meant-alone a (meaning a) (meaning-is a) (rw e at one)
-
-pub light-padded : (a b k : ℕ) (s t : Needs) (r : Light) → r ≡ light_at a → b < 64 → r.length ≡ 2
-    → bit_and b r.label ≤ k → t ≡ with_light s r b → NotesPadded k a b s t
-unfolding light_at
-light-padded a b k s t r e lt two within is =
-    rw is (meant-padded k b 0 [] s a (meaning a) (meaning-is a) r e lt two within)
+      rw (e, ← byte) (op-noted op (rw e at second, rw e at third, rw e at within, rw e at some))
+  meant-noted a Float is r e second third within some = absurd (omega (arith, rw e at second))
+  meant-noted a Unknown is r e second third within some = absurd (omega (arith, rw e at second))
 
 -- ---- locals whose index has two bytes
 
@@ -377,67 +242,85 @@ long-noted (a ∷ b ∷ []) k n s le h high byte some low is = absurd (omega ari
 long-noted (a ∷ b ∷ c ∷ y) k n s le h high byte some low is =
     long-meant k b c n y s high byte some low is a (meaning a) (meaning-is a) h
 
--- none is light, or all have one byte and need nothing, or two and no memory, or three and a memory alone
+-- not both
+apart : (m : Bool) → m ≡ true → m ≡ false → ⊥
+apart m t f = absurd cc
+
+-- none is light, or the opcode tells what one needs, or all have one byte and need nothing, or two and no memory, or
+-- three and a memory alone
 abbrev pub IsKind : Light → Type 0
 IsKind r =
-    ((r.second ≡ 0) × (r.length ≡ 0)) ⊎ (((r.length ≡ 1) × (r.locals ≡ 0) × (r.memory ≡ false))
-    ⊎ (((r.length ≡ 2) × (r.memory ≡ false)) ⊎ ((r.length ≡ 3) × (r.locals ≡ 0) × (r.memory ≡ true))))
+    (r.second ≡ 0) ⊎ (((r.length ≡ 0) × (r.memory ≡ false)) ⊎ (((r.length ≡ 1) × (r.locals ≡ 0) × (r.memory ≡ false))
+    ⊎ (((r.length ≡ 2) × (r.memory ≡ false)) ⊎ ((r.length ≡ 3) × (r.locals ≡ 0) × (r.memory ≡ true)))))
 
 simple-kind : (op : SimpleOp) → IsKind (op_light (ops.Simple op))
-simple-kind MemorySize = inl (refl, refl)
-simple-kind MemoryGrow = inl (refl, refl)
-simple-kind Nop = inr (inl (refl, refl, refl))
-simple-kind _ = inr (inl (refl, refl, refl))
+simple-kind MemorySize = inl refl
+simple-kind MemoryGrow = inl refl
+simple-kind Nop = inr (inr (inl (refl, refl, refl)))
+simple-kind _ = inr (inr (inl (refl, refl, refl)))
 
 index-kind : (op : IndexOp) → IsKind (op_light (ops.Index op))
-index-kind Call = inl (refl, refl)
-index-kind GlobalGet = inl (refl, refl)
-index-kind GlobalSet = inl (refl, refl)
-index-kind Br = inr (inr (inl (refl, refl)))
-index-kind _ = inr (inr (inl (refl, refl)))
+index-kind Call = inr (inl (refl, refl))
+index-kind GlobalGet = inr (inl (refl, refl))
+index-kind GlobalSet = inr (inl (refl, refl))
+index-kind Br = inr (inr (inr (inl (refl, refl))))
+index-kind _ = inr (inr (inr (inl (refl, refl))))
 
 meant-kind : (m : OpByte) → IsKind (meant_light m)
 meant-kind (Known (ops.Simple op)) = simple-kind op
 meant-kind (Known (ops.Index op)) = index-kind op
-meant-kind (Known (ops.Mem op)) = inr (inr (inr (refl, refl, refl)))
-meant-kind (Known ops.I32Const) = inr (inr (inl (refl, refl)))
-meant-kind (Known ops.I64Const) = inr (inr (inl (refl, refl)))
-meant-kind _ = inl (refl, refl)
+meant-kind (Known (ops.Mem op)) = inr (inr (inr (inr (refl, refl, refl))))
+meant-kind (Known ops.I32Const) = inr (inr (inr (inl (refl, refl))))
+meant-kind (Known ops.I64Const) = inr (inr (inr (inl (refl, refl))))
+meant-kind _ = inl refl
 
 pub light-kind : (b : ℕ) → IsKind (light_at b)
 unfolding light_at
 light-kind b = meant-kind (meaning b)
 
 -- what is noted of one, by how many bytes it has
-pub pair-memory : (r : Light) → IsKind r → r.length ≡ 2 → r.memory ≡ false
-pair-memory r (inl none) two = absurd (omega (arith, none.1, two))
-pair-memory r (inr (inl one)) two = absurd (omega (arith, one.0, two))
-pair-memory r (inr (inr (inl h))) two = h.1
-pair-memory r (inr (inr (inr three))) two = absurd (omega (arith, three.0, two))
-
 pub bare-needs : (r : Light) (b : ℕ) (s : Needs) → IsKind r → b < r.second → r.length ≡ 1 → s ≡ with_light s r b
-bare-needs r b s (inl none) lt one = absurd (omega (arith, lt, none.0))
-bare-needs r b s (inr (inl h)) lt one = sym (nothing-noted b s r h.1 h.2)
-bare-needs r b s (inr (inr (inl two))) lt one = absurd (omega (arith, two.0, one))
-bare-needs r b s (inr (inr (inr three))) lt one = absurd (omega (arith, three.0, one))
+bare-needs r b s (inl none) lt one = absurd (omega (arith, none, lt))
+bare-needs r b s (inr (inl outer)) lt one = absurd (omega (arith, outer.0, one))
+bare-needs r b s (inr (inr (inl h))) lt one = sym (nothing-noted b s r h.1 h.2)
+bare-needs r b s (inr (inr (inr (inl two)))) lt one = absurd (omega (arith, two.0, one))
+bare-needs r b s (inr (inr (inr (inr three)))) lt one = absurd (omega (arith, three.0, one))
 
-pub access-needs : (r : Light) (b : ℕ) (s : Needs) → IsKind r → b < r.second → (r.length ≡ 2 → ⊥) → (r.length ≡ 1 → ⊥)
+pub access-needs : (r : Light) (b : ℕ) (s : Needs) → IsKind r → b < r.second → r.memory ≡ true
     → (r.length ≡ 3) × (record s { memory = true } ≡ with_light s r b)
-access-needs r b s (inl none) lt two one = absurd (omega (arith, lt, none.0))
-access-needs r b s (inr (inl h)) lt two one = absurd (one h.0)
-access-needs r b s (inr (inr (inl h))) lt two one = absurd (two h.0)
-access-needs r b s (inr (inr (inr h))) lt two one =
+access-needs r b s (inl none) lt t = absurd (omega (arith, none, lt))
+access-needs r b s (inr (inl outer)) lt t = absurd (apart r.memory t outer.1)
+access-needs r b s (inr (inr (inl one))) lt t = absurd (apart r.memory t one.2)
+access-needs r b s (inr (inr (inr (inl two)))) lt t = absurd (apart r.memory t two.1)
+access-needs r b s (inr (inr (inr (inr h)))) lt t =
     let same : max s.locals (min (b + 1) 0) ≡ s.locals = omega arith in
     (h.0, rw (h.1, h.2, same, or-true s.memory) refl)
+
+pub pair-needs : (r : Light) (b : ℕ) (m n : LightNeeds) (s : Needs) → IsKind r → b < r.second → r.length ≡ 2
+    → n ≡ record m { locals = max m.locals (min (b + 1) r.locals) } → with_noted n s ≡ with_light (with_noted m s) r b
+pair-needs r b m n s (inl none) lt two is = absurd (omega (arith, none, lt))
+pair-needs r b m n s (inr (inl outer)) lt two is = absurd (omega (arith, outer.0, two))
+pair-needs r b m n s (inr (inr (inl one))) lt two is = absurd (omega (arith, one.0, two))
+pair-needs r b m n s (inr (inr (inr (inl h)))) lt two is = rw (is, h.1, or-false m.memory) refl
+pair-needs r b m n s (inr (inr (inr (inr three)))) lt two is = absurd (omega (arith, three.0, two))
+
+-- it is an index whose opcode tells what is needed
+pub outer-length : (r : Light) (b : ℕ) → IsKind r → b < r.second → (r.length ≡ 2 → ⊥) → (r.length ≡ 1 → ⊥)
+    → r.memory ≡ false → r.length ≡ 0
+outer-length r b (inl none) lt two one f = absurd (omega (arith, none, lt))
+outer-length r b (inr (inl outer)) lt two one f = outer.0
+outer-length r b (inr (inr (inl h))) lt two one f = absurd (one h.0)
+outer-length r b (inr (inr (inr (inl h)))) lt two one f = absurd (two h.0)
+outer-length r b (inr (inr (inr (inr h)))) lt two one f = absurd (apart r.memory h.2 f)
 
 -- whatever lies behind it follows
 pub light-noted : (x : List ℕ) (k : ℕ) (s t : Needs) (r : Light) → 3 ≤ length x → r ≡ light_at (get_or x 0 0)
     → get_or x 1 0 < r.second → (r.length ≡ 3 → get_or x 2 0 < r.third)
-    → (r.length ≡ 2 → bit_and (get_or x 1 0) r.label ≤ k)
+    → (r.length ≡ 2 → bit_and (get_or x 1 0) r.label ≤ k) → (r.length ≡ 0 → ⊥)
     → t ≡ with_light s r (get_or x 1 0) → NotesInstr k x (drop r.length x) s t
 unfolding light_at
-light-noted [] k s t r le e second third within is = absurd (omega arith)
-light-noted (a ∷ []) k s t r le e second third within is = absurd (omega arith)
-light-noted (a ∷ b ∷ []) k s t r le e second third within is = absurd (omega arith)
-light-noted (a ∷ b ∷ c ∷ y) k s t r le e second third within is =
-    rw is (meant-noted k b c y s a (meaning a) (meaning-is a) r e second third within)
+light-noted [] k s t r le e second third within some is = absurd (omega arith)
+light-noted (a ∷ []) k s t r le e second third within some is = absurd (omega arith)
+light-noted (a ∷ b ∷ []) k s t r le e second third within some is = absurd (omega arith)
+light-noted (a ∷ b ∷ c ∷ y) k s t r le e second third within some is =
+    rw is (meant-noted k b c y s a (meaning a) (meaning-is a) r e second third within some)

@@ -42,6 +42,10 @@ abbrev pub IsAlone : ℕ → Type 0
 IsAlone a =
     (op : SimpleOp) × (a ∷ [] ≡ instr_bytes (Simple op)) × ((s : Needs) (k : ℕ) → with_instr s k (Simple op) ≡ s)
 
+-- it was noted what the instruction needs that these two bytes are, where so many blocks enclose it
+abbrev pub NotesTwo : ℕ → ℕ → ℕ → Needs → Needs → Type 0
+NotesTwo k a b s t = (i : Instr) × (a ∷ b ∷ [] ≡ instr_bytes i) × FitsInstr i × (t ≡ with_instr s k i)
+
 -- an integer below 64, unsigned or signed, by five bytes
 abbrev pub padded : ℕ → List ℕ
 padded b = (128 + b) ∷ 128 ∷ 128 ∷ 128 ∷ 0 ∷ []

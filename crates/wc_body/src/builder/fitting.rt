@@ -9,7 +9,7 @@ ghost use Rattle.wc_body.specs.declared.entry.Entry.TheVariants.{Plain};
 
 use crate::builder::BodyBuilder;
 use crate::instr::Instr;
-use crate::light::{is_alone, note_padded};
+use crate::light::{is_alone, note_padded, note_two};
 
 /// How many bytes an opcode and an integer have at most.
 const INTEGER_LIMIT: usize = 11;
@@ -39,6 +39,26 @@ impl BodyBuilder {
             return false;
         }
         self.bytes.push_reserved(opcode);
+        self.after_else = false;
+        true
+    }
+
+    /// Adds the instruction of these two bytes, where it is light, no call nor access of a global, and there is room for
+    /// it, and answers whether it was added.
+    #[inline(always)]
+    pub(crate) fn push_two(&mut self, opcode: u8, second: u8) -> bool
+        ensures added { result ≡ true → (i : AnInstr) × SpellsEntry (Plain i) (opcode ∷ second ∷ [])
+            × (self.new ≡ step self.old (plain i)) }
+        ensures same { result ≡ false → self.new ≡ self.old }
+    {
+        if self.bytes.capacity() - self.bytes.len() < 2 {
+            return false;
+        }
+        if !note_two(opcode, second, self.parts.len(), &mut self.needs) {
+            return false;
+        }
+        self.bytes.push_reserved(opcode);
+        self.bytes.push_reserved(second);
         self.after_else = false;
         true
     }

@@ -4,7 +4,7 @@ use Rattle.wc_body.proofs.Drafts.FrontRun.{fronted-shorter}
 use Rattle.wc_body.proofs.light.after_light.Goals as goal
 
 pub entries-init : goal.entries-init
-entries-init c = (0, (refl, refl))
+entries-init c = (0, (refl, rw c.of-noted.ensures refl))
 
 pub entries-smaller : goal.entries-smaller
 entries-smaller c =
@@ -18,4 +18,6 @@ entries-preserved c =
     (suc i.0, (_, _, i.1, c.in-Some.ensures.some))
 
 pub returns : goal.returns
-returns c = rw (c.in_default.ensures.none refl) c.entries.invariant
+returns c =
+    let same = c.in_default.ensures.none refl in
+    rw (c.give_back.ensures, same.0, same.1) c.entries.invariant

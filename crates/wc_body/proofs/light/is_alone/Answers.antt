@@ -1,6 +1,6 @@
 use Rattle.std.proofs.Common.{arith}
 use Rattle.std.proofs.lemmas.Bool.Decides.{nat_tests}
-use Rattle.wc_body.proofs.Drafts.LightLemmas.{light-alone}
+use Rattle.wc_body.proofs.Drafts.PaddedLemmas.{light-alone}
 use Rattle.wc_body.proofs.light.is_alone.Goals as goal
 
 pub returns : goal.returns

@@ -1,14 +1,17 @@
-use Rattle.std.proofs.Common.{arith}
-use Rattle.wc_body.proofs.Drafts.LightLemmas.{IsKind, light-kind, light-padded, pair-memory}
+use Rattle.std.proofs.Common.{◌≡◌, ◌<◌, arith}
+use Rattle.wc_body.proofs.Drafts.LightLemmas.{IsKind, light-kind, pair-needs}
+use Rattle.wc_body.proofs.Drafts.PaddedLemmas.{light-padded, light-pair}
 use Rattle.wc_body.proofs.light.note_padded.Goals as goal
-
-pub note_pair-requires : goal.note_pair-requires
-note_pair-requires c =
-    let kind : IsKind c.light_of-light.result.now = rw c.light_of-light.ensures (light-kind c.args.opcode) in
-    pair-memory c.light_of-light.result.now kind c.if-light-ne2.false
 
 pub returns-clause-noted : goal.returns-clause-noted
 returns-clause-noted c t =
-    light-padded c.args.opcode c.args.low c.args.enclosing _ _ c.light_of-light.result.now c.light_of-light.ensures
+    let light = c.light_of-light.result.now in
+    let kind : IsKind c.light_of-light.result.now = rw c.light_of-light.ensures (light-kind c.args.opcode) in
+    let two : light.length ≡ 2 = c.if-light-ne2.false in
+    let second = light-pair (c.args.opcode) (rw c.light_of-light.ensures at two) in
+    let lt : c.args.low < c.light_of-light.result.now.second =
+    rw c.light_of-light.ensures (omega (arith, second, c.if-low-ge64.false)) in
+    let needs = pair-needs light c.args.low _ _ c.args.needs.now kind lt two c.note_pair.ensures in
+    light-padded c.args.opcode c.args.low c.args.enclosing _ _ light c.light_of-light.ensures
     (omega (arith, c.if-low-ge64.false)) c.if-light-ne2.false (rw c.from.ensures at c.if-enclosing-from.false)
-    c.note_pair.ensures
+    (rw c.give_back.ensures (rw c.of-noted.ensures at needs))

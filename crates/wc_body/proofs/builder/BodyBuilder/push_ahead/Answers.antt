@@ -14,14 +14,14 @@ runs-preserved-in-Some c = ran-one _ _ _ _ _ c.runs.invariant _ c.in-Some.ensure
 
 pub runs-smaller : goal.runs-smaller
 runs-smaller c =
-    later-shorter _ _ c.push_others-count.result c.runs.rest.now c.in-Some-push_free.behind.now
-    c.in-Some-push_free.ensures.some
+    later-shorter _ _ c.push_others-count.result c.runs.rest.now c.in-Some-push_wide.behind.now
+    c.in-Some-push_wide.ensures.some
 
 pub runs-preserved : goal.runs-preserved
 runs-preserved c =
     let light = rw (← (c.in_default.ensures.none refl)) at c.runs.invariant in
     let front = ran-front _ _ _ _ _ light _ c.push_others-count.ensures in
-    ran-one _ _ _ _ _ front _ c.in-Some-push_free.ensures.some
+    ran-one _ _ _ _ _ front _ c.in-Some-push_wide.ensures.some
 
 pub overflow_sub-result : goal.overflow_sub-result
 overflow_sub-result c =
@@ -31,5 +31,5 @@ overflow_sub-result c =
 pub returns : goal.returns
 returns c =
     let light = rw (← (c.in_default.ensures.none refl)) at c.runs.invariant in
-    rw (c.in_default-push_free.ensures.none refl)
+    rw (c.in_default-push_wide.ensures.none refl)
     (ran-adds _ _ _ _ (ran-front _ _ _ _ _ light _ c.push_others-count.ensures))
