@@ -146,13 +146,14 @@ impl BodyBuilder {
         BodyBuilder::in_memory(memory_of(body))
     }
 
-    /// Begins anew, in the memory of a body that is wanted no longer. What is held for open ones is kept, as far as it
-    /// is for few.
+    /// Begins anew, in the memory of a body that is wanted no longer. What is held for open ones is kept, but goes back
+    /// where it is for many.
     pub fn restart(&mut self, body: Body)
         ensures { self.new ≡ whole empty }
     {
         self.bytes = memory_of(body);
         self.parts.clear();
+        give_back(&mut self.parts);
         self.after_else = false;
         self.needs = Needs::nothing();
     }

@@ -1,6 +1,6 @@
 //! Instructions that bytes begin with, whose integer may be spelled longer than it is kept.
 
-ghost use Rattle.std.specs.Prelude.{◌≡◌, ◌≤◌, ◌∷◌, length, IfSome, IsNone};
+ghost use Rattle.std.specs.Prelude.{◌≡◌, ◌<◌, ◌≤◌, ◌∷◌, get_or, length, IfSome, IsNone};
 ghost use Rattle.wc_leb128.specs.Standard.Integers.{U, IsAtFront};
 ghost use Rattle.wc_ops.specs.Standard.Opcodes.{row};
 ghost use Rattle.wc_ops.specs.declared.op.Op.TheVariants as ops;
@@ -124,7 +124,7 @@ impl BodyBuilder {
     // No look for a run that would mostly end at once.
     #[inline(always)]
     fn push_before<'a>(&mut self, bytes: &'a [u8]) -> Option<&'a [u8]>
-        requires { 6 ≤ length bytes.now }
+        requires { (6 ≤ length bytes.now) × (get_or bytes.now 1 0 < 128) }
         ensures some { IfSome result (λ rest. AddsOne self.old self.new bytes.now rest.now) }
         ensures none { IsNone result → self.new ≡ self.old }
     {

@@ -1,10 +1,11 @@
 //! Light entries: those whose integers have one byte each, and that need no label beyond the enclosing blocks and no
-//! alignment above the width of the access. What is noted of one is looked up by its opcode. Indices, constants and
-//! offsets of two bytes are taken along with them.
+//! alignment above the width of the access. What is noted of one is looked up by its opcode. Indices but labels,
+//! constants and offsets of two bytes are taken along with them.
 
-ghost use Rattle.std.specs.Prelude.{◌≡◌, ◌<◌, ◌≤◌, ◌+◌, ◌-◌, ◌*◌, ◌^◌, ℕ, true, false, max, min, length, get_or, IfSome, IsNone};
+pub(crate) mod before;
+
+ghost use Rattle.std.specs.Prelude.{◌≡◌, ◌<◌, ◌≤◌, ◌+◌, ◌-◌, ◌*◌, ◌^◌, ℕ, max, min, length, get_or, IfSome, IsNone};
 ghost use Rattle.wc_body.specs.Drafting.AtFront.{NotesInstr, NotesRun};
-ghost use Rattle.wc_body.specs.Drafting.FreeEntries.{IsAlone, NotesTwo, NotesPadded};
 ghost use Rattle.wc_body.specs.Drafting.LightRows.{light_at, with_noted, IsOuterAt, NotesOuter, IsConstantAt};
 ghost use Rattle.wc_body.specs.declared.light.LightNeeds.{LightNeeds};
 ghost use Rattle.wc_body.specs.declared.needs.Needs.{Needs};
@@ -171,53 +172,8 @@ fn note_pair(noted: &mut LightNeeds, light: &Light, second: u8)
     noted.locals = noted.locals.max(locals);
 }
 
-/// Whether the light entries of this opcode have no other byte.
-#[inline(always)]
-pub(crate) fn is_alone(opcode: u8) -> bool
-    ensures { result ≡ true → IsAlone opcode }
-{
-    light_of(opcode).length == 1
-}
-
-/// Notes what the instruction of these two bytes needs, which so many blocks enclose, where it is a light one, and no
-/// call nor access of a global; answers whether it was noted.
-#[inline(always)]
-pub(crate) fn note_two(opcode: u8, second: u8, enclosing: usize, needs: &mut Needs) -> bool
-    ensures noted { result ≡ true → NotesTwo enclosing opcode second needs.old needs.new }
-    ensures same { result ≡ false → needs.new ≡ needs.old }
-{
-    let light = light_of(opcode);
-    if light.length != 2
-        || second >= light.second
-        || enclosing < usize::from(second & light.label)
-    {
-        return false;
-    }
-    let mut noted = LightNeeds::of(needs);
-    note_pair(&mut noted, light, second);
-    noted.give_back(needs);
-    true
-}
-
-/// The same of an integer below 64 that has five bytes where it stands.
-// A constant from 64 on needs two bytes.
-#[inline(always)]
-pub(crate) fn note_padded(opcode: u8, low: u8, enclosing: usize, needs: &mut Needs) -> bool
-    ensures noted { result ≡ true → NotesPadded enclosing opcode low needs.old needs.new }
-    ensures same { result ≡ false → needs.new ≡ needs.old }
-{
-    let light = light_of(opcode);
-    if light.length != 2 || low >= 64 || enclosing < usize::from(low & light.label) {
-        return false;
-    }
-    let mut noted = LightNeeds::of(needs);
-    note_pair(&mut noted, light, low);
-    noted.give_back(needs);
-    true
-}
-
 /// Notes what a call or an access of a global needs, of this opcode and this index.
-// No jump by the opcode.
+// No table of jumps.
 #[inline(always)]
 fn note_outer(needs: &mut Needs, opcode: u8, index: u32)
     requires { index < 2 ^ 14 }
@@ -290,7 +246,8 @@ fn behind_constant(bytes: &[u8]) -> Option<&[u8]>
     Some(&bytes[3..])
 }
 
-/// The same of an integer of two bytes, where the row of the opcode bars no less.
+/// Notes the instruction of an index or a constant that these bytes begin with, where its integer has two bytes, and no
+/// more than it needs. What follows it is answered.
 #[inline(always)]
 fn long_front<'a>(
     bytes: &'a [u8],

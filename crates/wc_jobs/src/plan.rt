@@ -45,6 +45,7 @@ pub struct Plan {
     pub mark: u64,
     /// Whether its sizes and counts are padded.
     pub padded: bool,
+    /// What is wrong with it, if anything is.
     pub fault: Option<Fault>,
 }
 

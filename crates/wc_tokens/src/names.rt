@@ -83,7 +83,7 @@ fn after_long(text: &[u8]) -> &[u8]
 pub fn after_name(text: &[u8]) -> &[u8]
     ensures { RunEnds text.now result.now }
 {
-    // The few characters of a short name are passed faster one by one.
+    // A short name is passed faster without a chunk. Its first byte is nearly always an idchar.
     if text.len() >= CHUNK && text[1] >= b'-' && text[2] >= b'-' && text[3] >= b'-' {
         return after_long(text);
     }

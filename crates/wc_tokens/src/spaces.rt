@@ -23,7 +23,7 @@ fn others_in_chunk(text: &[u8], at: usize) -> u64
     others.to_bitmask()
 }
 
-/// Whether a chunk stands at the front of a text whose first bytes may all be blanks.
+/// Whether a text has a chunk, and its first five bytes may all be blanks.
 // Fewer blanks are passed faster one by one. Most gaps are one space, so the second byte is looked at first.
 #[inline(always)]
 fn begins_many(text: &[u8]) -> bool

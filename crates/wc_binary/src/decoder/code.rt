@@ -121,7 +121,7 @@ fn codes<S: Source>(alloc: Global, count: u32, source: &mut S) -> Result<Codes, 
     ensures { Gives (times_phrase count code_phrase) (S.input source.old) (S.input source.new) result }
 {
     let mut codes = Codes::new(alloc);
-    // One for all, so that what it holds for open blocks is asked for once.
+    // One for all, so that room for a few open blocks is asked for once.
     let mut builder = BodyBuilder::new(alloc);
     let mut spare = FuncCode {
         locals: Locals::new(alloc),

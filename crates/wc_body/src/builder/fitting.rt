@@ -1,6 +1,6 @@
 //! Instructions that are added only where the memory at hand has room for them.
 
-ghost use Rattle.std.specs.Prelude.{[], ◌∷◌, ◌≡◌, false, true};
+ghost use Rattle.std.specs.Prelude.{[], ◌∷◌, ◌≡◌, ◌<◌, false, true};
 ghost use Rattle.wc_body.specs.Standard.Draft.{step};
 ghost use Rattle.wc_body.specs.Standard.Nested.{plain};
 ghost use Rattle.wc_body.specs.Drafting.FreeEntries.{padded, SpellsEntry};
@@ -9,7 +9,7 @@ ghost use Rattle.wc_body.specs.declared.entry.Entry.TheVariants.{Plain};
 
 use crate::builder::BodyBuilder;
 use crate::instr::Instr;
-use crate::light::{is_alone, note_padded, note_two};
+use crate::light::before::{is_alone, note_padded, note_two};
 
 /// How many bytes an opcode and an integer have at most.
 const INTEGER_LIMIT: usize = 11;
@@ -47,6 +47,7 @@ impl BodyBuilder {
     /// it, and answers whether it was added.
     #[inline(always)]
     pub(crate) fn push_two(&mut self, opcode: u8, second: u8) -> bool
+        requires { second < 128 }
         ensures added { result ≡ true → (i : AnInstr) × SpellsEntry (Plain i) (opcode ∷ second ∷ [])
             × (self.new ≡ step self.old (plain i)) }
         ensures same { result ≡ false → self.new ≡ self.old }

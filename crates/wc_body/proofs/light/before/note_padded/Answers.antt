@@ -1,7 +1,7 @@
 use Rattle.std.proofs.Common.{◌≡◌, ◌<◌, arith}
 use Rattle.wc_body.proofs.Drafts.LightLemmas.{IsKind, light-kind, pair-needs}
 use Rattle.wc_body.proofs.Drafts.PaddedLemmas.{light-padded, light-pair}
-use Rattle.wc_body.proofs.light.note_padded.Goals as goal
+use Rattle.wc_body.proofs.light.before.note_padded.Goals as goal
 
 pub returns-clause-noted : goal.returns-clause-noted
 returns-clause-noted c t =
