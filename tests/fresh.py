@@ -25,8 +25,8 @@ def crates():
     return found
 
 
-def copy_to(folder, with_out_of=()):
-    """Copies the files, and of these crates what earlier checks kept."""
+def copy_to(folder):
+    """Copies the files."""
     listed = ["git", "ls-files", "-z", "--cached", "--others", "--exclude-standard"]
     names = subprocess.run(listed, cwd=ROOT, check=True, capture_output=True, text=True).stdout.split("\0")
     for name in filter(None, names):
@@ -34,8 +34,3 @@ def copy_to(folder, with_out_of=()):
         if os.path.isfile(f"{ROOT}/{name}"):
             os.makedirs(os.path.dirname(f"{folder}/{name}"), exist_ok=True)
             shutil.copy(f"{ROOT}/{name}", f"{folder}/{name}")
-    for name in with_out_of:
-        for part in ("incremental", "rlib"):
-            kept = f"crates/{name}/out/{part}"
-            if os.path.isdir(f"{ROOT}/{kept}"):
-                shutil.copytree(f"{ROOT}/{kept}", f"{folder}/{kept}")
