@@ -82,9 +82,6 @@ line-is b lt = record {
   kind = grind (arith, nat_tests, row-test (λ r. nat_lt (slice_index r 22) 4) LINES b refl lt);
 }
 
-pub line-sized : (b : ℕ) → b < 256 → length (get_or LINES b []) ≡ 24
-line-sized b lt = grind (arith, nat_tests, row-test (λ r. length r == 24) LINES b refl lt)
-
 -- the row at an instruction's opcode
 pub op-told : (op : Op) (r : List ℕ) → IsLine (row op).byte r → told r ≡ printed (below 4 (word (row op).name) ∷ [])
 op-told op r h =
@@ -224,6 +221,3 @@ each-text test e kind n lt low =
 
 pub operand-short : (kind n : ℕ) → kind < 4 → n < 128 → slice_index (text_of kind n) 15 ≤ 15
 operand-short kind n lt low = grind (arith, nat_tests, each-text (λ t. nat_le (slice_index t 15) 15) refl kind n lt low)
-
-pub operand-sized : (kind n : ℕ) → kind < 4 → n < 128 → length (text_of kind n) ≡ 16
-operand-sized kind n lt low = grind (arith, nat_tests, each-text (λ t. length t == 16) refl kind n lt low)
