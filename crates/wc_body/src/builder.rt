@@ -2,8 +2,7 @@
 
 mod fitting;
 
-ghost use Rattle.std.specs.Prelude.{[], ◌≡◌, ◌+◌, ◌<◌, ◌≤◌, ◌++◌, true, length, take, OnOk, OnErr, IfErr};
-ghost use Rattle.std.specs.Prelude.{vec_len, vec_capacity};
+ghost use Rattle.std.specs.Prelude.{◌≡◌, ◌+◌, ◌<◌, ◌≤◌, ◌++◌, true, length, OnOk, OnErr, IfErr, vec_len, vec_capacity};
 ghost use Rattle.wc_body.specs.Drafting.OpenParts.{part_of};
 ghost use Rattle.wc_body.specs.Drafting.PackedBody.{with_end};
 ghost use Rattle.wc_body.specs.declared.builder.BuildFault.TheVariants.{Memory};
@@ -17,7 +16,6 @@ use crate::light::after_light;
 use crate::needs::Needs;
 use std::alloc::{AllocError, AllocFailed, Global};
 use std::marker::Model;
-use std::mem::replace;
 
 /// Why an entry was not added, or a body not finished.
 #[derive(Clone, Copy, Debug, PartialEq, Eq)]
@@ -51,12 +49,6 @@ impl<T: Drop> From<AllocFailed<T>> for BuildFault {
         BuildFault::Memory
     }
 }
-
-/// How many bytes are copied for a run that has no more, where so many stand there.
-const COPIED: usize = 32;
-
-/// For how many open blocks a builder keeps room from one body to the next.
-const KEPT_OPEN: usize = 64;
 
 /// Which part an open block, loop or if is in: the first part of an if, or any other.
 #[derive(Clone, Copy, Debug, PartialEq, Eq)]
@@ -143,19 +135,9 @@ impl BodyBuilder {
     pub fn reusing(body: Body) -> BodyBuilder
         ensures { result ≡ whole empty }
     {
-        BodyBuilder::in_memory(memory_of(body))
-    }
-
-    /// Begins anew, in the memory of a body that is wanted no longer. What is held for open ones is kept, but goes back
-    /// where it is for many.
-    pub fn restart(&mut self, body: Body)
-        ensures { self.new ≡ whole empty }
-    {
-        self.bytes = memory_of(body);
-        self.parts.clear();
-        give_back(&mut self.parts);
-        self.after_else = false;
-        self.needs = Needs::nothing();
+        let mut bytes = body.into_bytes();
+        bytes.clear();
+        BodyBuilder::in_memory(bytes)
     }
 
     /// How many blocks, loops and ifs are open.
@@ -285,7 +267,7 @@ impl BodyBuilder {
             rest = behind;
         }
         let count = fitting.len() - rest.len();
-        append(&mut self.bytes, fitting, count);
+        append(&mut self.bytes, &fitting[..count]);
         count
     }
 
@@ -306,48 +288,11 @@ impl BodyBuilder {
         ensures ok { IfOk result (λ body. self ≡ whole body) }
         ensures err { IfErr result (λ fault. (fault ≡ faults.Mark) × (is_open self.around ≡ true)) }
     {
-        let mut builder = self;
-        builder.take_body()
-    }
-
-    /// The same, and the builder stays, with nothing so far: what is held for open ones is there for the next body, but
-    /// goes back where it is for many. After an error it is as it was.
-    pub fn take_body(&mut self) -> Result<Body, BuildFault>
-        ensures ok { IfOk result (λ body. self.old ≡ whole body) }
-        ensures rest { OnOk result (self.new ≡ whole empty) }
-        ensures err { IfErr result (λ fault. (fault ≡ faults.Mark) × (is_open self.old.around ≡ true)) }
-        ensures same { OnErr result (self.new ≡ self.old) }
-    {
         if self.depth() > 0 {
             return Err(BuildFault::Mark);
         }
-        let alloc = *self.bytes.allocator();
-        let bytes = replace(&mut self.bytes, Vec::new(alloc));
-        let needs = replace(&mut self.needs, Needs::nothing());
-        self.after_else = false;
-        give_back(&mut self.parts);
-        Ok(Body::from_bytes(bytes, needs))
+        Ok(Body::from_bytes(self.bytes, self.needs))
     }
-}
-
-/// Gives back the room for open ones, of which there are none, where it is for many.
-fn give_back(parts: &mut Vec<Part>)
-    requires { parts.old.items ≡ [] }
-    ensures { parts.new.items ≡ [] }
-{
-    if parts.capacity() > KEPT_OPEN {
-        let alloc = *parts.allocator();
-        *parts = Vec::new(alloc);
-    }
-}
-
-/// The memory of a body that is wanted no longer, with nothing in it.
-fn memory_of(body: Body) -> Vec<u8>
-    ensures { result.items ≡ [] }
-{
-    let mut bytes = body.into_bytes();
-    bytes.clear();
-    bytes
 }
 
 pub(crate) fn first_part_of(kind: Kind) -> Part
@@ -359,20 +304,12 @@ pub(crate) fn first_part_of(kind: Kind) -> Part
     }
 }
 
-/// Puts the first so many of these bytes behind others. There is room for all of them.
-// Most runs are short. A copy of a fixed length, of which what is too much is cut off, has no branch by their length.
-#[inline(always)]
-fn append(bytes: &mut Vec<u8>, more: &[u8], count: usize)
-    requires { (count ≤ length more.now) × (vec_len bytes.old + length more.now ≤ vec_capacity bytes.old) }
-    ensures { bytes.new.items ≡ bytes.old.items ++ take count more.now }
+/// Puts these bytes behind others, for which there is room.
+fn append(bytes: &mut Vec<u8>, more: &[u8])
+    requires { vec_len bytes.old + length more.now ≤ vec_capacity bytes.old }
+    ensures { bytes.new.items ≡ bytes.old.items ++ more.now }
 {
-    if count <= COPIED && more.len() >= COPIED {
-        let length = bytes.len();
-        let _ = bytes.extend_from_slice(&more[..COPIED]);
-        bytes.truncate(length + count);
-        return;
-    }
-    let _ = bytes.extend_from_slice(&more[..count]);
+    let _ = bytes.extend_from_slice(more);
 }
 
 /// Puts an end mark last; an else mark that stands last gives way to it.

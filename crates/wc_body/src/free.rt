@@ -189,8 +189,8 @@ impl BodyBuilder {
     }
 
     /// Adds the entries that these bytes begin with, as many as are usual and fit the memory at hand. Each is spelled
-    /// as it is kept, but for an index or a constant, whose spelling may be any. Answers how many bytes they have. No
-    /// end is added at which none is open.
+    /// as it is kept, but for an index or a constant of five bytes or more, whose spelling may be any. Answers how many
+    /// bytes they have. No end is added at which none is open.
     // A call, so that its loops have registers of their own.
     #[inline(never)]
     pub fn push_ahead(&mut self, bytes: &[u8]) -> usize

@@ -1,10 +1,9 @@
 //! Whole bodies by the bytes that they are kept by.
 
-ghost use Rattle.std.specs.Prelude.{◌≡◌, ◌++◌, ◌∷◌, [], ℕ, List, IfSome};
+ghost use Rattle.std.specs.Prelude.{◌≡◌, ◌++◌, ◌∷◌, [], IfSome};
 ghost use Rattle.wc_body.specs.Drafting.PackedBody.{IsBody};
 
 use crate::front::instr_front;
-use crate::light::after_light;
 use crate::needs::Needs;
 use std::alloc::Global;
 
@@ -18,30 +17,21 @@ pub(crate) fn body_spelled(alloc: Global, bytes: &[u8]) -> Option<(&[u8], Needs)
     if *last != 0x0b {
         return None;
     }
-    let needs = instructions_spelled(alloc, bytes)?;
+    let needs = instructions_spelled(alloc, row)?;
     Some((row, needs))
 }
 
-/// What the instructions need that these are the canonical bytes of, but for the last byte, where these are usual ones
-/// and none is a block.
-// The last byte is given so that the last instruction has bytes behind it, as the others have.
+/// What the instructions need that these are the canonical bytes of, where these are usual ones and none is a block.
 #[inline(always)]
 fn instructions_spelled(alloc: Global, bytes: &[u8]) -> Option<Needs>
-    ensures { IfSome result (λ needs. (row : List ℕ) (last : ℕ) → bytes.now ≡ row ++ last ∷ [] → IsBody row needs) }
+    ensures { IfSome result (IsBody bytes.now) }
 {
     let mut needs = Needs::nothing();
     // None is open.
     let parts = Vec::new(alloc);
     let mut rest = bytes;
-    'entries: loop {
-        rest = after_light(rest, 0, &mut needs);
-        if rest.len() < 2 {
-            break;
-        }
+    while !rest.is_empty() {
         rest = instr_front(rest, &mut needs, &parts)?;
-    }
-    if rest.is_empty() {
-        return None;
     }
     Some(needs)
 }

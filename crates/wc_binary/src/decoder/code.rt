@@ -16,37 +16,26 @@ use crate::source::{BUFFER_SIZE, Source};
 use std::alloc::{AllocError, Global};
 use wc_ast::{Body, BodyBuilder, Codes, FuncCode, Locals};
 
-/// What stands behind the size of a code, built by this builder in the memory of a code that is wanted no longer.
+/// What stands behind the size of a code, in the memory of one that is wanted no longer.
 #[tactic(auto, unfolding(crate::specs::Standard::Contents::func))]
-fn func<S: Source>(
-    alloc: Global,
-    builder: &mut BodyBuilder,
-    spare: FuncCode,
-    source: &mut S,
-) -> Result<FuncCode, BinFault>
+fn func<S: Source>(alloc: Global, spare: FuncCode, source: &mut S) -> Result<FuncCode, BinFault>
     ensures { Gives func_phrase (S.input source.old) (S.input source.new) result }
 {
     let FuncCode { locals, body } = spare;
     let locals = locals_from(alloc, locals, source)?;
-    builder.restart(body);
-    let body = body_from(alloc, builder, source)?;
+    let body = body_from(alloc, BodyBuilder::reusing(body), source)?;
     Ok(FuncCode { locals, body })
 }
 
-/// A code behind its size, built so. The size is judged once the code was read.
+/// A code behind its size, in such memory. The size is judged once the code was read.
 #[tactic(auto, unfolding(crate::specs::Standard::Contents::code, crate::specs::Standard::Values::sized))]
-fn code<S: Source>(
-    alloc: Global,
-    builder: &mut BodyBuilder,
-    spare: FuncCode,
-    source: &mut S,
-) -> Result<FuncCode, BinFault>
+fn code<S: Source>(alloc: Global, spare: FuncCode, source: &mut S) -> Result<FuncCode, BinFault>
     ensures { Gives code_phrase (S.input source.old) (S.input source.new) result }
 {
     let at = source.place();
     let size = u32(source)?;
     let start = source.place();
-    let found = func(alloc, builder, spare, source)?;
+    let found = func(alloc, spare, source)?;
     if source.place() - start != size as u64 {
         return Err(bad(at, BinWhy::BodySize));
     }
@@ -100,18 +89,20 @@ fn code_ahead<S: Source>(codes: &mut Codes, source: &mut S) -> Result<bool, BinF
     Ok(true)
 }
 
-/// Reads a code part by part, in the memory of one that is wanted no longer, and puts a copy behind the others.
-/// Answers what was read, for its memory.
-fn read_code<S: Source>(
+/// Reads a code, and puts it behind the others. Where that can't be done at once, it is read into the memory of one
+/// that is wanted no longer; such memory is answered.
+fn next_code<S: Source>(
     alloc: Global,
-    builder: &mut BodyBuilder,
     codes: &mut Codes,
     spare: FuncCode,
     source: &mut S,
 ) -> Result<FuncCode, BinFault>
     ensures { AddsItem code_phrase codes.old codes.new (S.input source.old) (S.input source.new) result }
 {
-    let found = code(alloc, builder, spare, source)?;
+    if code_ahead(codes, source)? {
+        return Ok(spare);
+    }
+    let found = code(alloc, spare, source)?;
     codes.push(&found.locals, &found.body)?;
     Ok(found)
 }
@@ -121,17 +112,12 @@ fn codes<S: Source>(alloc: Global, count: u32, source: &mut S) -> Result<Codes, 
     ensures { Gives (times_phrase count code_phrase) (S.input source.old) (S.input source.new) result }
 {
     let mut codes = Codes::new(alloc);
-    // One for all, so that room for a few open blocks is asked for once.
-    let mut builder = BodyBuilder::new(alloc);
     let mut spare = FuncCode {
         locals: Locals::new(alloc),
         body: Body::new(alloc),
     };
     for _ in 0..count {
-        if code_ahead(&mut codes, source)? {
-            continue;
-        }
-        spare = read_code(alloc, &mut builder, &mut codes, spare, source)?;
+        spare = next_code(alloc, &mut codes, spare, source)?;
     }
     Ok(codes)
 }

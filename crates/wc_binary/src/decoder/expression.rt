@@ -186,23 +186,24 @@ fn entries_ahead<S: Source>(pace: &mut Pace, builder: &mut BodyBuilder, source: 
 /// The instructions up to the end at which none is open, in the memory of this builder, which has nothing so far.
 pub fn body_from<S: Source>(
     alloc: Global,
-    builder: &mut BodyBuilder,
+    builder: BodyBuilder,
     source: &mut S,
 ) -> Result<Body, BinFault>
-    requires { builder.old ≡ whole empty }
+    requires { builder ≡ whole empty }
     ensures { Gives expr (S.input source.old) (S.input source.new) result }
 {
+    let mut builder = builder;
     let mut labels = List::new(alloc);
     let mut pace = Pace::new();
     'entries: loop {
-        entries_ahead(&mut pace, builder, source);
+        entries_ahead(&mut pace, &mut builder, source);
         let at = source.place();
         let byte = any_byte(source)?;
-        if !entry(alloc, byte, at, builder, &mut labels, source)? {
+        if !entry(alloc, byte, at, &mut builder, &mut labels, source)? {
             break;
         }
     }
-    match builder.take_body() {
+    match builder.finish_with_room() {
         Ok(body) => Ok(body),
         Err(_) => unreachable!(),
     }
@@ -213,7 +214,7 @@ impl FromSource for Constant {
 
     /// The instructions up to the end at which none is open.
     fn read<S: Source>(alloc: Global, source: &mut S) -> Result<Constant, BinFault> {
-        let body = body_from(alloc, &mut BodyBuilder::new(alloc), source)?;
+        let body = body_from(alloc, BodyBuilder::new(alloc), source)?;
         Ok(body.into_constant())
     }
 }

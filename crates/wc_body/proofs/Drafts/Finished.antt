@@ -1,7 +1,6 @@
 -- What is built, once nothing is open.
-use Rattle.std.proofs.Common.{◌≡◌, ℕ, Bool, false, List, [], ◌∷◌, ◌++◌, length, take, refl, sym, ap}
-use Rattle.std.proofs.Common.{◌∙◌, arith}
-use Rattle.std.proofs.lemmas.List.{append-nil, nil_from_length, length-append, take_at}
+use Rattle.std.proofs.Common.{◌≡◌, ℕ, Bool, false, List, [], ◌++◌, length, sym, ap, ◌∙◌}
+use Rattle.std.proofs.lemmas.List.{append-nil, nil_from_length}
 use Rattle.wc_body.specs.declared.builder.Part.{Part}
 use Rattle.wc_body.specs.declared.needs.Needs.{Needs}
 use Rattle.wc_body.specs.Standard.Entries.{nested, drafted}
@@ -35,22 +34,3 @@ fronted-body x parts needs rest f none closed =
     let started : IsStarted x parts false needs = rw is f.started in
     let depth = depth-is part_in _ parts started.building in
     started-body x parts false needs started (sym depth ∙ closed)
-
--- the same where one byte is left behind them
-pub fronted-row : (x row rest : List ℕ) (last : ℕ) (needs : Needs)
-    → Fronted [] (drafted (unpacked [])) x rest [] needs → length rest ≡ 1 → x ≡ row ++ last ∷ [] → IsBody row needs
-fronted-row x row rest last needs f one is =
-    let long : length row ≡ length (packed f.es) =
-    omega (arith, one, ap length (sym is ∙ f.split), length-append row (last ∷ []), length-append (packed f.es) rest) in
-    let same : row ≡ packed f.es =
-    sym (take_at row (last ∷ []) (length row) refl) ∙ ap (take (length row)) (sym is ∙ f.split)
-    ∙ take_at (packed f.es) rest (length row) (sym long) in
-    let all : Fronted [] (drafted (unpacked [])) row [] [] needs = record {
-      es = f.es;
-      split = same ∙ sym (append-nil (packed f.es));
-      fits = f.fits;
-      stand = f.stand;
-      started = f.started;
-      built = f.built;
-    } in
-    fronted-body row [] needs [] all refl refl

@@ -195,6 +195,9 @@ module _ (x : List ℕ) (d : Draft Instr BlockType) (bytes : List ℕ) (most : �
     taken : take count (take most bytes) ≡ packed f.es
     taken = fronted-taken x d (take most bytes) rest parts needs f
 
+    pub fronted-room : length (take count (take most bytes)) ≤ most
+    fronted-room = omega (arith, length-take count (take most bytes), length-take most bytes)
+
     pub fronted-kept : IsStarted (x ++ take count (take most bytes)) parts false needs
     fronted-kept = rw taken f.started
 

@@ -43,8 +43,8 @@ impl BodyBuilder {
         true
     }
 
-    /// Adds the instruction of these two bytes, where it is light, no call nor access of a global, and there is room for
-    /// it, and answers whether it was added.
+    /// Adds the instruction of these two bytes, where it is light, no call nor access of a global, and there is room
+    /// for it, and answers whether it was added.
     #[inline(always)]
     pub(crate) fn push_two(&mut self, opcode: u8, second: u8) -> bool
         requires { second < 128 }

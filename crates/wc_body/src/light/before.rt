@@ -1,5 +1,5 @@
-//! What may stand directly before an integer of five bytes or more: an opcode alone, two bytes, and a low integer by five
-//! bytes.
+//! What may stand directly before an integer of five bytes or more: an opcode alone, two bytes, and a low integer by
+//! five bytes.
 
 ghost use Rattle.std.specs.Prelude.{◌≡◌, ◌<◌, true, false};
 ghost use Rattle.wc_body.specs.Drafting.FreeEntries.{IsAlone, NotesTwo, NotesPadded};

@@ -4,8 +4,8 @@ use Rattle.wc_body.specs.Reading.Unpacked.{unpacked}
 use Rattle.wc_body.proofs.Drafts.FrontRun.{Fronted}
 use Rattle.wc_body.proofs.spelled.instructions_spelled.Given as goal
 
-abbrev pub invariant-entries : goal.invariant-entries
-invariant-entries l = Fronted [] (drafted (unpacked [])) l.bytes l.rest [] l.needs
+abbrev pub invariant-loop-rest : goal.invariant-loop-rest
+invariant-loop-rest l = Fronted [] (drafted (unpacked [])) l.bytes l.rest [] l.needs
 
-abbrev pub decreases-entries : goal.decreases-entries
-decreases-entries l = length l.rest
+abbrev pub decreases-loop-rest : goal.decreases-loop-rest
+decreases-loop-rest l = length l.rest

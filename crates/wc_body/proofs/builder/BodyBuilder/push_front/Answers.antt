@@ -1,6 +1,5 @@
 use Rattle.std.proofs.Common.{◌≡◌, ◌<◌, length, refl, arith, rules}
-use Rattle.std.proofs.lemmas.List.{length-take}
-use Rattle.wc_body.proofs.Drafts.FrontRun.{fronted-none, fronted-usual, fronted-run, fronted-length}
+use Rattle.wc_body.proofs.Drafts.FrontRun.{fronted-none, fronted-usual, fronted-run, fronted-length, fronted-room}
 use Rattle.wc_body.proofs.Drafts.FrontRun.{fronted-kept, fronted-added, run-shorter, usual-shorter}
 use Rattle.wc_body.proofs.builder.BodyBuilder.push_front.Goals as goal
 
@@ -35,8 +34,8 @@ append-requires c =
     let i = c.entries.invariant in
     let open_ : c.len-in-entries.result ≡ length c.entries.self-inside.parts.items = search rules in
     let run = fronted-run _ _ _ _ _ _ _ _ i.0 (rw open_ at c.after_light-rest.ensures) in
-    let long = length-take c.min.result c.args.bytes.now in
-    rw i.1 (omega (arith, fronted-length _ _ _ _ _ _ run, long, c.min.ensures, c.capacity.ensures, c.len.ensures))
+    let room = fronted-room _ _ c.args.bytes.now c.min.result _ _ _ run in
+    rw i.1 (omega (arith, room, c.min.ensures, c.capacity.ensures, c.len.ensures))
 
 pub invariant_of-self : goal.invariant_of-self
 invariant_of-self c =
