@@ -9,7 +9,8 @@ use std::alloc::Global;
 
 /// The bytes that a body is kept by, and what it needs, where these are its canonical bytes with the byte that ends it,
 /// and it has usual instructions alone and no block.
-#[inline(always)]
+// A call, so that its loop has registers of its own.
+#[inline(never)]
 pub(crate) fn body_spelled(alloc: Global, bytes: &[u8]) -> Option<(&[u8], Needs)>
     ensures { IfSome result (λ f. (bytes.now ≡ f.0.now ++ 0x0B ∷ []) × IsBody f.0.now f.1) }
 {
