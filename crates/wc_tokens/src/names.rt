@@ -1,8 +1,9 @@
 //! Identifiers, and other runs of idchars.
 
-ghost use Rattle.std.specs.Prelude.{◌≡◌, ◌+◌, ◌<◌, ◌≤◌, ℕ, true, length, map, slice_index};
+ghost use Rattle.std.specs.Prelude.{◌≡◌, ◌+◌, ◌<◌, ◌≤◌, ◌⊎◌, ℕ, true, length, map, take, drop, slice_index};
+ghost use Rattle.std.specs.List.{AllByRecursion};
 ghost use Rattle.std.specs.Simd.Lanes.{chunk, mask_l};
-ghost use Rattle.wc_tokens.specs.Standard.Lexemes.{IsIdchar};
+ghost use Rattle.wc_tokens.specs.Standard.Lexemes.{IsIdchar, BeginsNoIdchar};
 ghost use Rattle.wc_tokens.specs.Reading.Heads.{RunEnds, is_rare};
 
 use crate::classes::is_idchar;
@@ -43,7 +44,30 @@ fn count_in_name(text: &[u8]) -> usize
     at
 }
 
-/// What follows a run of idchars, so many of which were seen.
+/// How many idchars stand at the front, the first of which were seen, looked at two a round: a last byte without a
+/// second isn't looked at.
+#[inline(always)]
+fn count_in_pairs(text: &[u8], seen: usize) -> usize
+    requires within { seen ≤ length text.now }
+    requires idchars { (k : ℕ) → k < seen → IsIdchar (slice_index text.now k) }
+    ensures within { result ≤ length text.now }
+    ensures idchars { AllByRecursion IsIdchar (take result text.now) }
+    ensures ended { (length text.now ≤ result + 1) ⊎ BeginsNoIdchar (drop result text.now) }
+{
+    let mut at = seen;
+    while at + 1 < text.len() {
+        if !is_idchar(text[at]) {
+            return at;
+        }
+        if !is_idchar(text[at + 1]) {
+            return at + 1;
+        }
+        at += 2;
+    }
+    at
+}
+
+/// What follows a run of idchars, the first of which were seen.
 #[inline(always)]
 pub fn after_run_from(text: &[u8], seen: usize) -> &[u8]
     requires within { seen ≤ length text.now }
@@ -51,21 +75,11 @@ pub fn after_run_from(text: &[u8], seen: usize) -> &[u8]
     ensures { RunEnds text.now result.now }
 {
     // Most bytes of a text pass here, so a round takes two.
-    let mut at = seen;
-    while at + 1 < text.len() {
-        if !is_idchar(text[at]) {
-            return &text[at..];
-        }
-        if !is_idchar(text[at + 1]) {
-            return &text[at + 1..];
-        }
-        at += 2;
+    let mut at = count_in_pairs(text, seen);
+    while at < text.len() && is_idchar(text[at]) {
+        at += 1;
     }
-    // One byte may be left.
-    if at < text.len() && !is_idchar(text[at]) {
-        return &text[at..];
-    }
-    &text[text.len()..]
+    &text[at..]
 }
 
 /// What follows the run of idchars of a long identifier.
