@@ -1,5 +1,6 @@
 //! Brief entries: those whose integers have one byte each, whose alignment is the natural one and whose block type is
-//! the empty one, as most are. Which bytes are of one is looked up by its opcode.
+//! the empty one, as most are, but no table of labels, call through a table, size of memory or growth of one. Which
+//! bytes are of one is looked up by its opcode.
 
 ghost use Rattle.std.specs.Prelude.{◌≡◌, ◌<◌, IfSome, get_or, length};
 ghost use Rattle.wc_body.specs.Reading.Briefly.{BeginsWith, shape_at};

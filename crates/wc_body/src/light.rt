@@ -1,6 +1,7 @@
-//! Light entries: those whose integers have one byte each, and that need no label beyond the enclosing blocks and no
-//! alignment above the width of the access. What is noted of one is looked up by its opcode. Indices but labels,
-//! constants and offsets of two bytes are taken along with them.
+//! Light entries: those whose integers have one byte each, that need no label beyond the enclosing blocks and no
+//! alignment above the width of the access, and that are no block, else, end, table of labels, call through a table,
+//! size of memory or growth of one. What is noted of one is looked up by its opcode. Indices but labels, constants and
+//! offsets of two bytes are taken along with them.
 
 pub(crate) mod before;
 

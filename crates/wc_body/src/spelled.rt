@@ -9,8 +9,7 @@ use std::alloc::Global;
 
 /// The bytes that a body is kept by, and what it needs, where these are its canonical bytes with the byte that ends it,
 /// and it has usual instructions alone and no block.
-// A call, so that its loop has registers of its own.
-#[inline(never)]
+#[inline(always)]
 pub(crate) fn body_spelled(alloc: Global, bytes: &[u8]) -> Option<(&[u8], Needs)>
     ensures { IfSome result (λ f. (bytes.now ≡ f.0.now ++ 0x0B ∷ []) × IsBody f.0.now f.1) }
 {
@@ -23,7 +22,8 @@ pub(crate) fn body_spelled(alloc: Global, bytes: &[u8]) -> Option<(&[u8], Needs)
 }
 
 /// What the instructions need that these are the canonical bytes of, where these are usual ones and none is a block.
-#[inline(always)]
+// A call, so that its loop has registers of its own.
+#[inline(never)]
 fn instructions_spelled(alloc: Global, bytes: &[u8]) -> Option<Needs>
     ensures { IfSome result (IsBody bytes.now) }
 {
