@@ -16,8 +16,6 @@ use wc_cli::{Failure, Line, Opens, act_each, lines, report, status_of};
 use wc_device::Device;
 
 /// The words of the command line, the program's name first.
-// A call: with it the loop over entries, `push_ahead`, lies 16 bytes into a line of 64, where it is fastest.
-#[inline(never)]
 fn words(rt: &HostRuntime) -> io::Result<Vec<String>> {
     let words: Vec<String> = env::args(rt)?.collect(rt.alloc())?;
     Ok(words)
