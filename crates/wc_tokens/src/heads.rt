@@ -1,7 +1,7 @@
 //! What stands at the front of a text: a gap, a token, or a fault.
 
-ghost use Rattle.std.specs.Prelude.{◌≡◌, ℕ, List, ◌∷◌, MatchOption};
-ghost use Rattle.wc_tokens.specs.Standard.Gaps.{Inside};
+ghost use Rattle.std.specs.Prelude.{◌≡◌, ◌≤◌, ℕ, List, ◌∷◌, MatchOption, length, drop};
+ghost use Rattle.wc_tokens.specs.Standard.Gaps.{Inside, Gaps};
 ghost use Rattle.wc_tokens.specs.Reading.Heads.{IsFront, IsFrontOrEnd, RunEnds, IsHead};
 
 use crate::bytes::behind;
@@ -35,13 +35,17 @@ pub struct Front<'a> {
     pub rest: &'a [u8],
 }
 
-/// The first byte behind the blanks at the front of a text, or `None` where there are only blanks.
+/// The first byte that is no blank, from one place of a text to another. Only gaps stand before the first place.
 #[inline(always)]
-pub fn behind_blanks(text: &[u8]) -> Option<Front<'_>>
-    ensures { IsFrontOrEnd text.now result }
+fn front_between(text: &[u8], from: usize, to: usize) -> Option<Front<'_>>
+    requires within { from ≤ to }
+    requires end { to ≤ length text.now }
+    requires gaps { Gaps text.now (drop from text.now) }
+    ensures { MatchOption result (Gaps text.now (drop to text.now))
+        (λ front. Gaps text.now front.here.now × IsFront front) }
 {
-    let mut at = count_blanks(text);
-    while at < text.len() {
+    let mut at = from;
+    while at < to {
         let first = text[at];
         if !is_blank(first) {
             return Some(Front {
@@ -53,6 +57,19 @@ pub fn behind_blanks(text: &[u8]) -> Option<Front<'_>>
         at += 1;
     }
     None
+}
+
+/// The first byte behind the blanks at the front of a text, or `None` where there are only blanks.
+#[inline(always)]
+pub fn behind_blanks(text: &[u8]) -> Option<Front<'_>>
+    ensures { IsFrontOrEnd text.now result }
+{
+    // Most gaps are one blank.
+    let few = text.len().min(2);
+    if let Some(front) = front_between(text, 0, few) {
+        return Some(front);
+    }
+    front_between(text, few + count_blanks(&text[few..]), text.len())
 }
 
 /// What follows a block comment whose `(;` stands before the text, if it is closed.

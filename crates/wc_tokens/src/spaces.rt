@@ -23,18 +23,13 @@ fn others_in_chunk(text: &[u8], at: usize) -> u64
     others.to_bitmask()
 }
 
-/// Whether a text has a chunk, and its first five bytes may all be blanks.
-// Fewer blanks are passed faster one by one. Most gaps are one space, so the second byte is looked at first.
+/// Whether a text has a chunk, and its first three bytes may all be blanks.
+// Fewer blanks are passed faster one by one.
 #[inline(always)]
 fn begins_many(text: &[u8]) -> bool
     ensures { IsTrue result → 16 ≤ length text.now }
 {
-    text.len() >= CHUNK
-        && text[1] <= b' '
-        && text[0] <= b' '
-        && text[2] <= b' '
-        && text[3] <= b' '
-        && text[4] <= b' '
+    text.len() >= CHUNK && text[2] <= b' ' && text[1] <= b' ' && text[0] <= b' '
 }
 
 /// How many blanks stand at the front of a text, where they are many; else none is counted. The last bytes, fewer

@@ -1,17 +1,13 @@
-use Rattle.std.proofs.Common.{sym, ◌∙◌, arith}
-use Rattle.wc_tokens.proofs.Lexing.SpaceLaws.{Gaps-blank, Gaps-blanks}
+use Rattle.std.proofs.lemmas.List.{take_rest}
+use Rattle.wc_tokens.specs.Standard.Gaps.{none}
+use Rattle.wc_tokens.proofs.Lexing.SpaceLaws.{Gaps-past}
 use Rattle.wc_tokens.proofs.heads.behind_blanks.Goals as goal
 
-pub loop-at-init : goal.loop-at-init
-loop-at-init c = (
-  c.count_blanks-at.ensures.within,
-  Gaps-blanks c.args.text.now c.count_blanks-at.result c.count_blanks-at.ensures.within
-      c.count_blanks-at.ensures.blanks,
-)
+pub front_between-requires-clause-gaps : goal.front_between-requires-clause-gaps
+front_between-requires-clause-gaps c = none
 
-pub loop-at-preserved : goal.loop-at-preserved
-loop-at-preserved c = (
-  omega arith,
-  Gaps-blank c.args.text.now c.loop-at.at c.loop-at.invariant.1 c.loop-at-test.true
-      (sym c.is_blank.ensures ∙ c.if-not-is_blank.false),
-)
+pub front_between-requires-2-clause-gaps : goal.front_between-requires-2-clause-gaps
+front_between-requires-2-clause-gaps c =
+    let text = c.args.text.now in
+    Gaps-past text _ c.min-few.result c.count_blanks.result (take_rest text c.min-few.result)
+    (c.in_default.ensures {u = tt}) c.count_blanks.ensures.within c.count_blanks.ensures.blanks

@@ -1,10 +1,22 @@
 use Rattle.std.proofs.Common.{arith}
-use Rattle.wc_tokens.proofs.Decided.HeadLaws.{LineEnds-at}
-use Rattle.wc_tokens.proofs.lines.after_line.Goals.{then-loop-at-test+else-text-at-ne10, else-loop-at-test}
+use Rattle.std.proofs.lemmas.List.{take_rest}
+use Rattle.wc_tokens.proofs.Lexing.LineLaws.{line-to, no-feeds-past}
 use Rattle.wc_tokens.proofs.lines.after_line.Goals as goal
 
+pub returns-then-at-few : goal.returns-then-at-few
+returns-then-at-few c =
+    let w = c.count_to-at.ensures in
+    line-to c.args.text.now c.count_to-at.result (omega (arith, w.within, c.min-few.ensures)) w.no_feed
+    (λ _. w.ended c.if-at-few.true)
+
+pub count_to-requires-clause-no_feed : goal.count_to-requires-clause-no_feed
+count_to-requires-clause-no_feed c =
+    let text = c.args.text.now in
+    no-feeds-past text _ c.min-few.result c.count_in_line.result (take_rest text c.min-few.result)
+    (λ k less. c.count_to-at.ensures.no_feed k (omega (arith, less, c.if-at-few.false)))
+    c.count_in_line.ensures.no_feed
+
 pub returns : goal.returns
-returns c = LineEnds-at c.args.text.now c.loop-at.at c.loop-at.invariant.1 (λ within. elim c.loop-at-test.branch [
-  | then-loop-at-test+else-text-at-ne10 w ↦ w.if-text-at-ne10.false
-  | else-loop-at-test w ↦ absurd (omega (arith, within, w.loop-at-test.false))
-])
+returns c =
+    let w = c.count_to.ensures in
+    line-to c.args.text.now c.count_to.result w.within w.no_feed w.ended
