@@ -35,7 +35,8 @@ pub struct Front<'a> {
     pub rest: &'a [u8],
 }
 
-/// The first byte that is no blank, from one place of a text to another. Only gaps stand before the first place.
+/// The first byte that is no blank, from one place of a text to another, or `None` where there are only blanks. Only
+/// gaps stand before the first place.
 #[inline(always)]
 fn front_between(text: &[u8], from: usize, to: usize) -> Option<Front<'_>>
     requires within { from ≤ to }
