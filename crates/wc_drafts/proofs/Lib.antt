@@ -4,3 +4,6 @@ mod GrowthLemmas
 mod Meanings
 mod OpenLemmas
 mod InstrLemmas
+mod Examples
+mod OneValue
+pub mod SomeValue

@@ -11,3 +11,4 @@ pub mod Ending
 pub mod Sizes
 pub mod Growing
 pub mod Derived
+pub mod Productions

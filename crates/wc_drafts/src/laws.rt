@@ -4,7 +4,8 @@ ghost use Rattle.std.specs.Prelude.{◌≡◌, ℕ, ◌≤◌, ◌+◌, List, []
 ghost use Rattle.wc_syntax.specs.declared.role.Role.{Role};
 ghost use Rattle.wc_syntax.specs.Phrases.{The, foldedinstr};
 ghost use Rattle.wc_syntax.specs.Instructions.{instrs};
-ghost use Rattle.wc_syntax.specs.Deriving.{Item, Event, Derives};
+ghost use Rattle.wc_syntax.specs.Deriving.{Item, Event, Derives, numbered};
+ghost use Rattle.wc_syntax.specs.declared.kind.Kind.{Kind};
 ghost use Rattle.wc_body.specs.Standard.Nested.{nesting_limit};
 ghost use Rattle.wc_body.specs.Standard.Draft.{Frame};
 ghost use Rattle.wc_surface.specs.declared.instr.TextInstr.{TextInstr};
@@ -19,6 +20,10 @@ ghost use Rattle.wc_drafts.specs.Standard.Ending.{nothing_said, body_of, ended};
 ghost use Rattle.wc_drafts.specs.Standard.Sizes.{said_size};
 ghost use Rattle.wc_drafts.specs.Standard.Growing.{Grows};
 ghost use Rattle.wc_drafts.specs.Standard.Derived.{AreWords, take_all, Leaves};
+ghost use Rattle.wc_surface.specs.Standard.Written.Instructions.{Instrs};
+ghost use Rattle.wc_drafts.specs.Standard.Productions.Tokens.{Said};
+ghost use Rattle.wc_drafts.specs.Standard.Productions.Instructions.{Part, Says};
+ghost use Rattle.wc_drafts.specs.Standard.Productions.Kept.{AreKept};
 
 /// One more kept token adds no more than one parameter to a type use, and no more than one to the type uses and
 /// parameters of a body. At first there are none, and the end adds none.
@@ -48,4 +53,18 @@ pub fn instructions_close_what_they_open()
         → Derives (The (foldedinstr depth)) items es → AreWords words es → length around + depth ≤ nesting_limit
         → Leaves d around held blocks → Leaves (take_all words d es) around held blocks }
     ensures first { Leaves nothing_said [] [] [] }
+{}
+
+/// Kept tokens say one list of instructions, whichever productions they follow.
+pub fn one_value()
+    ensures { (p q : Part) (us : List Said) (c d : Instrs) → Says p us c → Says q us d → c ≡ d }
+{}
+
+/// The kept tokens of derived instructions, each of which is to the grammar what its text says, say some instructions.
+pub fn always_a_value()
+    ensures instrs { (depth n : ℕ) (kinds : List Kind) (es : List Event) (us : List Said)
+        → Derives (instrs depth) (numbered n kinds) es → AreKept es us → (c : Instrs) × Says Part.instrs us c }
+    ensures folded { (depth n : ℕ) (kinds : List Kind) (es : List Event) (us : List Said)
+        → Derives (The (foldedinstr depth)) (numbered n kinds) es → AreKept es us
+        → (c : Instrs) × Says Part.foldedinstr us c }
 {}

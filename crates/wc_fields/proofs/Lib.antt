@@ -1,1 +1,2 @@
 mod NameLemmas
+mod Examples

@@ -4,3 +4,4 @@ pub mod Keys
 pub mod Marks
 pub mod WrittenLocals
 pub mod Sizes
+pub mod Written

@@ -11,3 +11,4 @@ pub mod Sizes
 pub mod Few
 pub mod Answering
 pub mod Wholes
+mod Examples

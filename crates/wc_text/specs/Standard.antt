@@ -3,3 +3,4 @@ pub mod Meaning
 pub mod Faults
 pub mod Refused
 pub mod Wholes
+pub mod Productions

@@ -1,0 +1,2 @@
+-- Examples of what tokens say by the productions.
+mod Texts
