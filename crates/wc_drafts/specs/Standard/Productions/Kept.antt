@@ -1,4 +1,4 @@
--- The kept tokens of a derivation, each in its role.
+-- The kept tokens of a derivation, each in its role (Core 1.0, 6.3 to 6.5).
 use Rattle.std.specs.Prelude.{List, [], ◌∷◌}
 use Rattle.wc_tokens.specs.declared.token.TokenKind.{TokenKind}
 use Rattle.wc_syntax.specs.declared.role.Role.{Role}
