@@ -8,6 +8,7 @@ pub mod LightLemmas
 pub mod LongLemmas
 pub mod PaddedLemmas
 pub mod FrontRun
+pub mod HandedLemmas
 pub mod FreeIntegers
 pub mod FreeRun
 pub mod Finished

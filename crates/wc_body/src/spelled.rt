@@ -1,8 +1,10 @@
 //! Whole bodies by the bytes that they are kept by.
 
-ghost use Rattle.std.specs.Prelude.{◌≡◌, ◌++◌, ◌∷◌, [], IfSome};
+ghost use Rattle.std.specs.Prelude.{◌≡◌, ◌++◌, ◌∷◌, ℕ, [], IfSome, IsNone};
+ghost use Rattle.wc_body.specs.Drafting.AtFront.{Notes, NotesInstr};
 ghost use Rattle.wc_body.specs.Drafting.PackedBody.{IsBody};
 
+use crate::builder::Part;
 use crate::front::instr_front;
 use crate::needs::Needs;
 use std::alloc::Global;
@@ -21,6 +23,46 @@ pub(crate) fn body_spelled(alloc: Global, bytes: &[u8]) -> Option<(&[u8], Needs)
     Some((row, needs))
 }
 
+/// Notes the call or the instruction of a local that these bytes begin with, where its index has one byte. What follows
+/// it is answered.
+// No table of jumps: small bodies mostly hand their parameters on to another function.
+#[inline(always)]
+fn handed_front<'a>(bytes: &'a [u8], needs: &mut Needs) -> Option<&'a [u8]>
+    ensures some { IfSome result (λ rest. (k : ℕ) → NotesInstr k bytes.now rest.now needs.old needs.new) }
+    ensures none { IsNone result → needs.new ≡ needs.old }
+{
+    if bytes.len() < 3 {
+        return None;
+    }
+    let index = bytes[1];
+    if index >= 128 {
+        return None;
+    }
+    let opcode = bytes[0];
+    if opcode == 0x10 {
+        needs.funcs = needs.funcs.max(u32::from(index) + 1);
+        return Some(&bytes[2..]);
+    }
+    if opcode < 0x20 || opcode > 0x22 {
+        return None;
+    }
+    needs.locals = needs.locals.max(u32::from(index) + 1);
+    Some(&bytes[2..])
+}
+
+/// Notes the instruction that these bytes begin with, where it is a usual one and these blocks enclose it. What follows
+/// it is answered.
+#[inline(always)]
+fn spelled_front<'a>(bytes: &'a [u8], needs: &mut Needs, parts: &Vec<Part>) -> Option<&'a [u8]>
+    ensures { IfSome result (λ rest.
+        Notes bytes.now rest.now needs.old needs.new parts.now.items parts.now.items) }
+{
+    match handed_front(bytes, needs) {
+        Some(rest) => Some(rest),
+        None => instr_front(bytes, needs, parts),
+    }
+}
+
 /// What the instructions need that these are the canonical bytes of, where these are usual ones and none is a block.
 // A call, so that its loop has registers of its own.
 #[inline(never)]
@@ -32,7 +74,7 @@ fn instructions_spelled(alloc: Global, bytes: &[u8]) -> Option<Needs>
     let parts = Vec::new(alloc);
     let mut rest = bytes;
     while !rest.is_empty() {
-        rest = instr_front(rest, &mut needs, &parts)?;
+        rest = spelled_front(rest, &mut needs, &parts)?;
     }
     Some(needs)
 }

@@ -10,7 +10,7 @@ loop-rest-init c = rw c.nothing-needs.ensures (fronted-none _ _ _ _ _ started-no
 
 pub loop-rest-preserved : goal.loop-rest-preserved
 loop-rest-preserved c =
-    fronted-more _ _ _ _ _ _ _ _ _ c.loop-rest.invariant (rw c.new-parts.ensures.items at c.in_ok-rest.ensures.some)
+    fronted-more _ _ _ _ _ _ _ _ _ c.loop-rest.invariant (rw c.new-parts.ensures.items at c.in_ok-rest.ensures)
 
 pub returns : goal.returns
 returns c =
