@@ -31,19 +31,22 @@ fn handed_front<'a>(bytes: &'a [u8], needs: &mut Needs) -> Option<&'a [u8]>
     ensures some { IfSome result (λ rest. (k : ℕ) → NotesInstr k bytes.now rest.now needs.old needs.new) }
     ensures none { IsNone result → needs.new ≡ needs.old }
 {
-    if bytes.len() < 3 {
+    if bytes.len() < 2 {
+        return None;
+    }
+    let opcode = bytes[0];
+    if opcode > 0x22 {
         return None;
     }
     let index = bytes[1];
     if index >= 128 {
         return None;
     }
-    let opcode = bytes[0];
     if opcode == 0x10 {
         needs.funcs = needs.funcs.max(u32::from(index) + 1);
         return Some(&bytes[2..]);
     }
-    if opcode < 0x20 || opcode > 0x22 {
+    if opcode < 0x20 {
         return None;
     }
     needs.locals = needs.locals.max(u32::from(index) + 1);

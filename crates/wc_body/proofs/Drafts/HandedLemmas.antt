@@ -33,13 +33,13 @@ module _ (k b : ℕ) (y : List ℕ) (s t : Needs) (lt : b < 128) where
         ]
       ]
 
-pub call-handed : (x : List ℕ) (k : ℕ) (s t : Needs) → 3 ≤ length x → get_or x 0 0 ≡ 0x10 → get_or x 1 0 < 128
+pub call-handed : (x : List ℕ) (k : ℕ) (s t : Needs) → 2 ≤ length x → get_or x 0 0 ≡ 0x10 → get_or x 1 0 < 128
     → t ≡ record s { funcs = max s.funcs (get_or x 1 0 + 1) } → NotesInstr k x (drop 2 x) s t
 call-handed [] k s t le op low is = absurd (omega arith)
 call-handed (a ∷ []) k s t le op low is = absurd (omega arith)
 call-handed (a ∷ b ∷ y) k s t le op low is = rw op (call-noted k b y s t low is)
 
-pub local-handed : (x : List ℕ) (k : ℕ) (s t : Needs) → 3 ≤ length x → 0x20 ≤ get_or x 0 0 → get_or x 0 0 ≤ 0x22
+pub local-handed : (x : List ℕ) (k : ℕ) (s t : Needs) → 2 ≤ length x → 0x20 ≤ get_or x 0 0 → get_or x 0 0 ≤ 0x22
     → get_or x 1 0 < 128 → t ≡ record s { locals = max s.locals (get_or x 1 0 + 1) }
     → NotesInstr k x (drop 2 x) s t
 local-handed [] k s t le least most low is = absurd (omega arith)
