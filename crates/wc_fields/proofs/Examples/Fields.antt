@@ -17,7 +17,7 @@ use Rattle.wc_surface.specs.Standard.Written.Instructions.{simple, i32_const}
 use Rattle.wc_surface.specs.Standard.Written.Fields.{Import, Desc, Function, Table, Memory, Global, Declared}
 use Rattle.wc_surface.specs.Standard.Written.Fields.{type_field, import_field, func_field, table_field, memory_field}
 use Rattle.wc_surface.specs.Standard.Written.Fields.{global_field, export_field, start_field, elem_field, data_field}
-use Rattle.wc_drafts.specs.Standard.Tokens.{KeptToken, kept_token}
+use Rattle.wc_drafts.specs.Standard.Tokens.{kept_token}
 use Rattle.wc_drafts.specs.Standard.Productions.Tokens.{Said, ◌⊳◌, IsIdentifier, IsId, IsIndex, IsLiteral}
 use Rattle.wc_drafts.specs.Standard.Productions.TypeUses.{AreTypes, param, IsParam, AreParams, AreResults, signature}
 use Rattle.wc_drafts.specs.Standard.Productions.TypeUses.{IsSignature, type_use, IsTypeUse}

@@ -15,9 +15,9 @@ use Rattle.wc_surface.specs.Standard.Identifiers.{identifier}
 use Rattle.wc_surface.specs.Standard.Written.Indices.{number, named}
 use Rattle.wc_surface.specs.Standard.Written.Instructions.{i32_const}
 use Rattle.wc_drafts.specs.Standard.Tokens.{kept_token}
-use Rattle.wc_drafts.specs.Standard.Productions.Tokens.{◌⊳◌, IsIdentifier, IsId, IsNatural, IsIndex, IsLiteral}
+use Rattle.wc_drafts.specs.Standard.Productions.Tokens.{◌⊳◌, IsIdentifier, IsId, IsIndex, IsLiteral}
 use Rattle.wc_drafts.specs.Standard.Productions.Plain.{IsPlain}
-use Rattle.wc_drafts.specs.Standard.Productions.Instructions.{Says, instrs, foldedinstr}
+use Rattle.wc_drafts.specs.Standard.Productions.Instructions.{Says}
 use Rattle.wc_fields.specs.Standard.Productions.Parts.{AreStrings, AreElements, AreExports, IsDeclared, IsImport}
 use Rattle.wc_fields.specs.Standard.Productions.Parts.{IsInlineImport, AreUnnamed, IsLocal, AreLocals, AreLimits}
 use Rattle.wc_fields.specs.Standard.Productions.Parts.{IsGlobalType, IsKind, IsOffset, IsTarget}

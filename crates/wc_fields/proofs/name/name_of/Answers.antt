@@ -1,6 +1,5 @@
-use Rattle.std.proofs.Common.{◌≡◌, ◌∙◌, sym, ap, subst, IsUtf8, string_bytes}
+use Rattle.std.proofs.Common.{subst, IsUtf8, string_bytes}
 use Rattle.std.proofs.lemmas.Str.{IsUtf8-string_bytes}
-use Rattle.wc_words.specs.Strings.{bytes_in}
 use Rattle.wc_fields.proofs.NameLemmas.{name-kept}
 use Rattle.wc_fields.proofs.name.name_of.Goals as goal
 
