@@ -1,2 +1,3 @@
 mod NameLemmas
 mod Examples
+mod SomeValue

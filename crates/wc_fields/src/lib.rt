@@ -5,9 +5,11 @@ mod code_draft;
 mod contents;
 mod field_draft;
 mod finish;
+mod laws;
 mod locals_draft;
 mod name;
 mod names;
 mod parts;
 
 pub use field_draft::FieldDraft;
+pub use laws::always_some_fields;

@@ -1,0 +1,4 @@
+-- The kept tokens of derived fields say a value.
+mod Strings
+mod Parts
+pub mod Fields
