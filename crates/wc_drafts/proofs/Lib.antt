@@ -5,5 +5,5 @@ mod Meanings
 mod OpenLemmas
 mod InstrLemmas
 mod Examples
-mod OneValue
+pub mod OneValue
 pub mod SomeValue

@@ -1,3 +1,4 @@
 mod NameLemmas
 mod Examples
+mod OneValue
 mod SomeValue

@@ -63,10 +63,10 @@ type_by (ValType t) = t
 type_by _ = I32
 
 -- the token as a value type
-abbrev type_of : KeptToken → ValueType
+abbrev pub type_of : KeptToken → ValueType
 type_of w = type_by w.symbol.value
 
-read-type : {t : ValueType} (w : KeptToken) → IsValueType w t → type_of w ≡ t
+pub read-type : {t : ValueType} (w : KeptToken) → IsValueType w t → type_of w ≡ t
 read-type w e = ap type_by e
 
 -- the first of these parameters has this identifier

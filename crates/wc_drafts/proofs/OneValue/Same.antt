@@ -51,7 +51,7 @@ head-type : {ps : List Said} {l : Option Identifier} {t : BlockType} → IsHead 
 head-type (IsHead.both IsId.absent b) = read-block b
 head-type (IsHead.both (IsId.there h) b) = read-block b
 
-same-id : {r : Role} {us : List Said} {i j : Option Identifier} → IsId r us i → IsId r us j → i ≡ j
+pub same-id : {r : Role} {us : List Said} {i j : Option Identifier} → IsId r us i → IsId r us j → i ≡ j
 same-id a b = sym (read-id a) ∙ read-id b
 
 same-parts : (w : KeptToken) {l m i j x y : Option Identifier} {t u : BlockType} → l ≡ m → t ≡ u → i ≡ j → x ≡ y

@@ -53,7 +53,8 @@ block-roles (no_type h) = type_use-roles h
 block-roles (one_type h) = type_use-roles h
 block-roles (typed h l) = type_use-roles h
 
-id-roles : {r : Role} {us : List Said} {i : Option Identifier} → is_part r ≡ true → IsId r us i → AllRoles is_part us
+pub id-roles : {r : Role} {us : List Said} {i : Option Identifier} → is_part r ≡ true → IsId r us i
+    → AllRoles is_part us
 id-roles e IsId.absent = AllRoles.none
 id-roles e (IsId.there h) = AllRoles.more e AllRoles.none
 
@@ -72,17 +73,18 @@ mem-roles (IsMemArg.both a b) = roles-append (offset-roles a) (align-roles b)
     align-roles IsMemAlign.absent = AllRoles.none
     align-roles (IsMemAlign.there h) = AllRoles.more refl AllRoles.none
 
-head-roles : {us : List Said} {label : Option Identifier} {ty : BlockType} → IsHead us label ty → AllRoles is_part us
+pub head-roles : {us : List Said} {label : Option Identifier} {ty : BlockType} → IsHead us label ty
+    → AllRoles is_part us
 head-roles (IsHead.both a b) = roles-append (id-roles refl a) (use-roles (block-roles b))
 
 -- a name, and what belongs to it
-record Front (r : Role) (us : List Said) : Type 0 where
-  word : KeptToken
-  parts : List Said
-  is : us ≡ r ⊳ word ∷ parts
-  all : AllRoles is_part parts
+pub record Front (r : Role) (us : List Said) : Type 0 where
+  pub word : KeptToken
+  pub parts : List Said
+  pub is : us ≡ r ⊳ word ∷ parts
+  pub all : AllRoles is_part parts
 
-front : {r : Role} {us : List Said} {p : Plain} → IsPlain r us p → Front r us
+pub front : {r : Role} {us : List Said} {p : Plain} → IsPlain r us p → Front r us
 front (IsPlain.simple_name e) = record { word = _; parts = []; is = refl; all = AllRoles.none }
 front (IsPlain.index_name e h) = record { word = _; parts = _; is = refl; all = AllRoles.more refl AllRoles.none }
 front (IsPlain.br_table_name e h) = record { word = _; parts = _; is = refl; all = labels-roles h }
