@@ -1,4 +1,4 @@
 mod NameLemmas
 mod Examples
-mod OneValue
-mod SomeValue
+pub mod OneValue
+pub mod SomeValue

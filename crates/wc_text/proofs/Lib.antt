@@ -11,4 +11,5 @@ pub mod Sizes
 pub mod Few
 pub mod Answering
 pub mod Wholes
+pub mod Written
 mod Examples

@@ -6,8 +6,10 @@ ghost use Rattle.wc_tokens.specs.Standard.Tokens.{InOrder};
 ghost use Rattle.wc_syntax.specs.declared.why.SynWhy.{SynWhy as Reason};
 ghost use Rattle.wc_surface.specs.declared.field.Field.{Field};
 ghost use Rattle.wc_surface.specs.Standard.Sizes.{IsSurface};
+ghost use Rattle.wc_surface.specs.Standard.Written.Fields.{Field as WrittenField};
 ghost use Rattle.wc_text.specs.Standard.Meaning.{Syn};
 ghost use Rattle.wc_text.specs.Standard.Faults.{FirstFault};
+ghost use Rattle.wc_text.specs.Standard.Productions.{SaysFields};
 
 /// Tokens say at most one list of fields.
 pub fn one_list()
@@ -35,4 +37,18 @@ pub fn always_one()
 /// The fields that tokens say are fewer than `2^32`, with all that is in them, since each of these has a token.
 pub fn few_fields()
     ensures { (ts : List Lexeme) (fields : List Field) → InOrder 0 ts → Syn ts fields → IsSurface fields }
+{}
+
+/// By the productions, tokens say at most one list of fields.
+pub fn one_written_list()
+    ensures { (ts : List Lexeme) (fields others : List WrittenField)
+        → SaysFields ts fields → SaysFields ts others → fields ≡ others }
+{}
+
+/// By the productions, tokens say some fields exactly where they say any.
+pub fn always_written()
+    ensures written { (ts : List Lexeme) (fields : List Field) → Syn ts fields
+        → (written : List WrittenField) × SaysFields ts written }
+    ensures said { (ts : List Lexeme) (written : List WrittenField) → SaysFields ts written
+        → (fields : List Field) × Syn ts fields }
 {}

@@ -1,5 +1,5 @@
 -- What tokens say, by the productions that their kept ones follow (Core 1.0, 6.3 to 6.6).
-use Rattle.std.specs.Prelude.{◌≡◌, ℕ, List, ◌∷◌, drop}
+use Rattle.std.specs.Prelude.{◌≡◌, List, ◌∷◌, drop}
 use Rattle.wc_tokens.specs.Standard.Lexemes.{Lexeme}
 use Rattle.wc_body.specs.Standard.Nested.{nesting_limit}
 use Rattle.wc_syntax.specs.declared.kind.Kind.{Kind}
