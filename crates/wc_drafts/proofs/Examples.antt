@@ -4,3 +4,4 @@ mod Words
 mod TypeUses
 mod Plain
 mod Instructions
+mod Stored

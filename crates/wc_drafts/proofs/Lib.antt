@@ -6,4 +6,5 @@ mod OpenLemmas
 mod InstrLemmas
 mod Examples
 pub mod OneValue
+mod Storing
 pub mod SomeValue

@@ -12,3 +12,4 @@ pub mod Sizes
 pub mod Growing
 pub mod Derived
 pub mod Productions
+pub mod Following

@@ -1,8 +1,8 @@
 //! What holds of what is said. Each function only states its law: it does nothing.
 
-ghost use Rattle.std.specs.Prelude.{◌≡◌, ℕ, ◌≤◌, ◌+◌, List, [], length};
+ghost use Rattle.std.specs.Prelude.{◌≡◌, ℕ, ◌≤◌, ◌+◌, ◌^◌, List, [], length, None};
 ghost use Rattle.wc_syntax.specs.declared.role.Role.{Role};
-ghost use Rattle.wc_syntax.specs.Phrases.{The, foldedinstr};
+ghost use Rattle.wc_syntax.specs.Phrases.{◌·◌, Many, The, foldedinstr, typeuse, param, result as result_rule};
 ghost use Rattle.wc_syntax.specs.Instructions.{instrs};
 ghost use Rattle.wc_syntax.specs.Deriving.{Item, Event, Derives, numbered};
 ghost use Rattle.wc_syntax.specs.declared.kind.Kind.{Kind};
@@ -14,16 +14,24 @@ ghost use Rattle.wc_drafts.specs.declared.body_draft.BodyDraft.{BodyDraft};
 ghost use Rattle.wc_drafts.specs.declared.held.Held.{Held};
 ghost use Rattle.wc_drafts.specs.declared.use_draft.UseDraft.{UseDraft};
 ghost use Rattle.wc_drafts.specs.declared.word.Word.{Word};
-ghost use Rattle.wc_drafts.specs.Standard.Uses.{take_use};
+ghost use Rattle.wc_drafts.specs.Standard.Words.{index_of};
+ghost use Rattle.wc_drafts.specs.Standard.Uses.{started_use, take_use, use_of};
 ghost use Rattle.wc_drafts.specs.Standard.Taking.{take};
 ghost use Rattle.wc_drafts.specs.Standard.Ending.{nothing_said, body_of, ended};
 ghost use Rattle.wc_drafts.specs.Standard.Sizes.{said_size};
 ghost use Rattle.wc_drafts.specs.Standard.Growing.{Grows};
 ghost use Rattle.wc_drafts.specs.Standard.Derived.{AreWords, take_all, Leaves};
+ghost use Rattle.wc_surface.specs.declared.type_use.User.{User};
+ghost use Rattle.wc_surface.specs.Standard.Written.Indices.{Index};
+ghost use Rattle.wc_surface.specs.Standard.Written.TypeUses.{Signature, TypeUse};
 ghost use Rattle.wc_surface.specs.Standard.Written.Instructions.{Instrs};
-ghost use Rattle.wc_drafts.specs.Standard.Productions.Tokens.{Said};
+ghost use Rattle.wc_drafts.specs.Standard.Productions.Tokens.{Said, IsIndex};
+ghost use Rattle.wc_drafts.specs.Standard.Productions.TypeUses.{IsSignature, IsTypeUse, type_use};
 ghost use Rattle.wc_drafts.specs.Standard.Productions.Instructions.{Part, Says};
-ghost use Rattle.wc_drafts.specs.Standard.Productions.Kept.{AreKept};
+ghost use Rattle.wc_drafts.specs.Standard.Productions.Kept.{IsSpoken, AreKept};
+ghost use Rattle.wc_drafts.specs.Standard.Following.{take_said, take_uses};
+ghost use Rattle.wc_drafts.specs.Stored.TypeUses.{index_as, use_as};
+ghost use Rattle.wc_drafts.specs.Stored.Bodies.{body_as};
 
 /// One more kept token adds no more than one parameter to a type use, and no more than one to the type uses and
 /// parameters of a body. At first there are none, and the end adds none.
@@ -67,4 +75,27 @@ pub fn always_a_value()
     ensures folded { (depth n : ℕ) (kinds : List Kind) (es : List Event) (us : List Said)
         → Derives (The (foldedinstr depth)) (numbered n kinds) es → AreKept es us
         → (c : Instrs) × Says Part.foldedinstr us c }
+{}
+
+/// The kept tokens of derived instructions, whose numbers 32 bits hold, add to a body just the instructions that they
+/// say, as they are stored.
+pub fn stored_as_said()
+    ensures instrs { (depth n : ℕ) (kinds : List Kind) (es : List Event) (us : List Said) (c : Instrs)
+        → depth ≤ nesting_limit → n + length kinds ≤ 2 ^ 32 → Derives (instrs depth) (numbered n kinds) es
+        → AreKept es us → Says Part.instrs us c → ended (take_said nothing_said us) ≡ body_as c }
+    ensures folded { (depth n : ℕ) (kinds : List Kind) (es : List Event) (us : List Said) (c : Instrs)
+        → depth ≤ nesting_limit → n + length kinds ≤ 2 ^ 32 → Derives (The (foldedinstr depth)) (numbered n kinds) es
+        → AreKept es us → Says Part.foldedinstr us c → ended (take_said nothing_said us) ≡ body_as c }
+{}
+
+/// So are an index and a type use, and parameters and results without an index.
+pub fn parts_stored_as_said()
+    ensures index { (w : Word) (x : Index) → IsSpoken w → IsIndex w x → index_of w ≡ index_as x }
+    ensures type_use { (n : ℕ) (kinds : List Kind) (es : List Event) (us : List Said) (u : TypeUse) (user : User)
+        (token : ℕ) → n + length kinds ≤ 2 ^ 32 → Derives (The typeuse) (numbered n kinds) es → AreKept es us
+        → IsTypeUse us u → use_of (take_uses (started_use user token) us) ≡ use_as user token u }
+    ensures signature { (n : ℕ) (kinds : List Kind) (es : List Event) (us : List Said) (s : Signature) (user : User)
+        (token : ℕ) → n + length kinds ≤ 2 ^ 32
+        → Derives (Many (The param) · Many (The result_rule)) (numbered n kinds) es → AreKept es us → IsSignature us s
+        → use_of (take_uses (started_use user token) us) ≡ use_as user token (type_use None s) }
 {}

@@ -18,7 +18,7 @@ mod word;
 pub use body_draft::BodyDraft;
 pub use laws::{
     always_a_value, instructions_close_what_they_open, one_token_adds_one, one_value,
-    what_was_said_stays,
+    parts_stored_as_said, stored_as_said, what_was_said_stays,
 };
 pub use use_draft::UseDraft;
 pub use word::{Word, identifier_of, index_of, number_in};

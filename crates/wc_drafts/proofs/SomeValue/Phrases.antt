@@ -1,6 +1,7 @@
 -- What a derivation's kept tokens are, phrase by phrase.
-use Rattle.std.proofs.Common.{◌≡◌, List, [], ◌∷◌, ◌++◌, ◌⊎◌, inl, inr, refl, sym, ap, subst, append-nil}
+use Rattle.std.proofs.Common.{◌≡◌, ◌≤◌, List, [], ◌∷◌, ◌++◌, ◌⊎◌, inl, inr, refl, sym, ap, subst, append-nil}
 use Rattle.wc_ops.specs.declared.val_type.ValType.{ValType}
+use Rattle.wc_body.specs.Standard.Nested.{nesting}
 use Rattle.wc_syntax.specs.declared.kind.Kind.{Kind}
 use Rattle.wc_syntax.specs.declared.role.Role.{Role}
 use Rattle.wc_syntax.specs.declared.role.Role.TheVariants as role
@@ -38,10 +39,10 @@ pub data Nothing : List Said → Type 0 where
 pub data OneToken (r : Role) (k : Kind) : List Said → Type 0 where
   one : {w : KeptToken} → w.symbol.kind ≡ k → IsSpoken w → OneToken r k (r ⊳ w ∷ [])
 
--- what a rule's kept tokens say
+-- what a rule's kept tokens say: instructions, of which no more are nested in one another than may be
 abbrev pub RuleSays : Nonterminal → List Said → Type 0
-RuleSays (instr depth) us = (c : Instrs) × Says Part.instr us c
-RuleSays (foldedinstr depth) us = (c : Instrs) × Says Part.foldedinstr us c
+RuleSays (instr depth) us = (c : Instrs) × Says Part.instr us c × (nesting c ≤ depth)
+RuleSays (foldedinstr depth) us = (c : Instrs) × Says Part.foldedinstr us c × (nesting c ≤ depth)
 RuleSays typeuse us = (u : TypeUse) × IsTypeUse us u
 RuleSays param us = (ps : List Param) × IsParam us ps
 RuleSays result us = (ts : List ValType) × AreTypes role.ResultType us ts
@@ -83,7 +84,7 @@ token-are : (Rule : Nonterminal → List Said → Type 0) (t : Terminal) (i : It
 token-are Rule (word k) i e h = Nothing.nothing
 token-are Rule mark i e (AreTokens.more f rest) = no-mark e f
 
-kept-split : (es fs : List Event) (us : List Said) → AreKept (es ++ fs) us → Split (AreKept es) (AreKept fs) us
+pub kept-split : (es fs : List Event) (us : List Said) → AreKept (es ++ fs) us → Split (AreKept es) (AreKept fs) us
 kept-split [] fs us h = record { front = []; rest = us; is = refl; first = AreKept.none; second = h }
 kept-split (e ∷ es) fs us (AreKept.more {r = r} {w = w} {us = vs} s rest) =
     let parts = kept-split es fs vs rest in
@@ -95,7 +96,7 @@ kept-split (e ∷ es) fs us (AreKept.more {r = r} {w = w} {us = vs} s rest) =
       second = parts.second;
     }
 
-the-kind : {k c : Kind} → word k ≡ word c → k ≡ c
+pub the-kind : {k c : Kind} → word k ≡ word c → k ≡ c
 the-kind e = cc
 
 -- a derivation's kept tokens are what its phrase's are
