@@ -6,5 +6,5 @@ mod OpenLemmas
 mod InstrLemmas
 mod Examples
 pub mod OneValue
-mod Storing
+pub mod Storing
 pub mod SomeValue

@@ -18,7 +18,7 @@ use Rattle.wc_drafts.proofs.Storing.Following.{FitsRole, Follow}
 -- ---- the numbers of items
 
 -- they rise, from the first number on to below the second
-abbrev ItemsRise : ℕ → List Item → ℕ → Type 0
+abbrev pub ItemsRise : ℕ → List Item → ℕ → Type 0
 ItemsRise lo [] hi = lo ≤ hi
 ItemsRise lo (at n t ∷ is) hi = (lo ≤ n) × ItemsRise (suc n) is hi
 
@@ -28,7 +28,7 @@ items-part lo hi [] js h = (lo, omega arith, h)
 items-part lo hi (at n t ∷ is) js h =
     let rest = items-part (suc n) hi is js h.1 in (rest.0, (h.0, rest.1), rest.2)
 
-numbered-rise : (n : ℕ) (ks : List Kind) → ItemsRise n (numbered n ks) (n + length ks)
+pub numbered-rise : (n : ℕ) (ks : List Kind) → ItemsRise n (numbered n ks) (n + length ks)
 numbered-rise n [] = omega arith
 numbered-rise n (k ∷ ks) =
     let same : suc n + length ks ≡ n + length (k ∷ ks) = omega arith in
@@ -36,12 +36,12 @@ numbered-rise n (k ∷ ks) =
 
 -- ---- constants have the kinds of numbers
 
-abbrev literal_kind : Role → Kind → Bool
+abbrev pub literal_kind : Role → Kind → Bool
 literal_kind role.Literal k = is_wide k
 literal_kind _ k = true
 
 -- what the phrase keeps as a constant's number is of such a kind
-abbrev has_literals : Phrase → Bool
+abbrev pub has_literals : Phrase → Bool
 has_literals Empty = true
 has_literals (Token t) = true
 has_literals (Keep r k) = literal_kind r k
@@ -71,15 +71,15 @@ both false b e = absurd cc
 
 -- ---- kept tokens
 
-follow-from : (low lo hi : ℕ) (us : List Said) → low ≤ lo → Follow lo us hi → Follow low us hi
+pub follow-from : (low lo hi : ℕ) (us : List Said) → low ≤ lo → Follow lo us hi → Follow low us hi
 follow-from low lo hi [] e h = omega (arith, e, h)
 follow-from low lo hi (r ⊳ w ∷ us) e h = (h.0, h.1, omega (arith, e, h.2), h.3)
 
-follow-append : (lo mid hi : ℕ) (us vs : List Said) → Follow lo us mid → Follow mid vs hi → Follow lo (us ++ vs) hi
+pub follow-append : (lo mid hi : ℕ) (us vs : List Said) → Follow lo us mid → Follow mid vs hi → Follow lo (us ++ vs) hi
 follow-append lo mid hi [] vs h k = follow-from lo mid hi vs h k
 follow-append lo mid hi (r ⊳ w ∷ us) vs h k = (h.0, h.1, h.2, follow-append (suc w.token) mid hi us vs h.3 k)
 
-kept-follow : {g : Phrase} {is : List Item} {es : List Event} → Derives g is es → has_literals g ≡ true → (lo hi : ℕ)
+pub kept-follow : {g : Phrase} {is : List Item} {es : List Event} → Derives g is es → has_literals g ≡ true → (lo hi : ℕ)
     → ItemsRise lo is hi → (us : List Said) → AreKept es us → Follow lo us hi
 kept-follow Derives.empty l lo hi h us AreKept.none = h
 kept-follow (Derives.token {i = at n t} e) l lo hi h us AreKept.none = omega (arith, h.0, h.1)
