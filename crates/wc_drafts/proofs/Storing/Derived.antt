@@ -75,11 +75,13 @@ pub follow-from : (low lo hi : ℕ) (us : List Said) → low ≤ lo → Follow l
 follow-from low lo hi [] e h = omega (arith, e, h)
 follow-from low lo hi (r ⊳ w ∷ us) e h = (h.0, h.1, omega (arith, e, h.2), h.3)
 
-pub follow-append : (lo mid hi : ℕ) (us vs : List Said) → Follow lo us mid → Follow mid vs hi → Follow lo (us ++ vs) hi
+pub follow-append : (lo mid hi : ℕ) (us vs : List Said) → Follow lo us mid → Follow mid vs hi
+    → Follow lo (us ++ vs) hi
 follow-append lo mid hi [] vs h k = follow-from lo mid hi vs h k
 follow-append lo mid hi (r ⊳ w ∷ us) vs h k = (h.0, h.1, h.2, follow-append (suc w.token) mid hi us vs h.3 k)
 
-pub kept-follow : {g : Phrase} {is : List Item} {es : List Event} → Derives g is es → has_literals g ≡ true → (lo hi : ℕ)
+pub kept-follow : {g : Phrase} {is : List Item} {es : List Event} → Derives g is es → has_literals g ≡ true
+    → (lo hi : ℕ)
     → ItemsRise lo is hi → (us : List Said) → AreKept es us → Follow lo us hi
 kept-follow Derives.empty l lo hi h us AreKept.none = h
 kept-follow (Derives.token {i = at n t} e) l lo hi h us AreKept.none = omega (arith, h.0, h.1)
