@@ -22,6 +22,7 @@ fn words(rt: &HostRuntime) -> io::Result<Vec<String>> {
 }
 
 /// Writes the line of a failure, and answers its status.
+#[inline(never)]
 fn failed(rt: &HostRuntime, failure: &Failure<'_>) -> u8 {
     report(rt.alloc(), failure, &mut Device::new(rt.stderr()))
 }
@@ -96,18 +97,27 @@ fn obey(rt: &HostRuntime, words: &[&str]) -> u8 {
     }
 }
 
-fn status(rt: &HostRuntime) -> u8 {
-    let words = match words(rt) {
-        Ok(words) => words,
-        Err(error) if error.kind() == io::ErrorKind::OutOfMemory => {
-            return failed(rt, &Failure::OutOfMemory);
-        }
-        Err(_) => return failed(rt, &Failure::NotText),
-    };
+/// Tells why the words of the command line can't be had, and answers the status.
+fn print_no_words(rt: &HostRuntime, error: &io::Error) -> u8 {
+    match error.kind() {
+        io::ErrorKind::OutOfMemory => failed(rt, &Failure::OutOfMemory),
+        _ => failed(rt, &Failure::NotText),
+    }
+}
+
+/// Carries out what the words ask for, the program's name first.
+fn obey_words(rt: &HostRuntime, words: &[String]) -> u8 {
     let views: Result<Vec<&str>, _> = words.iter().map(|word| word.as_str()).collect(rt.alloc());
     match views {
         Ok(views) => obey(rt, &views),
         Err(_) => failed(rt, &Failure::OutOfMemory),
+    }
+}
+
+fn status(rt: &HostRuntime) -> u8 {
+    match words(rt) {
+        Ok(words) => obey_words(rt, words.as_slice()),
+        Err(error) => print_no_words(rt, &error),
     }
 }
 
