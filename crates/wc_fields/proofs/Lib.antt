@@ -2,3 +2,4 @@ mod NameLemmas
 mod Examples
 pub mod OneValue
 pub mod SomeValue
+pub mod Storing

@@ -1,7 +1,7 @@
 -- Kept tokens say one value: each part of a field, and fields in order.
-mod Cutting
-mod Places
-mod Parts
-mod Given
-mod Descs
+pub mod Cutting
+pub mod Places
+pub mod Parts
+pub mod Given
+pub mod Descs
 pub mod Fields

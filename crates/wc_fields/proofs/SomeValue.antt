@@ -1,4 +1,4 @@
 -- The kept tokens of derived fields say a value.
-mod Strings
-mod Parts
+pub mod Strings
+pub mod Parts
 pub mod Fields

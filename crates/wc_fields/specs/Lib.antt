@@ -1,1 +1,2 @@
 pub mod Standard
+pub mod Stored

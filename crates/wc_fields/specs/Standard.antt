@@ -1,3 +1,4 @@
 pub mod Fields
 pub mod Finished
+pub mod Following
 pub mod Productions

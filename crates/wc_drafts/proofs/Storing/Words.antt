@@ -30,7 +30,7 @@ use Rattle.wc_drafts.proofs.SomeValue.Spoken.{is_wide, spoken-fits}
 use Rattle.wc_drafts.proofs.Storing.Placing.{Placed}
 
 -- the number that an index is
-abbrev number_of : Index → Option ℕ
+abbrev pub number_of : Index → Option ℕ
 number_of (number token n) = Some n
 number_of (named i) = None
 
@@ -43,7 +43,7 @@ value_of _ = 0
 pub behind : {X : Type 0} (xs : List X) → length xs < 2 ^ 32 → place_behind xs ≡ length xs
 behind xs h = mod-eq_of_lt h
 
-number-is : {w : KeptToken} {x : Index} → IsSpoken w → IsIndex w x → number_in w.symbol.value ≡ number_of x
+pub number-is : {w : KeptToken} {x : Index} → IsSpoken w → IsIndex w x → number_in w.symbol.value ≡ number_of x
 number-is {w = w} s (u32 {n = n} h) =
     let fits : FitsKind kind.Natural32 w.symbol.value =
     subst (λ (k : Kind). FitsKind k w.symbol.value) h.kind_is (spoken-fits s) in

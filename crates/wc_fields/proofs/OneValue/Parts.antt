@@ -30,7 +30,7 @@ use Rattle.wc_fields.proofs.OneValue.Places.{id-at, exports-at, offset-part}
 
 -- ---- strings and names
 
-same-string : {text v w : List ℕ} → IsString text v → IsString text w → v ≡ w
+pub same-string : {text v w : List ℕ} → IsString text v → IsString text w → v ≡ w
 same-string {text} {v} {w} a b =
     let e : 34 ∷ (a.body ++ 34 ∷ []) ≡ 34 ∷ (b.body ++ 34 ∷ []) = sym a.text_is ∙ b.text_is in
     let f : a.body ++ 34 ∷ [] ≡ b.body ++ 34 ∷ [] = cc in

@@ -1,5 +1,5 @@
 -- The places of what parts of a field say.
-use Rattle.std.proofs.Common.{◌≡◌, ℕ, List, Option, true, false, nat_lt, refl, sym, subst}
+use Rattle.std.proofs.Common.{◌≡◌, ℕ, List, Option, Bool, true, false, nat_lt, refl, sym, subst}
 use Rattle.wc_ast.specs.declared.limits.Limits.{Limits}
 use Rattle.wc_ast.specs.declared.limits.GlobalType.{GlobalType}
 use Rattle.wc_syntax.specs.declared.role.Role.{Role}
@@ -97,18 +97,49 @@ declared-before n e f (IsDeclared.both i names) =
 
 -- ---- instructions: the words have one place, and what belongs to them comes before the next one
 
-part-before : (r : Role) → is_part r ≡ true → before 8 r ≡ true
-part-before role.TypeIndex e = refl
-part-before role.ParamId e = refl
-part-before role.ParamType e = refl
-part-before role.ResultType e = refl
-part-before role.Label e = refl
-part-before role.EndLabel e = refl
-part-before role.Index e = refl
-part-before role.MemOffset e = refl
-part-before role.MemAlign e = refl
-part-before role.Literal e = refl
-part-before _ e = absurd (no-use e)
+-- the token belongs to instructions
+abbrev pub is_code : Role → Bool
+is_code role.Plain = true
+is_code role.HeldPlain = true
+is_code role.HeldEnd = true
+is_code role.Begin = true
+is_code role.HeldBegin = true
+is_code role.Then = true
+is_code role.Else = true
+is_code role.End = true
+is_code r = is_part r
+
+part-code : (r : Role) → is_part r ≡ true → is_code r ≡ true
+part-code role.Plain e = absurd (no-use e)
+part-code role.HeldPlain e = absurd (no-use e)
+part-code role.HeldEnd e = absurd (no-use e)
+part-code role.Begin e = absurd (no-use e)
+part-code role.HeldBegin e = absurd (no-use e)
+part-code role.Then e = absurd (no-use e)
+part-code role.Else e = absurd (no-use e)
+part-code role.End e = absurd (no-use e)
+part-code _ e = e
+
+role-before : (r : Role) → is_code r ≡ true → before 8 r ≡ true
+role-before role.Plain e = refl
+role-before role.HeldPlain e = refl
+role-before role.HeldEnd e = refl
+role-before role.Begin e = refl
+role-before role.HeldBegin e = refl
+role-before role.Then e = refl
+role-before role.Else e = refl
+role-before role.End e = refl
+role-before role.TypeIndex e = refl
+role-before role.ParamId e = refl
+role-before role.ParamType e = refl
+role-before role.ResultType e = refl
+role-before role.Label e = refl
+role-before role.EndLabel e = refl
+role-before role.Index e = refl
+role-before role.MemOffset e = refl
+role-before role.MemAlign e = refl
+role-before role.Literal e = refl
+role-before _ e = absurd (no-use e)
 
 -- what comes before one place comes before the next
 pub later : {us : List Said} → AllBefore 8 us → AllBefore 9 us
@@ -120,46 +151,53 @@ later (AllRoles.more {r = r} e others) = AllRoles.more (later-role r e) (later o
     later-role role.FieldEnd e = absurd (no-use e)
     later-role _ e = refl
 
-parts-before : {us : List Said} → AllRoles is_part us → AllBefore 8 us
-parts-before AllRoles.none = AllRoles.none
-parts-before (AllRoles.more {r = r} e others) = AllRoles.more (part-before r e) (parts-before others)
+parts-code : {us : List Said} → AllRoles is_part us → AllRoles is_code us
+parts-code AllRoles.none = AllRoles.none
+parts-code (AllRoles.more {r = r} e others) = AllRoles.more (part-code r e) (parts-code others)
 
-plain-before : {r : Role} {us : List Said} {p : Plain} → before 8 r ≡ true → IsPlain r us p → AllBefore 8 us
-plain-before e h =
-    let f = front h in subst (AllBefore 8) (sym f.is) (AllRoles.more e (parts-before f.all))
+plain-code : {r : Role} {us : List Said} {p : Plain} → is_code r ≡ true → IsPlain r us p → AllRoles is_code us
+plain-code e h =
+    let f = front h in subst (AllRoles is_code) (sym f.is) (AllRoles.more e (parts-code f.all))
 
 plain-starts : {n : ℕ} {r : Role} {us : List Said} {p : Plain} → before n r ≡ false → IsPlain r us p → Starts n us
 plain-starts {n = n} e h = let f = front h in subst (Starts n) (sym f.is) (Starts.at e)
 
+pub code-roles : {p : Part} {us : List Said} {c : Instrs} → Says p us c → AllRoles is_code us
+code-roles Says.none = AllRoles.none
+code-roles (Says.more a b) = roles-append (code-roles a) (code-roles b)
+code-roles (Says.plain h) = plain-code refl h
+code-roles (Says.folded a) = code-roles a
+code-roles (Says.region z r h a e) =
+    AllRoles.more refl (roles-append (roles-append (parts-code (head-roles h)) (code-roles a))
+    (AllRoles.more refl (parts-code (id-roles refl e))))
+code-roles (Says.if_then z n h a e) =
+    AllRoles.more refl (roles-append (roles-append (parts-code (head-roles h)) (code-roles a))
+    (AllRoles.more refl (parts-code (id-roles refl e))))
+code-roles (Says.if_else y z n h a m b e) =
+    AllRoles.more refl (roles-append (roles-append (roles-append (roles-append (parts-code (head-roles h))
+    (code-roles a)) (AllRoles.more refl (parts-code (id-roles refl m)))) (code-roles b))
+    (AllRoles.more refl (parts-code (id-roles refl e))))
+code-roles Says.no_folded = AllRoles.none
+code-roles (Says.more_folded a b) = roles-append (code-roles a) (code-roles b)
+code-roles (Says.folded_plain z h a) =
+    roles-append (roles-append (plain-code refl h) (code-roles a)) (AllRoles.more refl AllRoles.none)
+code-roles (Says.folded_region z r h a) =
+    AllRoles.more refl (roles-append (roles-append (parts-code (head-roles h)) (code-roles a))
+    (AllRoles.more refl AllRoles.none))
+code-roles (Says.folded_then t z n h a b) =
+    AllRoles.more refl (roles-append (roles-append (roles-append (parts-code (head-roles h)) (code-roles a))
+    (AllRoles.more refl (code-roles b))) (AllRoles.more refl AllRoles.none))
+code-roles (Says.folded_else t y z n h a b d) =
+    AllRoles.more refl (roles-append (roles-append (roles-append (roles-append (parts-code (head-roles h))
+    (code-roles a)) (AllRoles.more refl (code-roles b))) (AllRoles.more refl (code-roles d)))
+    (AllRoles.more refl AllRoles.none))
+
 pub code-before : {p : Part} {us : List Said} {c : Instrs} → Says p us c → AllBefore 8 us
-code-before Says.none = AllRoles.none
-code-before (Says.more a b) = roles-append (code-before a) (code-before b)
-code-before (Says.plain h) = plain-before refl h
-code-before (Says.folded a) = code-before a
-code-before (Says.region z r h a e) =
-    AllRoles.more refl (roles-append (roles-append (parts-before (head-roles h)) (code-before a))
-    (AllRoles.more refl (parts-before (id-roles refl e))))
-code-before (Says.if_then z n h a e) =
-    AllRoles.more refl (roles-append (roles-append (parts-before (head-roles h)) (code-before a))
-    (AllRoles.more refl (parts-before (id-roles refl e))))
-code-before (Says.if_else y z n h a m b e) =
-    AllRoles.more refl (roles-append (roles-append (roles-append (roles-append (parts-before (head-roles h))
-    (code-before a)) (AllRoles.more refl (parts-before (id-roles refl m)))) (code-before b))
-    (AllRoles.more refl (parts-before (id-roles refl e))))
-code-before Says.no_folded = AllRoles.none
-code-before (Says.more_folded a b) = roles-append (code-before a) (code-before b)
-code-before (Says.folded_plain z h a) =
-    roles-append (roles-append (plain-before refl h) (code-before a)) (AllRoles.more refl AllRoles.none)
-code-before (Says.folded_region z r h a) =
-    AllRoles.more refl (roles-append (roles-append (parts-before (head-roles h)) (code-before a))
-    (AllRoles.more refl AllRoles.none))
-code-before (Says.folded_then t z n h a b) =
-    AllRoles.more refl (roles-append (roles-append (roles-append (parts-before (head-roles h)) (code-before a))
-    (AllRoles.more refl (code-before b))) (AllRoles.more refl AllRoles.none))
-code-before (Says.folded_else t y z n h a b d) =
-    AllRoles.more refl (roles-append (roles-append (roles-append (roles-append (parts-before (head-roles h))
-    (code-before a)) (AllRoles.more refl (code-before b))) (AllRoles.more refl (code-before d)))
-    (AllRoles.more refl AllRoles.none))
+code-before h = all (code-roles h)
+  where
+    all : {us : List Said} → AllRoles is_code us → AllBefore 8 us
+    all AllRoles.none = AllRoles.none
+    all (AllRoles.more {r = r} e others) = AllRoles.more (role-before r e) (all others)
 
 pub code-starts : {n : ℕ} {p : Part} {us : List Said} {c : Instrs} → nat_lt 7 n ≡ false → Says p us c → Starts n us
 code-starts e Says.none = Starts.nothing

@@ -1,5 +1,5 @@
 -- What the kept tokens of fields say, and of a text of them.
-use Rattle.std.proofs.Common.{ℕ, zero, suc, List, [], ◌∷◌, ◌++◌, Option, ◌⊎◌, inl, inr, sym, ◌∙◌, subst, append_assoc}
+use Rattle.std.proofs.Common.{ℕ, zero, suc, ◌≤◌, List, [], ◌∷◌, ◌++◌, Option, ◌⊎◌, inl, inr, sym, ◌∙◌, subst, append_assoc, arith}
 use Rattle.wc_ast.specs.declared.export.ExportKind.{ExportKind}
 use Rattle.wc_syntax.specs.declared.kind.Kind.{Kind}
 use Rattle.wc_syntax.specs.declared.kind.Kind.TheVariants as kind
@@ -27,6 +27,7 @@ use Rattle.wc_fields.specs.Standard.Productions.Parts.{IsKind}
 use Rattle.wc_fields.specs.Standard.Productions.Fields.{IsDesc, IsFunction, IsTable, IsMemory, IsGlobal, IsField}
 use Rattle.wc_fields.specs.Standard.Productions.Fields.{AreFields}
 use Rattle.wc_fields.proofs.SomeValue.Strings.{spoken-name}
+use Rattle.wc_fields.proofs.SomeValue.Parts.{function_nesting, global_nesting, field_nesting, Shallow}
 use Rattle.wc_fields.proofs.SomeValue.Parts.{IsWhole, FieldRule, Are, export-says, declared-says, import-says}
 use Rattle.wc_fields.proofs.SomeValue.Parts.{inline-says, local-says, locals-are, limits-says, global-says}
 use Rattle.wc_fields.proofs.SomeValue.Parts.{strings-are, elements-are, target-says, offset-says}
@@ -47,12 +48,21 @@ desc-says (inr (inr (inr s))) = word_then SomeDesc s
     (λ w rest e t s. parts (λ us. SomeDesc (role.Description ⊳ w ∷ us)) s
     (λ us vs i b. (_, _, IsDesc.global e (id-says role.FieldId i).1 (global-says b).1)))
 
-function-says : (d : ℕ) {us : List Said} → Are (function d) us → (f : Function) × IsFunction us f
-function-says d (inl s) = parts (λ us. (f : Function) × IsFunction us f) s
-    (λ us vs i u. (_, IsFunction.imported (inline-says i).1 u.1))
-function-says d (inr s) = parts (λ us. (f : Function) × IsFunction us f) s
-    (λ us rest u s. parts (λ rest. (f : Function) × IsFunction (us ++ rest) f) s
-    (λ vs ws l c. (_, simp append_assoc at (IsFunction.code u.1 (locals-are l).1 (list-says d c).1))))
+-- what a function is given by, in which no more instructions than these are nested in one another
+abbrev SomeFunction : ℕ → List Said → Type 0
+SomeFunction d us = (f : Function) × IsFunction us f × (function_nesting f ≤ d)
+
+-- the same of a global
+abbrev SomeGlobal : ℕ → List Said → Type 0
+SomeGlobal d us = (g : Global) × IsGlobal us g × (global_nesting g ≤ d)
+
+function-says : (d : ℕ) {us : List Said} → Are (function d) us → SomeFunction d us
+function-says d (inl s) = parts (SomeFunction d) s
+    (λ us vs i u. (_, IsFunction.imported (inline-says i).1 u.1, omega arith))
+function-says d (inr s) = parts (SomeFunction d) s
+    (λ us rest u s. parts (λ rest. SomeFunction d (us ++ rest)) s
+    (λ vs ws l c. let code = list-says d c in
+    (_, simp append_assoc at (IsFunction.code u.1 (locals-are l).1 code.1), code.2)))
 
 table-says : {us : List Said} → Are table us → (t : Table) × IsTable us t
 table-says (inl s) = parts (λ us. (t : Table) × IsTable us t) s
@@ -68,11 +78,11 @@ memory-says (inr (inl s)) = (_, IsMemory.limits (limits-says s).1)
 memory-says (inr (inr s)) = word_then (λ us. (m : Memory) × IsMemory us m) (behind s)
     (λ w rest e t s. (_, IsMemory.bytes (strings-are (before s)).1))
 
-global-field-says : (d : ℕ) {us : List Said} → Are (global d) us → (g : Global) × IsGlobal us g
-global-field-says d (inl s) = parts (λ us. (g : Global) × IsGlobal us g) s
-    (λ us vs i g. (_, IsGlobal.imported (inline-says i).1 (global-says g).1))
-global-field-says d (inr s) = parts (λ us. (g : Global) × IsGlobal us g) s
-    (λ us vs g c. (_, IsGlobal.init (global-says g).1 (list-says d c).1))
+global-field-says : (d : ℕ) {us : List Said} → Are (global d) us → SomeGlobal d us
+global-field-says d (inl s) = parts (SomeGlobal d) s
+    (λ us vs i g. (_, IsGlobal.imported (inline-says i).1 (global-says g).1, omega arith))
+global-field-says d (inr s) = parts (SomeGlobal d) s
+    (λ us vs g c. let code = list-says d c in (_, IsGlobal.init (global-says g).1 code.1, code.2))
 
 kind-says : (P : List Said → Type 0) {us : List Said} → Are exportkind us
     → ((w : KeptToken) (e : ExportKind) → IsKind w e → P (role.Description ⊳ w ∷ [])) → P us
@@ -83,75 +93,81 @@ kind-says P (inr (inr (inr (OneToken.one e t)))) each = each _ _ (IsKind.global 
 
 -- ---- fields
 
--- what stands in a field, and its end
-whole : {w : KeptToken} {us end : List Said} → (f : Field) × IsField w us f → OneToken role.FieldEnd kind.Close end
-    → IsWhole (role.Field ⊳ w ∷ (us ++ end))
-whole h (OneToken.one {w = z} e t) = IsWhole.field z h.1
+-- what stands in a field, in which no more instructions than these are nested in one another
+abbrev SomeField : ℕ → KeptToken → List Said → Type 0
+SomeField d w us = (f : Field) × IsField w us f × (field_nesting f ≤ d)
+
+-- with its end
+whole : {d : ℕ} {w : KeptToken} {us end : List Said} → SomeField d w us → OneToken role.FieldEnd kind.Close end
+    → IsWhole d (role.Field ⊳ w ∷ (us ++ end))
+whole h (OneToken.one {w = z} e t) = IsWhole.field z h.1 h.2
 
 -- the same of what stands in two parts
-whole-two : {w : KeptToken} (us vs end : List Said) → (f : Field) × IsField w (us ++ vs) f
-    → OneToken role.FieldEnd kind.Close end → IsWhole (role.Field ⊳ w ∷ (us ++ (vs ++ end)))
-whole-two {w = w} us vs end h e =
-    subst (λ (all : List Said). IsWhole (role.Field ⊳ w ∷ all)) (append_assoc us vs end) (whole h e)
+whole-two : {d : ℕ} {w : KeptToken} (us vs end : List Said) → SomeField d w (us ++ vs)
+    → OneToken role.FieldEnd kind.Close end → IsWhole d (role.Field ⊳ w ∷ (us ++ (vs ++ end)))
+whole-two {d = d} {w = w} us vs end h e =
+    subst (λ (all : List Said). IsWhole d (role.Field ⊳ w ∷ all)) (append_assoc us vs end) (whole h e)
 
 -- and in three
-whole-three : {w : KeptToken} (us vs ws end : List Said) → (f : Field) × IsField w (us ++ vs ++ ws) f
-    → OneToken role.FieldEnd kind.Close end → IsWhole (role.Field ⊳ w ∷ (us ++ (vs ++ (ws ++ end))))
-whole-three {w = w} us vs ws end h e =
-    subst (λ (all : List Said). IsWhole (role.Field ⊳ w ∷ all))
+whole-three : {d : ℕ} {w : KeptToken} (us vs ws end : List Said) → SomeField d w (us ++ vs ++ ws)
+    → OneToken role.FieldEnd kind.Close end → IsWhole d (role.Field ⊳ w ∷ (us ++ (vs ++ (ws ++ end))))
+whole-three {d = d} {w = w} us vs ws end h e =
+    subst (λ (all : List Said). IsWhole d (role.Field ⊳ w ∷ all))
     (append_assoc (us ++ vs) ws end ∙ append_assoc us vs (ws ++ end)) (whole h e)
 
 -- the parts of a field behind its word, one, two or three of them, and its end
-two-parts : {A B : List Said → Type 0} {w : KeptToken} {us : List Said}
+two-parts : {A B : List Said → Type 0} {d : ℕ} {w : KeptToken} {us : List Said}
     → Split A (Split B (OneToken role.FieldEnd kind.Close)) us
-    → ((us vs : List Said) → A us → B vs → (f : Field) × IsField w (us ++ vs) f) → IsWhole (role.Field ⊳ w ∷ us)
-two-parts {w = w} s says = parts (λ us. IsWhole (role.Field ⊳ w ∷ us)) s
-    (λ us rest a s. parts (λ rest. IsWhole (role.Field ⊳ w ∷ (us ++ rest))) s
+    → ((us vs : List Said) → A us → B vs → SomeField d w (us ++ vs)) → IsWhole d (role.Field ⊳ w ∷ us)
+two-parts {d = d} {w = w} s says = parts (λ us. IsWhole d (role.Field ⊳ w ∷ us)) s
+    (λ us rest a s. parts (λ rest. IsWhole d (role.Field ⊳ w ∷ (us ++ rest))) s
     (λ vs end b e. whole-two us vs end (says us vs a b) e))
 
-field-says : (d : ℕ) {us : List Said} → Are (modulefield_body d) us → IsWhole us
-field-says d (inl s) = word_then IsWhole (behind s)
+field-says : (d : ℕ) {us : List Said} → Are (modulefield_body d) us → IsWhole d us
+field-says d (inl s) = word_then (IsWhole d) (behind s)
     (λ w rest e t s. two-parts s
-    (λ us vs i f. (_, IsField.type_word e (id-says role.FieldId i).1 (signature-of f).1)))
+    (λ us vs i f. (_, IsField.type_word e (id-says role.FieldId i).1 (signature-of f).1, omega arith)))
   where
     signature-of : {us : List Said} → Are functype us → (s : Signature) × IsSignature us s
     signature-of f = signature-says (ending (behind (behind f)))
       where
         ending : {A B : List Said → Type 0} {us : List Said} → Split A (Split B Nothing) us → Split A B us
         ending s = record { front = s.front; rest = s.rest; is = s.is; first = s.first; second = before s.second }
-field-says d (inr (inl s)) = word_then IsWhole (behind s)
-    (λ w rest e t s. parts (λ us. IsWhole (role.Field ⊳ w ∷ us)) s
-    (λ us rest m b. parts (λ rest. IsWhole (role.Field ⊳ w ∷ (us ++ rest))) (behind b)
+field-says d (inr (inl s)) = word_then (IsWhole d) (behind s)
+    (λ w rest e t s. parts (λ us. IsWhole d (role.Field ⊳ w ∷ us)) s
+    (λ us rest m b. parts (λ rest. IsWhole d (role.Field ⊳ w ∷ (us ++ rest))) (behind b)
     (λ vs end c z.
-    whole-two us vs end (_, IsField.import_word e (import-says w m).1 (desc-says c).2) (behind z))))
-field-says d (inr (inr (inl s))) = word_then IsWhole (behind s)
-    (λ w rest e t s. two-parts s (λ us vs a b. (_, IsField.func_word e (declared-says a).1 (function-says d b).1)))
-field-says d (inr (inr (inr (inl s)))) = word_then IsWhole (behind s)
-    (λ w rest e t s. two-parts s (λ us vs a b. (_, IsField.table_word e (declared-says a).1 (table-says b).1)))
-field-says d (inr (inr (inr (inr (inl s))))) = word_then IsWhole (behind s)
-    (λ w rest e t s. two-parts s (λ us vs a b. (_, IsField.memory_word e (declared-says a).1 (memory-says b).1)))
-field-says d (inr (inr (inr (inr (inr (inl s)))))) = word_then IsWhole (behind s)
+    whole-two us vs end (_, IsField.import_word e (import-says w m).1 (desc-says c).2, omega arith) (behind z))))
+field-says d (inr (inr (inl s))) = word_then (IsWhole d) (behind s)
+    (λ w rest e t s. two-parts s (λ us vs a b. let f = function-says d b in
+    (_, IsField.func_word e (declared-says a).1 f.1, f.2)))
+field-says d (inr (inr (inr (inl s)))) = word_then (IsWhole d) (behind s)
+    (λ w rest e t s. two-parts s (λ us vs a b. (_, IsField.table_word e (declared-says a).1 (table-says b).1, omega arith)))
+field-says d (inr (inr (inr (inr (inl s))))) = word_then (IsWhole d) (behind s)
+    (λ w rest e t s. two-parts s (λ us vs a b. (_, IsField.memory_word e (declared-says a).1 (memory-says b).1, omega arith)))
+field-says d (inr (inr (inr (inr (inr (inl s)))))) = word_then (IsWhole d) (behind s)
     (λ w rest e t s. two-parts s
-    (λ us vs a b. (_, IsField.global_word e (declared-says a).1 (global-field-says d b).1)))
-field-says d (inr (inr (inr (inr (inr (inr (inl s))))))) = word_then IsWhole (behind s)
-    (λ w rest e t s. word_then (λ us. IsWhole (role.Field ⊳ w ∷ us)) s
-    (λ n rest f u s. parts (λ us. IsWhole (role.Field ⊳ w ∷ (role.ExportName ⊳ n ∷ us))) (behind s)
-    (λ ks rest k s. kind-says (λ ks. IsWhole (role.Field ⊳ w ∷ (role.ExportName ⊳ n ∷ (ks ++ rest)))) k
+    (λ us vs a b. let g = global-field-says d b in
+    (_, IsField.global_word e (declared-says a).1 g.1, g.2)))
+field-says d (inr (inr (inr (inr (inr (inr (inl s))))))) = word_then (IsWhole d) (behind s)
+    (λ w rest e t s. word_then (λ us. IsWhole d (role.Field ⊳ w ∷ us)) s
+    (λ n rest f u s. parts (λ us. IsWhole d (role.Field ⊳ w ∷ (role.ExportName ⊳ n ∷ us))) (behind s)
+    (λ ks rest k s. kind-says (λ ks. IsWhole d (role.Field ⊳ w ∷ (role.ExportName ⊳ n ∷ (ks ++ rest)))) k
     (λ k kind h. parts
-    (λ us. IsWhole (role.Field ⊳ w ∷ (role.ExportName ⊳ n ∷ (role.Description ⊳ k ∷ us)))) s
+    (λ us. IsWhole d (role.Field ⊳ w ∷ (role.ExportName ⊳ n ∷ (role.Description ⊳ k ∷ us)))) s
     (λ us end i end_is. index-says role.Target
-    (λ us. IsWhole (role.Field ⊳ w ∷ (role.ExportName ⊳ n ∷ (role.Description ⊳ k ∷ (us ++ end))))) i
-    (λ v x j. whole (_, IsField.export_word e (spoken-name f u).1 h j) (behind end_is)))))))
-field-says d (inr (inr (inr (inr (inr (inr (inr (inl s)))))))) = word_then IsWhole (behind s)
-    (λ w rest e t s. parts (λ us. IsWhole (role.Field ⊳ w ∷ us)) s
-    (λ us end i end_is. index-says role.Target (λ us. IsWhole (role.Field ⊳ w ∷ (us ++ end))) i
-    (λ v x j. whole (_, IsField.start_word e j) end_is)))
-field-says d (inr (inr (inr (inr (inr (inr (inr (inr (inl s))))))))) = word_then IsWhole (behind s)
-    (λ w rest e t s. parts (λ us. IsWhole (role.Field ⊳ w ∷ us)) s
-    (λ us rest i s. parts (λ rest. IsWhole (role.Field ⊳ w ∷ (us ++ rest))) s
-    (λ vs rest o s. parts (λ rest. IsWhole (role.Field ⊳ w ∷ (us ++ (vs ++ rest)))) (no-word s)
+    (λ us. IsWhole d (role.Field ⊳ w ∷ (role.ExportName ⊳ n ∷ (role.Description ⊳ k ∷ (us ++ end))))) i
+    (λ v x j. whole (_, IsField.export_word e (spoken-name f u).1 h j, omega arith) (behind end_is)))))))
+field-says d (inr (inr (inr (inr (inr (inr (inr (inl s)))))))) = word_then (IsWhole d) (behind s)
+    (λ w rest e t s. parts (λ us. IsWhole d (role.Field ⊳ w ∷ us)) s
+    (λ us end i end_is. index-says role.Target (λ us. IsWhole d (role.Field ⊳ w ∷ (us ++ end))) i
+    (λ v x j. whole (_, IsField.start_word e j, omega arith) end_is)))
+field-says d (inr (inr (inr (inr (inr (inr (inr (inr (inl s))))))))) = word_then (IsWhole d) (behind s)
+    (λ w rest e t s. parts (λ us. IsWhole d (role.Field ⊳ w ∷ us)) s
+    (λ us rest i s. parts (λ rest. IsWhole d (role.Field ⊳ w ∷ (us ++ rest))) s
+    (λ vs rest o s. parts (λ rest. IsWhole d (role.Field ⊳ w ∷ (us ++ (vs ++ rest)))) (no-word s)
     (λ ws end x end_is. whole-three us vs ws end
-    (_, IsField.elem_word e (target-says i).1 o.1 (elements-are x).1) end_is))))
+    (_, IsField.elem_word e (target-says i).1 o.1 (elements-are x).1, o.2) end_is))))
   where
     no-word : {B : List Said → Type 0} {us : List Said} → Split (λ us. Nothing us ⊎ Nothing us) B us → B us
     no-word {B} s = parts B s dropped
@@ -159,35 +175,40 @@ field-says d (inr (inr (inr (inr (inr (inr (inr (inr (inl s))))))))) = word_then
         dropped : (front rest : List Said) → Nothing front ⊎ Nothing front → B rest → B (front ++ rest)
         dropped front rest (inl Nothing.nothing) b = b
         dropped front rest (inr Nothing.nothing) b = b
-field-says d (inr (inr (inr (inr (inr (inr (inr (inr (inr s))))))))) = word_then IsWhole (behind s)
-    (λ w rest e t s. parts (λ us. IsWhole (role.Field ⊳ w ∷ us)) s
-    (λ us rest i s. parts (λ rest. IsWhole (role.Field ⊳ w ∷ (us ++ rest))) s
-    (λ vs rest o s. parts (λ rest. IsWhole (role.Field ⊳ w ∷ (us ++ (vs ++ rest)))) s
+field-says d (inr (inr (inr (inr (inr (inr (inr (inr (inr s))))))))) = word_then (IsWhole d) (behind s)
+    (λ w rest e t s. parts (λ us. IsWhole d (role.Field ⊳ w ∷ us)) s
+    (λ us rest i s. parts (λ rest. IsWhole d (role.Field ⊳ w ∷ (us ++ rest))) s
+    (λ vs rest o s. parts (λ rest. IsWhole d (role.Field ⊳ w ∷ (us ++ (vs ++ rest)))) s
     (λ ws end x end_is. whole-three us vs ws end
-    (_, IsField.data_word e (target-says i).1 o.1 (strings-are x).1) end_is))))
+    (_, IsField.data_word e (target-says i).1 o.1 (strings-are x).1, o.2) end_is))))
 
-fields-are : {us : List Said} → Star IsWhole us → (fs : List Field) × AreFields us fs
-fields-are Star.stop = ([], AreFields.none)
-fields-are (Star.go {vs = vs} (IsWhole.field z {w = w} {us = us} {f = f} h) more) =
+-- fields, in none of which are more
+abbrev pub SomeFields : ℕ → List Said → Type 0
+SomeFields d us = (fs : List Field) × AreFields us fs × Shallow d fs
+
+fields-are : {d : ℕ} {us : List Said} → Star (IsWhole d) us → SomeFields d us
+fields-are Star.stop = ([], AreFields.none, tt)
+fields-are (Star.go {vs = vs} (IsWhole.field z {w = w} {us = us} {f = f} h e) more) =
     let others = fields-are more in (
       f ∷ others.0,
       subst (λ (all : List Said). AreFields (role.Field ⊳ w ∷ all) (f ∷ others.0))
           (sym (append_assoc us (role.FieldEnd ⊳ z ∷ []) vs)) (AreFields.more z h others.1),
+      (e, others.2),
     )
 
-text-says : (d : ℕ) {us : List Said} → Are (text_body d) us → (fs : List Field) × AreFields us fs
-text-says d (inl s) = parts (λ us. (fs : List Field) × AreFields us fs) (behind (behind s))
+text-says : (d : ℕ) {us : List Said} → Are (text_body d) us → SomeFields d us
+text-says d (inl s) = parts (SomeFields d) (behind (behind s))
     (λ front rest i f. no-id front rest i (fields-are (before f)))
   where
-    no-id : (front rest : List Said) → Nothing front ⊎ Nothing front → (fs : List Field) × AreFields rest fs
-        → (fs : List Field) × AreFields (front ++ rest) fs
+    no-id : (front rest : List Said) → Nothing front ⊎ Nothing front → SomeFields d rest
+        → SomeFields d (front ++ rest)
     no-id front rest (inl Nothing.nothing) f = f
     no-id front rest (inr Nothing.nothing) f = f
 text-says d (inr s) = fields-are s
 
 -- ---- every rule
 
-rules : (n : Nonterminal) (us : List Said) → Are (body n) us → FieldRule n us
+pub rules : (n : Nonterminal) (us : List Said) → Are (body n) us → FieldRule n us
 rules (instr zero) us h = instr-says zero h
 rules (instr (suc d)) us h = instr-says (suc d) h
 rules (foldedinstr zero) us h = folded-says zero h
@@ -203,5 +224,5 @@ rules (text d) us h = text-says d h
 
 -- the kept tokens of a text say some fields
 pub text-say : (d n : ℕ) (ks : List Kind) (es : List Event) (us : List Said)
-    → Derives (The (text d)) (numbered n ks) es → AreKept es us → (fs : List Field) × AreFields us fs
+    → Derives (The (text d)) (numbered n ks) es → AreKept es us → SomeFields d us
 text-say d n ks es us h k = derived-are FieldRule rules h (numbered-tokens n ks) us k

@@ -1,5 +1,6 @@
 -- What the kept tokens of parts of fields say.
-use Rattle.std.proofs.Common.{ℕ, List, [], ◌∷◌, ◌++◌, Option, None, inl, inr, refl}
+use Rattle.std.proofs.Common.{ℕ, ◌≤◌, List, [], ◌∷◌, ◌++◌, Option, None, inl, inr, refl}
+use Rattle.wc_body.specs.Standard.Nested.{nesting}
 use Rattle.wc_ast.specs.declared.limits.Limits.{Limits}
 use Rattle.wc_ast.specs.declared.limits.GlobalType.{GlobalType}
 use Rattle.wc_syntax.specs.declared.kind.Kind.TheVariants as kind
@@ -9,7 +10,8 @@ use Rattle.wc_syntax.specs.Phrases.{modulefield, text, Phrase, Keep, Maybe}
 use Rattle.wc_syntax.specs.Types.{index, local_body, limits, globaltype}
 use Rattle.wc_syntax.specs.Fields.{export_body, exported, import_names, import, strings, elements, offset_body}
 use Rattle.wc_surface.specs.Standard.Written.Indices.{Index}
-use Rattle.wc_surface.specs.Standard.Written.Fields.{Import, Local, Declared, Field}
+use Rattle.wc_surface.specs.Standard.Written.Fields.{Import, Local, Function, Global, Declared, Field}
+use Rattle.wc_surface.specs.Standard.Written.Fields.{func_field, global_field, elem_field, data_field}
 use Rattle.wc_surface.specs.Standard.Written.Instructions.{Instrs}
 use Rattle.wc_drafts.specs.Standard.Tokens.{KeptToken}
 use Rattle.wc_drafts.specs.Standard.Productions.Tokens.{Said, ◌⊳◌, IsIdentifier, IsNatural}
@@ -27,10 +29,31 @@ use Rattle.wc_fields.proofs.SomeValue.Strings.{spoken-string, spoken-name}
 pub data IsExport : List Said → Type 0 where
   one : {w : KeptToken} {name : List ℕ} → IsName w name → IsExport (role.ExportName ⊳ w ∷ [])
 
--- one field, with its word and its end
-pub data IsWhole : List Said → Type 0 where
-  field : (z : KeptToken) {w : KeptToken} {us : List Said} {f : Field} → IsField w us f
-      → IsWhole (role.Field ⊳ w ∷ (us ++ role.FieldEnd ⊳ z ∷ []))
+-- how many of its instructions are nested in one another
+abbrev pub function_nesting : Function → ℕ
+function_nesting (Function.imported m u) = 0
+function_nesting (Function.code u ls c) = nesting c
+
+abbrev pub global_nesting : Global → ℕ
+global_nesting (Global.imported m g) = 0
+global_nesting (Global.init g c) = nesting c
+
+abbrev pub field_nesting : Field → ℕ
+field_nesting (func_field token d f) = function_nesting f
+field_nesting (global_field d g) = global_nesting g
+field_nesting (elem_field t c xs) = nesting c
+field_nesting (data_field m c bytes) = nesting c
+field_nesting _ = 0
+
+-- in none of these are more
+abbrev pub Shallow : ℕ → List Field → Type 0
+Shallow depth [] = Unit {0}
+Shallow depth (f ∷ fs) = (field_nesting f ≤ depth) × Shallow depth fs
+
+-- one field, with its word and its end, in which no more are
+pub data IsWhole (depth : ℕ) : List Said → Type 0 where
+  field : (z : KeptToken) {w : KeptToken} {us : List Said} {f : Field} → IsField w us f → field_nesting f ≤ depth
+      → IsWhole depth (role.Field ⊳ w ∷ (us ++ role.FieldEnd ⊳ z ∷ []))
 
 -- what a rule's kept tokens say
 abbrev pub FieldRule : Nonterminal → List Said → Type 0
@@ -41,9 +64,9 @@ FieldRule param us = RuleSays param us
 FieldRule result us = RuleSays result us
 FieldRule export us = IsExport us
 FieldRule local us = (ls : List Local) × IsLocal us ls
-FieldRule (offset depth) us = (c : Instrs) × IsOffset us c
-FieldRule (modulefield depth) us = IsWhole us
-FieldRule (text depth) us = (fs : List Field) × AreFields us fs
+FieldRule (offset depth) us = (c : Instrs) × IsOffset us c × (nesting c ≤ depth)
+FieldRule (modulefield depth) us = IsWhole depth us
+FieldRule (text depth) us = (fs : List Field) × AreFields us fs × Shallow depth fs
 
 -- what a phrase's kept tokens are
 abbrev pub Are : Phrase → List Said → Type 0
@@ -117,6 +140,7 @@ target-says (inl Nothing.nothing) = (None, IsTarget.absent)
 target-says (inr i) = index-says role.Target (λ us. (t : Option Index) × IsTarget us t) i
     (λ w x h. (_, IsTarget.there h))
 
-pub offset-says : (d : ℕ) {us : List Said} → Are (offset_body d) us → (c : Instrs) × IsOffset us c
-offset-says d (inl s) = (_, IsOffset.word (list-says d (before (behind (behind s)))).1)
-offset-says d (inr h) = (_, IsOffset.short h.1)
+pub offset-says : (d : ℕ) {us : List Said} → Are (offset_body d) us
+    → (c : Instrs) × IsOffset us c × (nesting c ≤ d)
+offset-says d (inl s) = let c = list-says d (before (behind (behind s))) in (_, IsOffset.word c.1, c.2)
+offset-says d (inr h) = (_, IsOffset.short h.1, h.2)
