@@ -12,4 +12,5 @@ pub mod Few
 pub mod Answering
 pub mod Wholes
 pub mod Written
+pub mod Joined
 mod Examples

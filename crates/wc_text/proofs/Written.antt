@@ -35,7 +35,7 @@ item-kept : {ts : List Lexeme} {e : Event} (i : Item) → IsItem ts e i → IsKe
 item-kept {ts} i h =
     subst (λ (e : Event). IsKept ts e (i.role ⊳ i.word)) (sym h.event) (IsKept.stands h.stands h.symbol h.text)
 
-items-kept : {ts : List Lexeme} {es : List Event} {is : List Item} → Each (IsItem ts) es is
+pub items-kept : {ts : List Lexeme} {es : List Event} {is : List Item} → Each (IsItem ts) es is
     → Each (IsKept ts) es (map said_by is)
 items-kept none = none
 items-kept (more {b = i} h rest) = more (item-kept i h) (items-kept rest)

@@ -1,12 +1,13 @@
 //! Laws of fields and faults. Each function only states its law: it does nothing.
 
-ghost use Rattle.std.specs.Prelude.{◌≡◌, ◌⊎◌, ℕ, List};
+ghost use Rattle.std.specs.Prelude.{◌≡◌, ◌⊎◌, ℕ, ◌≤◌, ◌^◌, List, length, map};
 ghost use Rattle.wc_tokens.specs.Standard.Lexemes.{Lexeme};
 ghost use Rattle.wc_tokens.specs.Standard.Tokens.{InOrder};
 ghost use Rattle.wc_syntax.specs.declared.why.SynWhy.{SynWhy as Reason};
 ghost use Rattle.wc_surface.specs.declared.field.Field.{Field};
 ghost use Rattle.wc_surface.specs.Standard.Sizes.{IsSurface};
 ghost use Rattle.wc_surface.specs.Standard.Written.Fields.{Field as WrittenField};
+ghost use Rattle.wc_fields.specs.Stored.Fields.{field_as};
 ghost use Rattle.wc_text.specs.Standard.Meaning.{Syn};
 ghost use Rattle.wc_text.specs.Standard.Faults.{FirstFault};
 ghost use Rattle.wc_text.specs.Standard.Productions.{SaysFields};
@@ -51,4 +52,12 @@ pub fn always_written()
         → (written : List WrittenField) × SaysFields ts written }
     ensures said { (ts : List Lexeme) (written : List WrittenField) → SaysFields ts written
         → (fields : List Field) × Syn ts fields }
+{}
+
+/// Tokens whose numbers 32 bits hold say just the fields that they say by the productions, as these are stored.
+pub fn stored_as_said()
+    ensures written { (ts : List Lexeme) (fields : List Field) → length ts ≤ 2 ^ 32 → Syn ts fields
+        → (written : List WrittenField) × SaysFields ts written × (fields ≡ map field_as written) }
+    ensures said { (ts : List Lexeme) (written : List WrittenField) → length ts ≤ 2 ^ 32 → SaysFields ts written
+        → Syn ts (map field_as written) }
 {}

@@ -13,7 +13,7 @@ use Rattle.wc_drafts.specs.Standard.Productions.Tokens.{Said, ◌⊳◌}
 use Rattle.wc_drafts.specs.Standard.Productions.Kept.{AreKept}
 use Rattle.wc_drafts.proofs.SomeValue.Spoken.{is_wide}
 use Rattle.wc_drafts.proofs.SomeValue.Phrases.{kept-split, the-kind}
-use Rattle.wc_drafts.proofs.Storing.Following.{FitsRole, Follow}
+use Rattle.wc_drafts.proofs.Storing.Following.{is_string, FitsRole, Follow}
 
 -- ---- the numbers of items
 
@@ -34,34 +34,42 @@ numbered-rise n (k ∷ ks) =
     let same : suc n + length ks ≡ n + length (k ∷ ks) = omega arith in
     (omega arith, subst (λ (hi : ℕ). ItemsRise (suc n) (numbered (suc n) ks) hi) same (numbered-rise (suc n) ks))
 
--- ---- constants have the kinds of numbers
+-- ---- constants have the kinds of numbers, and strings those of strings
 
-abbrev pub literal_kind : Role → Kind → Bool
-literal_kind role.Literal k = is_wide k
-literal_kind _ k = true
+abbrev pub role_kind : Role → Kind → Bool
+role_kind role.Literal k = is_wide k
+role_kind role.ExportName k = is_string k
+role_kind role.ModuleName k = is_string k
+role_kind role.ItemName k = is_string k
+role_kind role.Bytes k = is_string k
+role_kind _ k = true
 
--- what the phrase keeps as a constant's number is of such a kind
-abbrev pub has_literals : Phrase → Bool
-has_literals Empty = true
-has_literals (Token t) = true
-has_literals (Keep r k) = literal_kind r k
-has_literals (a · b) = has_literals a && has_literals b
-has_literals (a ∣ b) = has_literals a && has_literals b
-has_literals (Many a) = has_literals a
-has_literals (The n) = true
+-- what the phrase keeps in such a role is of such a kind
+abbrev pub has_kinds : Phrase → Bool
+has_kinds Empty = true
+has_kinds (Token t) = true
+has_kinds (Keep r k) = role_kind r k
+has_kinds (a · b) = has_kinds a && has_kinds b
+has_kinds (a ∣ b) = has_kinds a && has_kinds b
+has_kinds (Many a) = has_kinds a
+has_kinds (The n) = true
 
-rule-literals : (n : Nonterminal) → has_literals (body n) ≡ true
-rule-literals (text d) = refl
-rule-literals (modulefield d) = refl
-rule-literals (offset d) = refl
-rule-literals (instr zero) = refl
-rule-literals (instr (suc d)) = refl
-rule-literals (foldedinstr zero) = refl
-rule-literals (foldedinstr (suc d)) = refl
-rule-literals _ = refl
+rule-kinds : (n : Nonterminal) → has_kinds (body n) ≡ true
+rule-kinds (text d) = refl
+rule-kinds (modulefield d) = refl
+rule-kinds (offset d) = refl
+rule-kinds (instr zero) = refl
+rule-kinds (instr (suc d)) = refl
+rule-kinds (foldedinstr zero) = refl
+rule-kinds (foldedinstr (suc d)) = refl
+rule-kinds _ = refl
 
-fits-role : (r : Role) (w : KeptToken) (k : Kind) → w.symbol.kind ≡ k → literal_kind r k ≡ true → FitsRole r w
+fits-role : (r : Role) (w : KeptToken) (k : Kind) → w.symbol.kind ≡ k → role_kind r k ≡ true → FitsRole r w
 fits-role role.Literal w k e f = ap is_wide e ∙ f
+fits-role role.ExportName w k e f = ap is_string e ∙ f
+fits-role role.ModuleName w k e f = ap is_string e ∙ f
+fits-role role.ItemName w k e f = ap is_string e ∙ f
+fits-role role.Bytes w k e f = ap is_string e ∙ f
 fits-role _ w k e f = tt
 
 both : (a b : Bool) → (a && b) ≡ true → (a ≡ true) × (b ≡ true)
@@ -80,7 +88,7 @@ pub follow-append : (lo mid hi : ℕ) (us vs : List Said) → Follow lo us mid �
 follow-append lo mid hi [] vs h k = follow-from lo mid hi vs h k
 follow-append lo mid hi (r ⊳ w ∷ us) vs h k = (h.0, h.1, h.2, follow-append (suc w.token) mid hi us vs h.3 k)
 
-pub kept-follow : {g : Phrase} {is : List Item} {es : List Event} → Derives g is es → has_literals g ≡ true
+pub kept-follow : {g : Phrase} {is : List Item} {es : List Event} → Derives g is es → has_kinds g ≡ true
     → (lo hi : ℕ)
     → ItemsRise lo is hi → (us : List Said) → AreKept es us → Follow lo us hi
 kept-follow Derives.empty l lo hi h us AreKept.none = h
@@ -90,15 +98,15 @@ kept-follow (Derives.keeps {r = r} {c = c} e) l lo hi h us (AreKept.more {w = w}
 kept-follow (Derives.then {a = a} {b = b} {us = is} {vs = js} {es = es} {fs = fs} d e) l lo hi h us k =
     let parts = kept-split es fs us k in
     let items = items-part lo hi is js h in
-    let tests = both (has_literals a) (has_literals b) l in
+    let tests = both (has_kinds a) (has_kinds b) l in
     subst (λ (all : List Said). Follow lo all hi) (sym parts.is)
     (follow-append lo items.0 hi parts.front parts.rest
     (kept-follow d tests.0 lo items.0 items.1 parts.front parts.first)
     (kept-follow e tests.1 items.0 hi items.2 parts.rest parts.second))
 kept-follow (Derives.left {a = a} {b = b} d) l lo hi h us k =
-    kept-follow d (both (has_literals a) (has_literals b) l).0 lo hi h us k
+    kept-follow d (both (has_kinds a) (has_kinds b) l).0 lo hi h us k
 kept-follow (Derives.right {a = a} {b = b} d) l lo hi h us k =
-    kept-follow d (both (has_literals a) (has_literals b) l).1 lo hi h us k
+    kept-follow d (both (has_kinds a) (has_kinds b) l).1 lo hi h us k
 kept-follow Derives.none l lo hi h us AreKept.none = h
 kept-follow (Derives.more {a = a} {us = is} {vs = js} {es = es} {fs = fs} d e) l lo hi h us k =
     let parts = kept-split es fs us k in
@@ -107,10 +115,10 @@ kept-follow (Derives.more {a = a} {us = is} {vs = js} {es = es} {fs = fs} d e) l
     (follow-append lo items.0 hi parts.front parts.rest
     (kept-follow d l lo items.0 items.1 parts.front parts.first)
     (kept-follow e l items.0 hi items.2 parts.rest parts.second))
-kept-follow (Derives.rule {n = n} d) l lo hi h us k = kept-follow d (rule-literals n) lo hi h us k
+kept-follow (Derives.rule {n = n} d) l lo hi h us k = kept-follow d (rule-kinds n) lo hi h us k
 
 -- of numbered tokens
 pub derived-follow : {g : Phrase} {es : List Event} (n : ℕ) (ks : List Kind) (us : List Said)
-    → Derives g (numbered n ks) es → has_literals g ≡ true → AreKept es us → Follow 0 us (n + length ks)
+    → Derives g (numbered n ks) es → has_kinds g ≡ true → AreKept es us → Follow 0 us (n + length ks)
 derived-follow n ks us d l k =
     follow-from 0 n (n + length ks) us (omega arith) (kept-follow d l n (n + length ks) (numbered-rise n ks) us k)

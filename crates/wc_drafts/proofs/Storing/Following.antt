@@ -1,6 +1,8 @@
 -- Kept tokens of a text, in its order.
-use Rattle.std.proofs.Common.{◌≡◌, ℕ, suc, ◌+◌, ◌≤◌, true, List, [], ◌∷◌, ◌++◌, length}
+use Rattle.std.proofs.Common.{◌≡◌, ℕ, suc, ◌+◌, ◌≤◌, Bool, true, false, List, [], ◌∷◌, ◌++◌, length}
 use Rattle.std.proofs.Common.{refl, arith}
+use Rattle.wc_syntax.specs.declared.kind.Kind.{Kind}
+use Rattle.wc_syntax.specs.declared.kind.Kind.TheVariants as kind
 use Rattle.wc_syntax.specs.declared.role.Role.{Role}
 use Rattle.wc_syntax.specs.declared.role.Role.TheVariants as role
 use Rattle.wc_drafts.specs.declared.body_draft.BodyDraft.{BodyDraft}
@@ -11,9 +13,19 @@ use Rattle.wc_drafts.specs.Standard.Productions.Kept.{IsSpoken}
 use Rattle.wc_drafts.specs.Standard.Following.{take_said}
 use Rattle.wc_drafts.proofs.SomeValue.Spoken.{is_wide}
 
--- the number of a constant is of the kind of a number
+-- the kind is that of a string
+abbrev pub is_string : Kind → Bool
+is_string kind.Name = true
+is_string kind.Text = true
+is_string _ = false
+
+-- the number of a constant is of the kind of a number, a string of that of a string
 abbrev pub FitsRole : Role → KeptToken → Type 0
 FitsRole role.Literal w = is_wide w.symbol.kind ≡ true
+FitsRole role.ExportName w = is_string w.symbol.kind ≡ true
+FitsRole role.ModuleName w = is_string w.symbol.kind ≡ true
+FitsRole role.ItemName w = is_string w.symbol.kind ≡ true
+FitsRole role.Bytes w = is_string w.symbol.kind ≡ true
 FitsRole _ w = Unit {0}
 
 -- each is to the grammar what its text says; their numbers rise, from the first number on to below the second

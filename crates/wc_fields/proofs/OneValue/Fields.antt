@@ -181,7 +181,7 @@ same-field {w = w} {us = us} {g = g} a b =
 -- ---- fields in order
 
 -- the tokens of a field come before its end
-field-before : {w : KeptToken} {us : List Said} {f : Field} → IsField w us f → AllBefore 9 us
+pub field-before : {w : KeptToken} {us : List Said} {f : Field} → IsField w us f → AllBefore 9 us
 field-before (IsField.type_word e i s) =
     roles-append (at-before 9 refl (id-at refl i)) (at-before 9 refl (signature-at s))
 field-before (IsField.import_word e m d) = roles-append (at-before 9 refl (import-at m)) (desc-before d)

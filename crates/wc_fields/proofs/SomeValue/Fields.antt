@@ -1,5 +1,6 @@
 -- What the kept tokens of fields say, and of a text of them.
-use Rattle.std.proofs.Common.{ℕ, zero, suc, ◌≤◌, List, [], ◌∷◌, ◌++◌, Option, ◌⊎◌, inl, inr, sym, ◌∙◌, subst, append_assoc, arith}
+use Rattle.std.proofs.Common.{ℕ, zero, suc, ◌≤◌, List, [], ◌∷◌, ◌++◌, Option, ◌⊎◌, inl, inr, sym, ◌∙◌, subst}
+use Rattle.std.proofs.Common.{append_assoc, arith}
 use Rattle.wc_ast.specs.declared.export.ExportKind.{ExportKind}
 use Rattle.wc_syntax.specs.declared.kind.Kind.{Kind}
 use Rattle.wc_syntax.specs.declared.kind.Kind.TheVariants as kind
@@ -142,9 +143,19 @@ field-says d (inr (inr (inl s))) = word_then (IsWhole d) (behind s)
     (λ w rest e t s. two-parts s (λ us vs a b. let f = function-says d b in
     (_, IsField.func_word e (declared-says a).1 f.1, f.2)))
 field-says d (inr (inr (inr (inl s)))) = word_then (IsWhole d) (behind s)
-    (λ w rest e t s. two-parts s (λ us vs a b. (_, IsField.table_word e (declared-says a).1 (table-says b).1, omega arith)))
+    (λ w rest e t s. two-parts s (λ us vs a b. (
+      _,
+      IsField.table_word e (declared-says a).1
+          (table-says b).1,
+      omega arith,
+    )))
 field-says d (inr (inr (inr (inr (inl s))))) = word_then (IsWhole d) (behind s)
-    (λ w rest e t s. two-parts s (λ us vs a b. (_, IsField.memory_word e (declared-says a).1 (memory-says b).1, omega arith)))
+    (λ w rest e t s. two-parts s (λ us vs a b. (
+      _,
+      IsField.memory_word e (declared-says a).1
+          (memory-says b).1,
+      omega arith,
+    )))
 field-says d (inr (inr (inr (inr (inr (inl s)))))) = word_then (IsWhole d) (behind s)
     (λ w rest e t s. two-parts s
     (λ us vs a b. let g = global-field-says d b in

@@ -16,13 +16,8 @@ use Rattle.wc_words.specs.Words.{Says, WordIs}
 use Rattle.wc_words.specs.Tokens.{TokenIs, StringIs}
 use Rattle.wc_drafts.specs.Standard.Tokens.{KeptToken}
 use Rattle.wc_drafts.specs.Standard.Productions.Kept.{IsSpoken}
+use Rattle.wc_drafts.proofs.Storing.Following.{is_string}
 use Rattle.wc_fields.specs.Standard.Productions.Parts.{IsName}
-
--- the kind is that of a string
-abbrev pub is_string : Kind → Bool
-is_string kind.Name = true
-is_string kind.Text = true
-is_string _ = false
 
 -- the kind is that of a name
 abbrev pub is_name : Kind → Bool
@@ -94,6 +89,16 @@ token-string token.Id text s t e = never (ap (λ (s : Symbol). is_string s.kind)
 token-string token.Str text s t e = t
 token-string token.Word text s (WordIs.known t) e = never (word-no-string t) e
 token-string token.Word text s (WordIs.other n) e = absurd (no e)
+
+-- it has the form of one
+pub string-form : (form : TokenKind) (text : List ℕ) (s : Symbol) → TokenIs form text s → is_string s.kind ≡ true
+    → form ≡ token.Str
+string-form token.Open text s t e = never (ap (λ (s : Symbol). is_string s.kind) t) e
+string-form token.Close text s t e = never (ap (λ (s : Symbol). is_string s.kind) t) e
+string-form token.Id text s t e = never (ap (λ (s : Symbol). is_string s.kind) t) e
+string-form token.Str text s t e = refl
+string-form token.Word text s (WordIs.known t) e = never (word-no-string t) e
+string-form token.Word text s (WordIs.other n) e = absurd (no e)
 
 -- a string, as a kept token
 pub spoken-string : {w : KeptToken} {k : Kind} → w.symbol.kind ≡ k → is_string k ≡ true → IsSpoken w

@@ -45,7 +45,8 @@ use-no-string role.ParamType e = refl
 use-no-string role.ResultType e = refl
 use-no-string _ e = absurd (no e)
 
-module _ {k : Kind} {t : ℕ} {n : Names} {x : ExportKind} {l : LocalsDraft} {m : Limits} {g : GlobalType} {c : Contents} where
+module _ {k : Kind} {t : ℕ} {n : Names} {x : ExportKind} {l : LocalsDraft} {m : Limits} {g : GlobalType}
+    {c : Contents} where
   use-part : (r : Role) (w : KeptToken) (u : UseDraft) → is_use r ≡ true
       → take_word (draft k t n x u l m g c no_code) r w ≡ draft k t n x (take_use u r w) l m g c no_code
   use-part role.TypeIndex w u e = refl
@@ -54,14 +55,16 @@ module _ {k : Kind} {t : ℕ} {n : Names} {x : ExportKind} {l : LocalsDraft} {m 
   use-part role.ResultType w u e = refl
   use-part _ w u e = absurd (no e)
 
-  uses-taken : {e : FieldDraft} {us rest : List Said} {u : UseDraft} → AllRoles is_use us → Takes (draft k t n x u l m g c no_code) (us ++ rest) e
+  uses-taken : {e : FieldDraft} {us rest : List Said} {u : UseDraft} → AllRoles is_use us
+      → Takes (draft k t n x u l m g c no_code) (us ++ rest) e
       → Takes (draft k t n x (take_uses u us) l m g c no_code) rest e
   uses-taken AllRoles.none h = h
   uses-taken {e = e} {rest = rest} {u = u} (AllRoles.more {r = r} {w = w} {us = us} p others) h =
       uses-taken others
       (subst (λ (d : FieldDraft). Takes d (us ++ rest) e) (use-part r w u p) (one-word (use-no-string r p) h))
 
-  pub use-taken : {e : FieldDraft} {us rest : List Said} {u : UseDraft} {y : TypeUse} → IsTypeUse us y → Takes (draft k t n x u l m g c no_code) (us ++ rest) e
+  pub use-taken : {e : FieldDraft} {us rest : List Said} {u : UseDraft} {y : TypeUse} → IsTypeUse us y
+      → Takes (draft k t n x u l m g c no_code) (us ++ rest) e
       → Takes (draft k t n x (take_uses u us) l m g c no_code) rest e
   use-taken i h = uses-taken (type_use-roles i) h
 
@@ -124,7 +127,8 @@ module _ {k : Kind} {t : ℕ} {n : Names} {x : ExportKind} {u : UseDraft} {l : L
   first-part role.ResultType w d p q = absurd (wrong q)
   first-part _ w d p q = absurd (no p)
 
-  begun-taken : {e : FieldDraft} {us rest : List Said} {d : BodyDraft} → AllRoles is_code us → Takes (draft k t n x u l m g c (code_of true d)) (us ++ rest) e
+  begun-taken : {e : FieldDraft} {us rest : List Said} {d : BodyDraft} → AllRoles is_code us
+      → Takes (draft k t n x u l m g c (code_of true d)) (us ++ rest) e
       → Takes (draft k t n x u l m g c (code_of true (take_said d us))) rest e
   begun-taken AllRoles.none h = h
   begun-taken {e = e} {rest = rest} {d = d} (AllRoles.more {r = r} {w = w} {us = us} p others) h =
@@ -132,7 +136,8 @@ module _ {k : Kind} {t : ℕ} {n : Names} {x : ExportKind} {u : UseDraft} {l : L
       (subst (λ (d : FieldDraft). Takes d (us ++ rest) e) (code-part r w d p) (one-word (code-no-string r p) h))
 
   roles-taken : {e : FieldDraft} {us rest : List Said} {d : BodyDraft} → AllRoles is_code us → Starts 4 us
-      → Takes (draft k t n x u l m g c (code_of false d)) (us ++ rest) e → (begun : Bool) × Takes (draft k t n x u l m g c (code_of begun (take_said d us))) rest e
+      → Takes (draft k t n x u l m g c (code_of false d)) (us ++ rest) e
+      → (begun : Bool) × Takes (draft k t n x u l m g c (code_of begun (take_said d us))) rest e
   roles-taken AllRoles.none s h = (false, h)
   roles-taken {e = e} {rest = rest} {d = d} (AllRoles.more {r = r} {w = w} {us = us} p others) (Starts.at q) h = (
     true,
@@ -141,5 +146,6 @@ module _ {k : Kind} {t : ℕ} {n : Names} {x : ExportKind} {u : UseDraft} {l : L
   )
 
   pub code-taken : {e : FieldDraft} {us rest : List Said} {d : BodyDraft} {p : Part} {y : Instrs} → Says p us y
-      → Takes (draft k t n x u l m g c (code_of false d)) (us ++ rest) e → (begun : Bool) × Takes (draft k t n x u l m g c (code_of begun (take_said d us))) rest e
+      → Takes (draft k t n x u l m g c (code_of false d)) (us ++ rest) e
+      → (begun : Bool) × Takes (draft k t n x u l m g c (code_of begun (take_said d us))) rest e
   code-taken s h = roles-taken (code-roles s) (code-starts refl s) h

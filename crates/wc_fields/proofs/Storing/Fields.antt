@@ -52,7 +52,8 @@ use Rattle.wc_fields.proofs.SomeValue.Parts.{function_nesting, global_nesting, f
 use Rattle.wc_fields.proofs.Storing.Taking.{one-word, last, finishes, begins}
 use Rattle.wc_fields.proofs.Storing.Code.{use-taken, code-taken}
 use Rattle.wc_fields.proofs.Storing.Parts.{in-two, id-taken, declared-taken, import-taken, inline-taken}
-use Rattle.wc_fields.proofs.Storing.Parts.{item-taken, kind-taken, locals-taken, limits-taken, global-taken, index-taken}
+use Rattle.wc_fields.proofs.Storing.Parts.{item-taken, kind-taken, locals-taken, limits-taken, global-taken}
+use Rattle.wc_fields.proofs.Storing.Parts.{index-taken}
 use Rattle.wc_fields.proofs.Storing.Parts.{target-taken, elements-taken, strings-taken}
 
 -- ---- type uses and instructions
@@ -212,14 +213,16 @@ field-stored lo hi {w = w} (IsField.global_word {us = us} {vs = vs} k a h) f sma
     let p = part lo hi us vs f in global-stored p.mid hi w k a h p.last small deep e t
 field-stored lo hi {w = w} (IsField.export_word k n x i) f small deep e t = export-stored w k n x i f.3.3.0 e t
 field-stored lo hi {w = w} (IsField.start_word k i) f small deep e t = finishes (index-taken i f.0 (begins w k t))
-field-stored lo hi {w = w} (IsField.elem_word {us = us} {vs = vs} {ws = ws} {t = y} {xs = xs} k a o x) f small deep e t =
+field-stored lo hi {w = w} (IsField.elem_word {us = us} {vs = vs} {ws = ws} {t = y}
+    {xs = xs} k a o x) f small deep e t =
     let p = part lo hi (us ++ vs) ws f in
     let q = part lo p.mid us vs p.first in
     let c = (offset-part o).1 in
     let offset = code-taken c (target-taken lo q.mid a q.first (in-two us vs ws (begins w k t))) in
     finishes (elements-taken p.mid hi false (option_map index_as y) [] [] x p.last (last offset.1))
     ∙ elem-by (option_map index_as y) (map index_as xs) (body-is q.mid p.mid c q.last (inner hi p small) deep)
-field-stored lo hi {w = w} (IsField.data_word {us = us} {vs = vs} {ws = ws} {m = y} {bytes = bytes} k a o s) f small deep e t =
+field-stored lo hi {w = w} (IsField.data_word {us = us} {vs = vs} {ws = ws} {m = y}
+    {bytes = bytes} k a o s) f small deep e t =
     let p = part lo hi (us ++ vs) ws f in
     let q = part lo p.mid us vs p.first in
     let c = (offset-part o).1 in

@@ -30,7 +30,8 @@ use Rattle.wc_fields.specs.declared.field_draft.FieldDraft.{FieldDraft}
 use Rattle.wc_fields.specs.Standard.Fields.{name_of, with_export, with_inline_export, described, with_local, with_min}
 use Rattle.wc_fields.specs.Standard.Fields.{with_max, with_value_type, first_limits, first_global}
 use Rattle.wc_fields.specs.Standard.Following.{Takes}
-use Rattle.wc_fields.specs.Standard.Productions.Parts.{IsKeyword, IsName, AreStrings, AreElements, AreExports, IsDeclared}
+use Rattle.wc_fields.specs.Standard.Productions.Parts.{IsKeyword, IsName, AreStrings, AreElements, AreExports}
+use Rattle.wc_fields.specs.Standard.Productions.Parts.{IsDeclared}
 use Rattle.wc_fields.specs.Standard.Productions.Parts.{IsImport, IsInlineImport, AreUnnamed, IsLocal, AreLocals}
 use Rattle.wc_fields.specs.Standard.Productions.Parts.{AreLimits, IsGlobalType, IsTarget}
 use Rattle.wc_fields.specs.Stored.Fields.{local_as}
@@ -59,16 +60,19 @@ module _ {k : Kind} {t : ℕ} {x : ExportKind} {u : UseDraft} {l : LocalsDraft} 
 
   exports-taken : Inline k → (i : Option Identifier) (im : Option ℕ) (mo it : List ℕ) (xs : List (List ℕ))
       {us rest : List Said} {ns : List (List ℕ)} → AreExports us ns
-      → Takes (draft k t (names i xs im mo it) x u l m g c b) (us ++ rest) e → Takes (draft k t (names i (xs ++ ns) im mo it) x u l m g c b) rest e
+      → Takes (draft k t (names i xs im mo it) x u l m g c b) (us ++ rest) e
+      → Takes (draft k t (names i (xs ++ ns) im mo it) x u l m g c b) rest e
   exports-taken f i im mo it xs {rest = rest} AreExports.none h =
-      subst (λ (ys : List (List ℕ)). Takes (draft k t (names i ys im mo it) x u l m g c b) rest e) (sym (append-nil xs)) h
+      subst (λ (ys : List (List ℕ)). Takes (draft k t (names i ys im mo it) x u l m g c b) rest e)
+      (sym (append-nil xs)) h
   exports-taken f i im mo it xs {rest = rest} (AreExports.more {us = us} {name = name} {names = ns} n others) h =
       let before : Names = names i xs im mo it in
       let one : Takes (draft k t (with_inline_export name before) x u l m g c b) (us ++ rest) e =
       subst (λ (n : Names). Takes (draft k t n x u l m g c b) (us ++ rest) e)
       (ap (λ (s : List ℕ). with_export k s before) (sym (name-kept name n.utf8)) ∙ f name before)
       (one-string refl n.string h) in
-      subst (λ (ys : List (List ℕ)). Takes (draft k t (names i ys im mo it) x u l m g c b) rest e) (append_assoc xs (name ∷ []) ns)
+      subst (λ (ys : List (List ℕ)). Takes (draft k t (names i ys im mo it) x u l m g c b) rest e)
+      (append_assoc xs (name ∷ []) ns)
       (exports-taken f i im mo it (xs ++ name ∷ []) others one)
 
   pub declared-taken : Inline k → {im : Option ℕ} {mo it : List ℕ} {us rest : List Said} {d : Declared}
@@ -78,12 +82,14 @@ module _ {k : Kind} {t : ℕ} {x : ExportKind} {u : UseDraft} {l : LocalsDraft} 
       exports-taken f i im mo it [] n (id-taken a (in-two us vs rest h))
 
   pub import-taken : {w : KeptToken} {i : Option Identifier} {xs : List (List ℕ)} {im : Option ℕ}
-      {us rest : List Said} {y : Import} → IsImport w us y → Takes (draft k t (names i xs im [] []) x u l m g c b) (us ++ rest) e
+      {us rest : List Said} {y : Import} → IsImport w us y → Takes (draft k t (names i xs im [] []) x u l m g c b)
+      (us ++ rest) e
       → Takes (draft k t (names i xs im y.«module» y.item) x u l m g c b) rest e
   import-taken {i = i} {xs = xs} {im = im} {rest = rest}
       (IsImport.names {module_name = mo} {item_name = it} a n) h =
       subst (λ (s : List ℕ). Takes (draft k t (names i xs im s it) x u l m g c b) rest e) (sym (name-kept mo a.utf8))
-      (subst (λ (s : List ℕ). Takes (draft k t (names i xs im (name_of mo) s) x u l m g c b) rest e) (sym (name-kept it n.utf8))
+      (subst (λ (s : List ℕ). Takes (draft k t (names i xs im (name_of mo) s) x u l m g c b) rest e)
+      (sym (name-kept it n.utf8))
       (one-string refl n.string (one-string refl a.string h)))
 
   pub inline-taken : {i : Option Identifier} {xs : List (List ℕ)} {us rest : List Said} {y : Import}
@@ -122,26 +128,31 @@ locals_so xs = record { id = None; locals = xs }
 module _ {k : Kind} {t : ℕ} {n : Names} {x : ExportKind} {u : UseDraft} {m : Limits} {g : GlobalType}
     {c : Contents} {b : CodeDraft} {e : FieldDraft} where
   unnamed-taken : (xs : List StoredLocal) {us rest : List Said} {ls : List Local} → AreUnnamed us ls
-      → Takes (draft k t n x u (locals_so xs) m g c b) (us ++ rest) e → Takes (draft k t n x u (locals_so (xs ++ map local_as ls)) m g c b) rest e
+      → Takes (draft k t n x u (locals_so xs) m g c b) (us ++ rest) e
+      → Takes (draft k t n x u (locals_so (xs ++ map local_as ls)) m g c b) rest e
   unnamed-taken xs {rest = rest} AreUnnamed.none h =
       subst (λ (ys : List StoredLocal). Takes (draft k t n x u (locals_so ys) m g c b) rest e) (sym (append-nil xs)) h
   unnamed-taken xs {rest = rest} (AreUnnamed.more {w = w} {t = ty} {us = us} {ls = ls} f others) h =
       let one : StoredLocal = record { id = None; ty = ty; token = w.token } in
-      subst (λ (ys : List StoredLocal). Takes (draft k t n x u (locals_so ys) m g c b) rest e) (append_assoc xs (one ∷ []) (map local_as ls))
+      subst (λ (ys : List StoredLocal). Takes (draft k t n x u (locals_so ys) m g c b) rest e)
+      (append_assoc xs (one ∷ []) (map local_as ls))
       (unnamed-taken (xs ++ one ∷ []) others
       (subst (λ (v : Value). Takes (draft k t n x u (with_local v w.token (record { id = None; locals = xs })) m g c b)
       (us ++ rest) e) f (one-word refl h)))
 
   local-taken : (xs : List StoredLocal) {us rest : List Said} {ls : List Local} → IsLocal us ls
-      → Takes (draft k t n x u (locals_so xs) m g c b) (us ++ rest) e → Takes (draft k t n x u (locals_so (xs ++ map local_as ls)) m g c b) rest e
+      → Takes (draft k t n x u (locals_so xs) m g c b) (us ++ rest) e
+      → Takes (draft k t n x u (locals_so (xs ++ map local_as ls)) m g c b) rest e
   local-taken xs {rest = rest} (IsLocal.one {w = w} (bytes {w = i} p) f) h =
       let id : Identifier = record { token = i.token; text = i.text } in
-      subst (λ (v : Value). Takes (draft k t n x u (with_local v w.token (record { id = Some id; locals = xs })) m g c b) rest e) f
+      subst (λ (v : Value). Takes (draft k t n x u (with_local v w.token
+      (record { id = Some id; locals = xs })) m g c b) rest e) f
       (one-word refl (one-word refl h))
   local-taken xs (IsLocal.several ls) h = unnamed-taken xs ls h
 
   pub locals-taken : (xs : List StoredLocal) {us rest : List Said} {ls : List Local} → AreLocals us ls
-      → Takes (draft k t n x u (locals_so xs) m g c b) (us ++ rest) e → Takes (draft k t n x u (locals_so (xs ++ map local_as ls)) m g c b) rest e
+      → Takes (draft k t n x u (locals_so xs) m g c b) (us ++ rest) e
+      → Takes (draft k t n x u (locals_so (xs ++ map local_as ls)) m g c b) rest e
   locals-taken xs {rest = rest} AreLocals.none h =
       subst (λ (ys : List StoredLocal). Takes (draft k t n x u (locals_so ys) m g c b) rest e) (sym (append-nil xs)) h
   locals-taken xs {rest = rest} (AreLocals.more {us = us} {vs = vs} {ks = ks} {ls = ls} a others) h =
@@ -161,7 +172,8 @@ module _ {k : Kind} {t : ℕ} {n : Names} {x : ExportKind} {u : UseDraft} {l : L
   pub limits-taken : (lo hi : ℕ) {us rest : List Said} {m : Limits} → AreLimits us m → Follow lo us hi
       → Takes (draft k t n x u l first_limits g c b) (us ++ rest) e → Takes (draft k t n x u l m g c b) rest e
   limits-taken lo hi {rest = rest} (AreLimits.least a) f h =
-      subst (λ (v : Option ℕ). Takes (draft k t n x u l (with_min v first_limits) g c b) rest e) (number-in f.0 a) (one-word refl h)
+      subst (λ (v : Option ℕ). Takes (draft k t n x u l (with_min v first_limits) g c b) rest e) (number-in f.0 a)
+      (one-word refl h)
   limits-taken lo hi {rest = rest} (AreLimits.both {x = y} {n = least} a d) f h =
       subst (λ (v : Option ℕ). Takes (draft k t n x u l (with_max v (record { min = least; max = None })) g c b) rest e)
       (number-in f.3.0 d) (one-word refl
@@ -177,7 +189,8 @@ module _ {k : Kind} {t : ℕ} {n : Names} {x : ExportKind} {u : UseDraft} {l : L
   global-taken {rest = rest} (IsGlobalType.constant f) h =
       subst (λ (v : Value). Takes (draft k t n x u l m (with_value_type v first_global) c b) rest e) f (one-word refl h)
   global-taken {rest = rest} (IsGlobalType.variable f) h =
-      subst (λ (v : Value). Takes (draft k t n x u l m (with_value_type v (record first_global { mutable = true })) c b) rest e) f
+      subst (λ (v : Value). Takes (draft k t n x u l m (with_value_type v
+      (record first_global { mutable = true })) c b) rest e) f
       (one-word refl (one-word refl h))
 
 -- ---- what stands in segments
@@ -189,7 +202,8 @@ module _ {k : Kind} {t : ℕ} {n : Names} {x : ExportKind} {u : UseDraft} {l : L
       → Takes (draft k t n x u l m g (contents inside y xs bs) b) (role.Target ⊳ w ∷ rest) e
       → Takes (draft k t n x u l m g (contents inside (Some (index_as i)) xs bs) b) rest e
   index-taken {inside = inside} {xs = xs} {bs = bs} {rest = rest} i s h =
-      subst (λ (y : StoredIndex). Takes (draft k t n x u l m g (contents inside (Some y) xs bs) b) rest e) (stored-index s i)
+      subst (λ (y : StoredIndex). Takes (draft k t n x u l m g (contents inside (Some y) xs bs) b) rest e)
+      (stored-index s i)
       (one-word refl h)
 
   pub target-taken : (lo hi : ℕ) {inside : Bool} {xs : List StoredIndex} {bs : List ℕ} {us rest : List Said}
@@ -204,8 +218,10 @@ module _ {k : Kind} {t : ℕ} {n : Names} {x : ExportKind} {u : UseDraft} {l : L
       → Takes (draft k t n x u l m g (contents inside y xs bs) b) (us ++ rest) e
       → Takes (draft k t n x u l m g (contents inside y (xs ++ map index_as is) bs) b) rest e
   elements-taken lo hi inside y xs bs {rest = rest} AreElements.none f h =
-      subst (λ (ys : List StoredIndex). Takes (draft k t n x u l m g (contents inside y ys bs) b) rest e) (sym (append-nil xs)) h
-  elements-taken lo hi inside y xs bs {rest = rest} (AreElements.more {w = w} {us = us} {x = i} {xs = is} a others) f h =
+      subst (λ (ys : List StoredIndex). Takes (draft k t n x u l m g (contents inside y ys bs) b) rest e)
+      (sym (append-nil xs)) h
+  elements-taken lo hi inside y xs bs {rest = rest} (AreElements.more {w = w} {us = us} {x = i}
+      {xs = is} a others) f h =
       subst (λ (ys : List StoredIndex). Takes (draft k t n x u l m g (contents inside y ys bs) b) rest e)
       (append_assoc xs (index_as i ∷ []) (map index_as is))
       (elements-taken (suc w.token) hi inside y (xs ++ index_as i ∷ []) bs others f.3
@@ -219,5 +235,6 @@ module _ {k : Kind} {t : ℕ} {n : Names} {x : ExportKind} {u : UseDraft} {l : L
   strings-taken inside y xs bs {rest = rest} AreStrings.none h =
       subst (λ (ys : List ℕ). Takes (draft k t n x u l m g (contents inside y xs ys) b) rest e) (sym (append-nil bs)) h
   strings-taken inside y xs bs {rest = rest} (AreStrings.more {bytes = front} {others = back} s others) h =
-      subst (λ (ys : List ℕ). Takes (draft k t n x u l m g (contents inside y xs ys) b) rest e) (append_assoc bs front back)
+      subst (λ (ys : List ℕ). Takes (draft k t n x u l m g (contents inside y xs ys) b) rest e)
+      (append_assoc bs front back)
       (strings-taken inside y xs (bs ++ front) others (one-string refl s h))
