@@ -30,7 +30,7 @@ use Rattle.wc_fields.proofs.SomeValue.Parts.{Shallow}
 use Rattle.wc_fields.proofs.SomeValue.Fields.{text-say}
 use Rattle.wc_fields.proofs.Storing.Fields.{field-stored}
 use Rattle.wc_text.specs.declared.text_draft.TextDraft.{TextDraft}
-use Rattle.wc_text.specs.Standard.Texts.{Item, nothing, take_by, take_items, said}
+use Rattle.wc_text.specs.Standard.Texts.{Item, take_by, take_items}
 use Rattle.wc_text.specs.Standard.Meaning.{Each, none, more, StandsFor, IsItem, Syn}
 use Rattle.wc_text.specs.Standard.Productions.{SaysFields}
 use Rattle.wc_text.proofs.Pairs.{each-length}
