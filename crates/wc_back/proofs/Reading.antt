@@ -22,6 +22,6 @@ text-of m fits locals rules printable short = record {
   tokens = lexemes (layout m);
   fields = text_fields m;
   lexes = Lexes-text (layout m) printable short;
-  says = syntax-of m fits printable;
+  says = syntax-of m fits printable short;
   names = named m (names-known m rules locals (bodies-few m (signs-few m printable short)));
 }

@@ -20,7 +20,7 @@ use Rattle.wc_drafts.specs.declared.word.Word.{Word}
 use Rattle.wc_drafts.specs.declared.body_draft.BodyDraft.{BodyDraft}
 use Rattle.wc_drafts.specs.Standard.Taking.{take}
 use Rattle.wc_fields.specs.declared.field_draft.FieldDraft.{FieldDraft}
-use Rattle.wc_text.specs.Standard.Texts.{Item, take_by, take_items}
+use Rattle.wc_text.specs.Kept.Texts.{Item, take_by, take_items}
 use Rattle.wc_text.specs.declared.text_draft.TextDraft.{TextDraft}
 use Rattle.wc_told.specs.Words.{word_of, taken}
 use Rattle.wc_reread.specs.Items.{bytes_in, item_before, items_from}

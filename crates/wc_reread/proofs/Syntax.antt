@@ -1,14 +1,16 @@
 -- The printed text says its fields.
-use Rattle.std.proofs.Common.{◌≡◌, ℕ, suc, List, [], ◌∷◌, map, drop, refl, sym, ap, subst, Option, Some, None, length, arith}
+use Rattle.std.proofs.Common.{◌≡◌, ℕ, suc, ◌≤◌, List, [], ◌∷◌, map, drop, refl, sym, ap, subst, Option, Some, None, length, arith}
 use Rattle.std.specs.List.{AllByRecursion}
 use Rattle.wc_ast.specs.declared.module.Module.{Module}
 use Rattle.wc_body.specs.Standard.Nested.{nesting_limit}
-use Rattle.wc_tokens.specs.Standard.Lexemes.{Lexeme, spanned}
+use Rattle.wc_tokens.specs.Standard.Lexemes.{Lexeme, spanned, longest}
+use Rattle.wc_tokens.proofs.Lexing.SpanLaws.{InOrder-Lexed}
 use Rattle.wc_syntax.specs.declared.role.Role.{Role}
 use Rattle.wc_print.specs.Printed.{Printed, opening, closing, word, number, integer, part, quoted, kind_of, spelled, text}
 use Rattle.wc_print.specs.Printed.{Item as Place, token_of, lexemes_in, lexemes}
 use Rattle.wc_print.specs.Printable.{IsSpelled, AreSpelled, IsPrintable}
 use Rattle.wc_print.specs.Layout.{layout}
+use Rattle.wc_print.proofs.Lexing.{Lexes-text}
 use Rattle.wc_print.proofs.ReadStrings.{IsString-escaped}
 use Rattle.wc_printed.specs.Signs.{Sign}
 use Rattle.wc_printed.specs.Fields.{signs}
@@ -20,8 +22,12 @@ use Rattle.wc_printed.proofs.Same.{tokens_of, whole as same}
 use Rattle.wc_printed.proofs.Told.{head, tail}
 use Rattle.wc_printed.proofs.Standing.{past}
 use Rattle.wc_printed.proofs.Whole.{module-means}
-use Rattle.wc_text.specs.Standard.Texts.{Item}
-use Rattle.wc_text.specs.Standard.Meaning.{Each, none, more, HasKind, StandsFor, IsItem, Syn}
+use Rattle.wc_text.specs.Kept.Texts.{Item}
+use Rattle.wc_text.specs.Standard.Kinds.{Each, none, more, HasKind}
+use Rattle.wc_text.specs.Standard.Meaning.{Syn}
+use Rattle.wc_text.specs.Kept.Folds.{StandsFor, IsItem, Folds}
+use Rattle.wc_text.proofs.Forms.{few-tokens}
+use Rattle.wc_text.proofs.Joined.{folds-say}
 use Rattle.wc_reread.specs.Items.{bytes_in, item_as, item_before, items_from, items}
 use Rattle.wc_reread.specs.Surface.{text_fields}
 use Rattle.wc_reread.proofs.Whole.{whole}
@@ -77,8 +83,8 @@ module _ (addresses : ℕ → ℕ × ℕ) (ts : List Lexeme) where
 abbrev nowhere : ℕ → ℕ × ℕ
 nowhere n = (0, 0)
 
-pub syntax-of : (m : Module) → Fits m → IsPrintable (layout m) → Syn (lexemes (layout m)) (text_fields m)
-syntax-of m h p =
+pub folds-of : (m : Module) → Fits m → IsPrintable (layout m) → Folds (lexemes (layout m)) (text_fields m)
+folds-of m h p =
     let means = module-means nesting_limit (omega arith) m h in
     let size = length (text (layout m)) in
     record {
@@ -88,5 +94,13 @@ syntax-of m h p =
       text = means.derives 0;
       items = items nowhere m;
       are_items = are-items nowhere (lexemes (layout m)) size 0 (layout m) (signs m) refl (same m).same means.says p.spelled;
-      says = sym (whole nowhere m h);
+      gives = sym (whole nowhere m h);
     }
+
+pub syntax-of : (m : Module) → Fits m → IsPrintable (layout m) → length (text (layout m)) ≤ longest
+    → Syn (lexemes (layout m)) (text_fields m)
+syntax-of m h p short =
+    let ts = lexemes (layout m) in
+    let l = Lexes-text (layout m) p short in
+    let order = InOrder-Lexed l.lexed l.short (omega arith) 0 (omega arith) in
+    folds-say ts (text_fields m) (few-tokens ts order) (folds-of m h p)

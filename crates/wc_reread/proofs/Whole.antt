@@ -12,7 +12,7 @@ use Rattle.wc_printed.specs.Fields.{export_signs, start_signs, elem_signs, data_
 use Rattle.wc_printed.specs.Fitting.{FitsOptional, FitsLimits, FitsImport, FitsFunc, FitsGlobal, FitsExport, FitsElem}
 use Rattle.wc_printed.specs.Fitting.{FitsData, Fits}
 use Rattle.wc_text.specs.declared.text_draft.TextDraft.{TextDraft}
-use Rattle.wc_text.specs.Standard.Texts.{said}
+use Rattle.wc_text.specs.Kept.Texts.{said}
 use Rattle.wc_reread.specs.Items.{items}
 use Rattle.wc_reread.specs.Surface.{type_field, import_field, func_field, table_field, memory_field, global_field}
 use Rattle.wc_reread.specs.Surface.{export_field, start_field, elem_field, data_field, start_along, text_fields}

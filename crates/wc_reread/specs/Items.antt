@@ -6,7 +6,7 @@ use Rattle.wc_print.specs.Printed.{Printed, opening, closing, word, number, inte
 use Rattle.wc_printed.specs.Signs.{Sign}
 use Rattle.wc_printed.specs.Fields.{signs}
 use Rattle.wc_printed.specs.Kept.{said_as}
-use Rattle.wc_text.specs.Standard.Texts.{Item}
+use Rattle.wc_text.specs.Kept.Texts.{Item}
 use Rattle.wc_told.specs.Words.{word_of}
 
 -- what a string stands for; nothing, where it is no string

@@ -1,13 +1,15 @@
 //! Laws of printed texts that are read. Each function only states its law: it does nothing.
 
-ghost use Rattle.std.specs.Prelude.{◌≡◌, ℕ};
+ghost use Rattle.std.specs.Prelude.{◌≡◌, ℕ, ◌≤◌, length};
+ghost use Rattle.wc_tokens.specs.Standard.Lexemes.{longest};
 ghost use Rattle.wc_ast.specs.declared.module.Module.{Module};
 ghost use Rattle.wc_print.specs.Layout.{layout};
 ghost use Rattle.wc_print.specs.Printable.{IsPrintable};
-ghost use Rattle.wc_print.specs.Printed.{lexemes};
+ghost use Rattle.wc_print.specs.Printed.{text, lexemes};
 ghost use Rattle.wc_printed.specs.Fitting.{Fits};
 ghost use Rattle.wc_text.specs.Standard.Meaning.{Syn};
-ghost use Rattle.wc_text.specs.Standard.Texts.{said};
+ghost use Rattle.wc_text.specs.Kept.Folds.{Folds};
+ghost use Rattle.wc_text.specs.Kept.Texts.{said};
 ghost use Rattle.wc_reread.specs.Items.{items};
 ghost use Rattle.wc_reread.specs.Surface.{text_fields};
 
@@ -16,7 +18,10 @@ pub fn reread()
     ensures { (addresses : ℕ → ℕ × ℕ) (m : Module) → Fits m → said (items addresses m) ≡ text_fields m }
 {}
 
-/// So the tokens of a printed text are a text, and these are the fields that it says.
+/// So the tokens of a printed text are a text, whose kept tokens give its fields; and where the text isn't too long,
+/// these are the fields that it says.
 pub fn printed_says()
-    ensures { (m : Module) → Fits m → IsPrintable (layout m) → Syn (lexemes (layout m)) (text_fields m) }
+    ensures given { (m : Module) → Fits m → IsPrintable (layout m) → Folds (lexemes (layout m)) (text_fields m) }
+    ensures says { (m : Module) → Fits m → IsPrintable (layout m) → length (text (layout m)) ≤ longest
+        → Syn (lexemes (layout m)) (text_fields m) }
 {}

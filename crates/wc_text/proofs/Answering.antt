@@ -1,5 +1,5 @@
 -- Tokens say one list of fields, or have one first fault.
-use Rattle.std.proofs.Common.{◌≡◌, ℕ, List, [], ◌∷◌, drop, ◌⊎◌, inl, inr, refl, sym, ap}
+use Rattle.std.proofs.Common.{◌≡◌, ℕ, List, [], ◌∷◌, map, ◌⊎◌, inl, inr, refl, sym, ap}
 use Rattle.std.proofs.Common.{subst, ◌∙◌}
 use Rattle.std.proofs.Common.{Result, Ok, Err, IfOk, IfErr, IsErrAnd, MatchResult}
 use Rattle.std.specs.List.{AllByRecursion}
@@ -14,75 +14,42 @@ use Rattle.wc_syntax.specs.Deriving.{Event, kept, at}
 use Rattle.wc_syntax.specs.Parsing.{IsText}
 use Rattle.wc_syntax.specs.Reading.{Standing}
 use Rattle.wc_syntax.proofs.Exactness.{always-one as kinds-always-one, not-both as kinds-not-both}
-use Rattle.wc_syntax.proofs.Exactness.{one-list as kinds-one-list, one-fault as kinds-one-fault}
-use Rattle.wc_words.specs.declared.symbol.Symbol.{Symbol}
-use Rattle.wc_words.proofs.RangeLemmas.{TokenIs-same}
+use Rattle.wc_syntax.proofs.Exactness.{one-fault as kinds-one-fault}
 use Rattle.wc_drafts.specs.Standard.Tokens.{kept_token}
 use Rattle.wc_surface.specs.declared.field.Field.{Field}
 use Rattle.wc_surface.specs.Standard.Sizes.{IsSurface}
+use Rattle.wc_surface.specs.Standard.Written.Fields.{Field as WrittenField}
+use Rattle.wc_fields.specs.Stored.Fields.{field_as}
 use Rattle.wc_text.specs.declared.text_draft.TextDraft.{TextDraft}
 use Rattle.wc_text.specs.declared.fault.SynFault.{SynFault}
 use Rattle.wc_text.specs.declared.fault.SynFault.TheVariants.{Bad, Memory}
-use Rattle.wc_text.specs.Standard.Texts.{Item, said}
-use Rattle.wc_text.specs.Standard.Meaning.{Each, none, more, HasKind, StandsFor, IsItem, Syn}
+use Rattle.wc_text.specs.Kept.Texts.{Item, said}
+use Rattle.wc_text.specs.Standard.Kinds.{Each, none, more, HasKind}
+use Rattle.wc_text.specs.Standard.Meaning.{Syn}
+use Rattle.wc_text.specs.Kept.Folds.{StandsFor, IsItem}
 use Rattle.wc_text.specs.Standard.Faults.{FirstFault, IsFault}
 use Rattle.wc_text.specs.Kept.SaidSoFar.{IsAllSaid}
-use Rattle.wc_text.proofs.Pairs.{each-same}
-use Rattle.wc_text.proofs.Forms.{some-kinds}
-use Rattle.wc_text.proofs.Strings.{stands-same, some-meaning}
+use Rattle.wc_text.proofs.Forms.{some-kinds, one-kinds, few-tokens}
+use Rattle.wc_text.proofs.Strings.{some-meaning}
+use Rattle.wc_text.proofs.Written.{one-written}
+use Rattle.wc_text.proofs.Joined.{folds-say, says-folds}
 use Rattle.wc_text.proofs.Weights.{item_of, kept-have}
 use Rattle.wc_text.proofs.Few.{fewer-than-bytes}
 use Rattle.wc_text.proofs.Kept.{Stands, IsThere, all-there}
-
--- ---- each token is one kind, and each kept one says one thing
-
-one-kind : (t : Lexeme) (k l : Kind) → HasKind t k → HasKind t l → k ≡ l
-one-kind t k l (s, g, e) (o, h, f) = let same : s ≡ o = TokenIs-same t.kind t.text s o g h in cc
-
-pub one-kinds : {ts : List Lexeme} {ks ls : List Kind} → Each HasKind ts ks → Each HasKind ts ls → ks ≡ ls
-one-kinds a b = each-same one-kind a b
-
-abbrev parts : Role → ℕ → Symbol → List ℕ → List ℕ → Item
-parts r n s text bytes = record { role = r; word = kept_token n s text; bytes = bytes }
-
-same-item : (i j : Item) → i.role ≡ j.role → i.word.token ≡ j.word.token → i.word.symbol ≡ j.word.symbol
-    → i.word.text ≡ j.word.text → i.bytes ≡ j.bytes → i ≡ j
-same-item i j a b c d e =
-    let same : parts i.role i.word.token i.word.symbol i.word.text i.bytes
-    ≡ parts j.role j.word.token j.word.symbol j.word.text j.bytes = rw (a, b, c, d, e) refl in
-    same
-
-one-item : (ts : List Lexeme) (e : Event) (i j : Item) → IsItem ts e i → IsItem ts e j → i ≡ j
-one-item ts e i j v w =
-    let events : kept i.role (at i.word.token (word i.word.symbol.kind))
-    ≡ kept j.role (at j.word.token (word j.word.symbol.kind)) = sym v.event ∙ w.event in
-    let role : i.role ≡ j.role = cc in
-    let token : i.word.token ≡ j.word.token = cc in
-    let lists : v.lexeme ∷ v.rest ≡ w.lexeme ∷ w.rest = sym v.stands ∙ ap (λ (n : ℕ). drop n ts) token ∙ w.stands in
-    let lexeme : w.lexeme ≡ v.lexeme = cc in
-    let symbol : i.word.symbol ≡ j.word.symbol =
-    TokenIs-same v.lexeme.kind v.lexeme.text i.word.symbol j.word.symbol v.symbol (rw (sym lexeme) w.symbol) in
-    let text : i.word.text ≡ j.word.text = v.text ∙ ap (λ (t : Lexeme). t.text) (sym lexeme) ∙ sym w.text in
-    let bytes : i.bytes ≡ j.bytes = stands-same v.lexeme.kind v.lexeme.text i.bytes j.bytes v.bytes
-    (subst (λ (t : Lexeme). StandsFor t.kind t.text j.bytes) lexeme w.bytes) in
-    same-item i j role token symbol text bytes
 
 -- ---- at most one of each, and never both
 
 pub one-list : (ts : List Lexeme) (fs gs : List Field) → Syn ts fs → Syn ts gs → fs ≡ gs
 one-list ts fs gs v w =
-    let kinds : w.kinds ≡ v.kinds = one-kinds w.are_kinds v.are_kinds in
-    let es : v.es ≡ w.es = kinds-one-list nesting_limit v.kinds v.es w.es v.text
-    (subst (λ (ks : List Kind). IsText nesting_limit ks w.es) kinds w.text) in
-    let items : v.items ≡ w.items = each-same (one-item ts) v.are_items
-    (subst (λ (es : List Event). Each (IsItem ts) es w.items) (sym es) w.are_items) in
-    v.says ∙ ap said items ∙ sym w.says
+    v.stored ∙ ap (λ (fs : List WrittenField). map field_as fs) (one-written ts v.written w.written v.says w.says)
+    ∙ sym w.stored
 
 pub never-both : (ts : List Lexeme) (fs : List Field) (p : ℕ) (y : SynWhy) → Syn ts fs → FirstFault ts p y → ⊥
 never-both ts fs p y v w =
-    let kinds : v.kinds ≡ w.kinds = one-kinds v.are_kinds w.are_kinds in
-    kinds-not-both nesting_limit w.kinds v.es p y
-    (subst (λ (ks : List Kind). IsText nesting_limit ks v.es) kinds v.text) w.first
+    let s = v.says in
+    let kinds : s.kinds ≡ w.kinds = one-kinds s.are_kinds w.are_kinds in
+    kinds-not-both nesting_limit w.kinds s.es p y
+    (subst (λ (ks : List Kind). IsText nesting_limit ks s.es) kinds s.text) w.first
 
 pub one-fault : (ts : List Lexeme) (p q : ℕ) (y z : SynWhy) → FirstFault ts p y → FirstFault ts q z → (p ≡ q) × (y ≡ z)
 one-fault ts p q y z v w =
@@ -128,22 +95,22 @@ always-one ts o =
           let is = some-items ts es (kept-have (IsThere ts) h (all-there ts ks.0 o ks.1)) in
           inl (
             said is.0,
-            record {
+            folds-say ts (said is.0) (few-tokens ts o) (record {
               kinds = ks.0;
               are_kinds = ks.1;
               es = es;
               text = h;
               items = is.0;
               are_items = is.1;
-              says = refl;
-            },
+              gives = refl;
+            }),
           )
       | inr (p, y, f) ↦ inr (p, y, record { kinds = ks.0; are_kinds = ks.1; first = f })
     ]
 
 -- each thing that is said has a token of its own
 pub few-fields : (ts : List Lexeme) (fields : List Field) → InOrder 0 ts → Syn ts fields → IsSurface fields
-few-fields = fewer-than-bytes
+few-fields ts fields o s = fewer-than-bytes ts fields o (says-folds ts fields (few-tokens ts o) s)
 
 -- ---- so what is answered is all that could be
 

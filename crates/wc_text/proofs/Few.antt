@@ -10,8 +10,9 @@ use Rattle.wc_tokens.specs.Standard.Tokens.{InOrder}
 use Rattle.wc_syntax.specs.Deriving.{Event}
 use Rattle.wc_surface.specs.declared.field.Field.{Field}
 use Rattle.wc_surface.specs.Standard.Sizes.{field_size, inline_size, IsSurface}
-use Rattle.wc_text.specs.Standard.Texts.{Item}
-use Rattle.wc_text.specs.Standard.Meaning.{Each, none, more, IsItem, StandsFor, Syn}
+use Rattle.wc_text.specs.Kept.Texts.{Item}
+use Rattle.wc_text.specs.Standard.Kinds.{Each, none, more}
+use Rattle.wc_text.specs.Kept.Folds.{IsItem, StandsFor, Folds}
 use Rattle.wc_text.proofs.Forms.{within}
 use Rattle.wc_text.proofs.Strings.{stands-short}
 use Rattle.wc_text.proofs.Weights.{item_of, weighs, kept-weigh, kept-have}
@@ -45,7 +46,7 @@ items-short ts (e ∷ es) (i ∷ is) (more w d) h =
       sum_by-cons (weighs (weight ts)) e es,
     )
 
-pub fields-short : (ts : List Lexeme) (fields : List Field) → InOrder 0 ts → Syn ts fields
+pub fields-short : (ts : List Lexeme) (fields : List Field) → InOrder 0 ts → Folds ts fields
     → sum_by whole_size fields ≤ 4294967295
 fields-short ts fields o v =
     let there = kept-have (IsThere ts) v.text (all-there ts v.kinds o v.are_kinds) in
@@ -54,7 +55,7 @@ fields-short ts fields o v =
     let tokens = all-weigh ts v.kinds v.are_kinds in
     let texts = within 0 ts o (omega arith) in
     let fields' = said-size v.items in
-    rw v.says (omega (arith, items, events, tokens, texts, fields'))
+    rw v.gives (omega (arith, items, events, tokens, texts, fields'))
 
 all-below : {X : Type 0} (f : X → ℕ) (xs : List X) → sum_by f xs < 2 ^ 32 → All (λ x. f x < 2 ^ 32) xs
 all-below f [] h = All-nil (λ y. f y < 2 ^ 32)
@@ -62,7 +63,7 @@ all-below f (x ∷ xs) h =
     All-cons (λ y. f y < 2 ^ 32) x xs (omega (arith, sum_by-cons f x xs))
     (all-below f xs (omega (arith, sum_by-cons f x xs)))
 
-pub fewer-than-bytes : (ts : List Lexeme) (fields : List Field) → InOrder 0 ts → Syn ts fields → IsSurface fields
+pub fewer-than-bytes : (ts : List Lexeme) (fields : List Field) → InOrder 0 ts → Folds ts fields → IsSurface fields
 fewer-than-bytes ts fields o v =
     let short = fields-short ts fields o v in
     record {

@@ -1,5 +1,5 @@
 -- Tokens in order: each is some kind, and all are within the longest text.
-use Rattle.std.proofs.Common.{◌≡◌, ℕ, zero, suc, ◌+◌, ◌<◌, ◌≤◌, List, [], ◌∷◌, length, drop, get_or, refl}
+use Rattle.std.proofs.Common.{◌≡◌, ℕ, zero, suc, ◌+◌, ◌<◌, ◌≤◌, ◌^◌, List, [], ◌∷◌, length, drop, get_or, refl}
 use Rattle.std.proofs.Common.{arith}
 use Rattle.std.specs.Prelude.{sum_by}
 use Rattle.std.proofs.lemmas.List.{length-map}
@@ -10,8 +10,11 @@ use Rattle.wc_tokens.specs.declared.token.TokenKind.TheVariants as token
 use Rattle.wc_tokens.specs.Standard.Lexemes.{Lexeme, HasForm, longest}
 use Rattle.wc_tokens.specs.Standard.Tokens.{InOrder, lexeme_of, lexemes_of}
 use Rattle.wc_syntax.specs.declared.kind.Kind.{Kind}
+use Rattle.wc_words.specs.declared.symbol.Symbol.{Symbol}
 use Rattle.wc_words.proofs.SomeSymbols.{some-symbol}
-use Rattle.wc_text.specs.Standard.Meaning.{Each, none, more, HasKind}
+use Rattle.wc_words.proofs.RangeLemmas.{TokenIs-same}
+use Rattle.wc_text.proofs.Pairs.{each-same}
+use Rattle.wc_text.specs.Standard.Kinds.{Each, none, more, HasKind}
 
 -- tokens in order have kinds
 pub some-kinds : (from : ℕ) (ts : List Lexeme) → InOrder from ts → (ks : List Kind) × Each HasKind ts ks
@@ -20,6 +23,13 @@ some-kinds from (t ∷ ts) o =
     let s = some-symbol t.kind t.text o.0.form in
     let w = some-kinds t.stop ts o.1 in
     (s.0.kind ∷ w.0, more (s.0, s.1, refl) w.1)
+
+-- and each has one
+one-kind : (t : Lexeme) (k l : Kind) → HasKind t k → HasKind t l → k ≡ l
+one-kind t k l (s, g, e) (o, h, f) = let same : s ≡ o = TokenIs-same t.kind t.text s o g h in cc
+
+pub one-kinds : {ts : List Lexeme} {ks ls : List Kind} → Each HasKind ts ks → Each HasKind ts ls → ks ≡ ls
+one-kinds a b = each-same one-kind a b
 
 -- the length of a token's text
 abbrev pub text_size : Lexeme → ℕ
@@ -51,6 +61,9 @@ fewer from (t ∷ ts) o = omega (arith, sum_by-cons text_size t ts, fewer t.stop
 -- the number of a token fits 32 bits
 pub few : (ts : List Lexeme) → InOrder 0 ts → length ts ≤ longest
 few ts o = omega (arith, within 0 ts o (omega arith), fewer 0 ts o)
+
+pub few-tokens : (ts : List Lexeme) → InOrder 0 ts → length ts ≤ 2 ^ 32
+few-tokens ts o = omega (arith, few ts o)
 
 -- the tokens from a place on
 pub lexemes-at : (ts : List Token) (i : ℕ) (d : Token) → i < length ts

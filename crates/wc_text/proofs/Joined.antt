@@ -30,8 +30,10 @@ use Rattle.wc_fields.proofs.SomeValue.Parts.{Shallow}
 use Rattle.wc_fields.proofs.SomeValue.Fields.{text-say}
 use Rattle.wc_fields.proofs.Storing.Fields.{field-stored}
 use Rattle.wc_text.specs.declared.text_draft.TextDraft.{TextDraft}
-use Rattle.wc_text.specs.Standard.Texts.{Item, take_by, take_items}
-use Rattle.wc_text.specs.Standard.Meaning.{Each, none, more, StandsFor, IsItem, Syn}
+use Rattle.wc_text.specs.Kept.Texts.{Item, take_by, take_items}
+use Rattle.wc_text.specs.Standard.Kinds.{Each, none, more}
+use Rattle.wc_text.specs.Standard.Meaning.{Syn}
+use Rattle.wc_text.specs.Kept.Folds.{StandsFor, IsItem, Folds}
 use Rattle.wc_text.specs.Standard.Productions.{SaysFields}
 use Rattle.wc_text.proofs.Pairs.{each-length}
 use Rattle.wc_text.proofs.Written.{said_by, items-kept, items-spoken, one-written, always-said}
@@ -172,15 +174,10 @@ fields-taken lo hi (AreFields.more z {w = w} {us = us} {vs = vs} {f = y} {fs = y
 
 -- ---- the join
 
--- what tokens say by the productions, as it is stored
-pub record Written (ts : List Lexeme) (fields : List SurfaceField) : Type 0 where
-  pub written : List Field
-  pub says : SaysFields ts written
-  pub stored : fields ≡ map field_as written
-
-pub folds-written : (ts : List Lexeme) (fields : List SurfaceField) → length ts ≤ 2 ^ 32 → Syn ts fields
-    → Written ts fields
-folds-written ts fields small s =
+-- what tokens give they say by the productions
+pub folds-say : (ts : List Lexeme) (fields : List SurfaceField) → length ts ≤ 2 ^ 32 → Folds ts fields
+    → Syn ts fields
+folds-say ts fields small s =
     let us = map said_by s.items in
     let are = items-spoken s.are_items in
     let f = text-say nesting_limit 0 s.kinds s.es us s.text are in
@@ -198,14 +195,16 @@ folds-written ts fields small s =
         are_kept = items-kept s.are_items;
         says = f.1;
       };
-      stored = s.says
+      stored = s.gives
           ∙ ap (λ (d : TextDraft). d.fields) (fields-taken 0 (0 + length s.kinds) f.1 follow less f.2 heard []);
     }
 
-pub written-folds : (ts : List Lexeme) (written : List Field) → length ts ≤ 2 ^ 32 → SaysFields ts written
-    → Syn ts (map field_as written)
-written-folds ts written small s =
-    let said = always-said ts written s in
-    let back = folds-written ts said.0 small said.1 in
-    subst (λ (fields : List SurfaceField). Syn ts fields)
-    (back.stored ∙ ap (λ (fs : List Field). map field_as fs) (one-written ts back.written written back.says s)) said.1
+-- and the other way round
+pub says-folds : (ts : List Lexeme) (fields : List SurfaceField) → length ts ≤ 2 ^ 32 → Syn ts fields
+    → Folds ts fields
+says-folds ts fields small s =
+    let said = always-said ts s.written s.says in
+    let back = folds-say ts said.0 small said.1 in
+    subst (λ (fields : List SurfaceField). Folds ts fields)
+    (back.stored ∙ ap (λ (fs : List Field). map field_as fs) (one-written ts back.written s.written back.says s.says)
+    ∙ sym s.stored) said.1

@@ -8,7 +8,7 @@ use Rattle.wc_tokens.specs.Standard.Tokens.{InOrder}
 use Rattle.wc_syntax.specs.declared.kind.Kind.{Kind}
 use Rattle.wc_syntax.specs.Phrases.{word, mark}
 use Rattle.wc_syntax.specs.Deriving.{Item, at, numbered}
-use Rattle.wc_text.specs.Standard.Meaning.{Each, none, more, HasKind}
+use Rattle.wc_text.specs.Standard.Kinds.{Each, none, more, HasKind}
 use Rattle.wc_text.proofs.Forms.{text_size}
 
 -- the token of this number stands in the text, and has this kind and its form

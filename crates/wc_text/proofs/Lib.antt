@@ -9,8 +9,8 @@ pub mod Usual
 pub mod Streams
 pub mod Sizes
 pub mod Few
-pub mod Answering
-pub mod Wholes
 pub mod Written
 pub mod Joined
+pub mod Answering
+pub mod Wholes
 mod Examples

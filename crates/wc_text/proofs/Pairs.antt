@@ -1,6 +1,6 @@
 -- Lists that stand for one another, pair by pair.
 use Rattle.std.proofs.Common.{◌≡◌, suc, List, [], ◌∷◌, ◌++◌, length, refl, ap}
-use Rattle.wc_text.specs.Standard.Meaning.{Each, none, more}
+use Rattle.wc_text.specs.Standard.Kinds.{Each, none, more}
 
 pub each-append : {A B : Type 0} {R : A → B → Type 0} {xs us : List A} {ys vs : List B}
     → Each R xs ys → Each R us vs → Each R (xs ++ us) (ys ++ vs)

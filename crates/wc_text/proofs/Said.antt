@@ -19,8 +19,9 @@ use Rattle.wc_words.specs.declared.symbol.Symbol.{Symbol}
 use Rattle.wc_words.specs.Tokens.{TokenIs}
 use Rattle.wc_drafts.specs.Standard.Tokens.{kept_token}
 use Rattle.wc_text.specs.declared.text_draft.TextDraft.{TextDraft}
-use Rattle.wc_text.specs.Standard.Texts.{Item, nothing, take_by, take_item, take_items}
-use Rattle.wc_text.specs.Standard.Meaning.{Each, none, more, HasKind, StandsFor, Syn}
+use Rattle.wc_text.specs.Kept.Texts.{Item, nothing, take_by, take_item, take_items}
+use Rattle.wc_text.specs.Standard.Kinds.{Each, none, more, HasKind}
+use Rattle.wc_text.specs.Kept.Folds.{StandsFor, Folds}
 use Rattle.wc_text.specs.Standard.Faults.{FirstFault, IsFault}
 use Rattle.wc_text.specs.Standard.Refused.{of_refusal}
 use Rattle.wc_text.specs.Kept.SaidSoFar.{IsSaid}
@@ -158,7 +159,7 @@ whole-kinds {ts} w e =
     subst (λ (l : List Lexeme). Each HasKind l w.kinds) (ap (λ (m : ℕ). take m ts) e ∙ take-whole ts) w.are_kinds
 
 pub said-whole : {ts : List Lexeme} {n : ℕ} {s : Standing} {d : TextDraft} (w : IsSaid ts n s d) → n ≡ length ts
-    → IsText nesting_limit w.kinds w.es → Syn ts d.fields
+    → IsText nesting_limit w.kinds w.es → Folds ts d.fields
 said-whole w e h = record {
   kinds = w.kinds;
   are_kinds = whole-kinds w e;
@@ -166,7 +167,7 @@ said-whole w e h = record {
   text = h;
   items = w.items;
   are_items = w.are_items;
-  says = ap (λ (x : TextDraft). x.fields) w.says;
+  gives = ap (λ (x : TextDraft). x.fields) w.says;
 }
 
 pub said-unended : {ts : List Lexeme} {n : ℕ} {s : Standing} {d : TextDraft} (w : IsSaid ts n s d) → n ≡ length ts

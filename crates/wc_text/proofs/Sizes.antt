@@ -33,7 +33,7 @@ use Rattle.wc_fields.specs.Standard.Fields.{begun, take_string, take_word, take_
 use Rattle.wc_fields.specs.Standard.Finished.{finished_by, finished, asked, func_by, table_by, memory_by, global_by}
 use Rattle.wc_fields.specs.Standard.Finished.{import_by}
 use Rattle.wc_text.specs.declared.text_draft.TextDraft.{TextDraft}
-use Rattle.wc_text.specs.Standard.Texts.{Item, nothing, take_by, take_item, take_items}
+use Rattle.wc_text.specs.Kept.Texts.{Item, nothing, take_by, take_item, take_items}
 
 -- a field of its own word counts itself; the field of no word, which no text has, is counted at its end
 abbrev head_size : Kind → ℕ

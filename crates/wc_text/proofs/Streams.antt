@@ -18,7 +18,7 @@ use Rattle.wc_text.specs.declared.fault.SynFault.{SynFault}
 use Rattle.wc_text.specs.declared.fault.SynFault.TheVariants as fault
 use Rattle.wc_text.specs.declared.refusal.TextRefusal.{TextRefusal}
 use Rattle.wc_text.specs.declared.refusal.TextRefusal.TheVariants.{Lex, Syntax, Memory}
-use Rattle.wc_text.specs.Standard.Texts.{nothing}
+use Rattle.wc_text.specs.Kept.Texts.{nothing}
 use Rattle.wc_text.specs.Standard.Faults.{FirstFault, IsFault}
 use Rattle.wc_text.specs.Standard.Wholes.{IsRefused}
 use Rattle.wc_text.specs.Kept.Refusing.{RefusesBy}

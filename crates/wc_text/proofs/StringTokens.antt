@@ -5,7 +5,7 @@ use Rattle.wc_tokens.specs.declared.token.TokenKind.TheVariants as token
 use Rattle.wc_tokens.specs.Standard.Strings.{IsString}
 use Rattle.wc_words.specs.declared.symbol.Symbol.{Symbol}
 use Rattle.wc_words.specs.Tokens.{StringIs, TokenIs}
-use Rattle.wc_text.specs.Standard.Meaning.{StandsFor}
+use Rattle.wc_text.specs.Kept.Folds.{StandsFor}
 
 -- a string is to the grammar what it is by its bytes
 pub string-token : (kind : TokenKind) (text : List ℕ) (s : Symbol) → kind ≡ token.Str → StringIs text s → TokenIs kind text s

@@ -10,7 +10,7 @@ use Rattle.wc_tokens.specs.Standard.Lexemes.{HasForm}
 use Rattle.wc_tokens.proofs.Escapes.ElementLaws.{Elements-same, read_element-quote}
 use Rattle.wc_words.specs.declared.symbol.Symbol.{Symbol}
 use Rattle.wc_words.specs.Tokens.{TokenIs, StringIs, name, no_name}
-use Rattle.wc_text.specs.Standard.Meaning.{StandsFor}
+use Rattle.wc_text.specs.Kept.Folds.{StandsFor}
 use Rattle.wc_text.proofs.Forms.{some-text}
 
 string-same : {text v w : List ℕ} → IsString text v → IsString text w → v ≡ w

@@ -19,8 +19,8 @@ use Rattle.wc_words.specs.Words.{WordIs}
 use Rattle.wc_drafts.specs.declared.word.Word.{Word}
 use Rattle.wc_drafts.specs.Standard.Tokens.{kept_token}
 use Rattle.wc_text.specs.declared.text_draft.TextDraft.{TextDraft}
-use Rattle.wc_text.specs.Standard.Texts.{take_by, with_word}
-use Rattle.wc_text.specs.Standard.Meaning.{StandsFor}
+use Rattle.wc_text.specs.Kept.Texts.{take_by, with_word}
+use Rattle.wc_text.specs.Kept.Folds.{StandsFor}
 use Rattle.wc_text.specs.Kept.SaidSoFar.{IsSaid}
 use Rattle.wc_text.proofs.Said.{said-dropped, said-kept}
 

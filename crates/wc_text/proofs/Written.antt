@@ -18,12 +18,13 @@ use Rattle.wc_drafts.specs.Standard.Productions.Kept.{AreKept}
 use Rattle.wc_fields.specs.Standard.Productions.Fields.{AreFields}
 use Rattle.wc_fields.proofs.OneValue.Fields.{one_list}
 use Rattle.wc_fields.proofs.SomeValue.Fields.{text-say}
-use Rattle.wc_text.specs.Standard.Texts.{Item, said}
-use Rattle.wc_text.specs.Standard.Meaning.{Each, none, more, IsItem, Syn}
+use Rattle.wc_text.specs.Kept.Texts.{Item, said}
+use Rattle.wc_text.specs.Standard.Kinds.{Each, none, more}
+use Rattle.wc_text.specs.Kept.Folds.{IsItem, Folds}
 use Rattle.wc_text.specs.Standard.Productions.{IsKept, SaysFields}
 use Rattle.wc_text.proofs.Pairs.{each-same}
 use Rattle.wc_text.proofs.Strings.{some-meaning}
-use Rattle.wc_text.proofs.Answering.{one-kinds}
+use Rattle.wc_text.proofs.Forms.{one-kinds}
 
 -- ---- the kept tokens of a derivation
 
@@ -113,8 +114,8 @@ one-written ts fs gs v w =
     (subst (λ (es : List Event). Each (IsKept ts) es w.words) es w.are_kept) v.are_kept in
     one_list v.says (subst (λ (us : List Said). AreFields us gs) words w.says)
 
--- tokens that say fields say some by the productions
-pub always-written : (ts : List Lexeme) (fields : List SurfaceField) → Syn ts fields
+-- tokens that give fields say some by the productions
+pub always-written : (ts : List Lexeme) (fields : List SurfaceField) → Folds ts fields
     → (fs : List Field) × SaysFields ts fs
 always-written ts fields s =
     let us = map said_by s.items in
@@ -145,7 +146,7 @@ some-items (more (IsKept.stands {r = r} {w = w} {t = t} {rest = rest} s h e) oth
 
 -- and the other way round
 pub always-said : (ts : List Lexeme) (fs : List Field) → SaysFields ts fs
-    → (fields : List SurfaceField) × Syn ts fields
+    → (fields : List SurfaceField) × Folds ts fields
 always-said ts fs s =
     let is = some-items s.are_kept in (
       said is.0,
@@ -156,6 +157,6 @@ always-said ts fs s =
         text = s.text;
         items = is.0;
         are_items = is.1;
-        says = refl;
+        gives = refl;
       },
     )

@@ -1,3 +1,5 @@
 -- What private functions speak of.
+pub mod Texts
+pub mod Folds
 pub mod SaidSoFar
 pub mod Refusing

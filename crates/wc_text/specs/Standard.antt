@@ -1,6 +1,6 @@
-pub mod Texts
+pub mod Kinds
+pub mod Productions
 pub mod Meaning
 pub mod Faults
 pub mod Refused
 pub mod Wholes
-pub mod Productions

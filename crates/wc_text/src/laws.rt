@@ -1,16 +1,16 @@
 //! Laws of fields and faults. Each function only states its law: it does nothing.
 
-ghost use Rattle.std.specs.Prelude.{◌≡◌, ◌⊎◌, ℕ, ◌≤◌, ◌^◌, List, length, map};
+ghost use Rattle.std.specs.Prelude.{◌≡◌, ◌⊎◌, ℕ, ◌≤◌, ◌^◌, List, length};
 ghost use Rattle.wc_tokens.specs.Standard.Lexemes.{Lexeme};
 ghost use Rattle.wc_tokens.specs.Standard.Tokens.{InOrder};
 ghost use Rattle.wc_syntax.specs.declared.why.SynWhy.{SynWhy as Reason};
 ghost use Rattle.wc_surface.specs.declared.field.Field.{Field};
 ghost use Rattle.wc_surface.specs.Standard.Sizes.{IsSurface};
 ghost use Rattle.wc_surface.specs.Standard.Written.Fields.{Field as WrittenField};
-ghost use Rattle.wc_fields.specs.Stored.Fields.{field_as};
 ghost use Rattle.wc_text.specs.Standard.Meaning.{Syn};
 ghost use Rattle.wc_text.specs.Standard.Faults.{FirstFault};
 ghost use Rattle.wc_text.specs.Standard.Productions.{SaysFields};
+ghost use Rattle.wc_text.specs.Kept.Folds.{Folds};
 
 /// Tokens say at most one list of fields.
 pub fn one_list()
@@ -46,18 +46,16 @@ pub fn one_written_list()
         → SaysFields ts fields → SaysFields ts others → fields ≡ others }
 {}
 
-/// By the productions, tokens say some fields exactly where they say any.
+/// By the productions, tokens say some fields exactly where their kept tokens, one after the other, give any.
 pub fn always_written()
-    ensures written { (ts : List Lexeme) (fields : List Field) → Syn ts fields
+    ensures written { (ts : List Lexeme) (fields : List Field) → Folds ts fields
         → (written : List WrittenField) × SaysFields ts written }
     ensures said { (ts : List Lexeme) (written : List WrittenField) → SaysFields ts written
-        → (fields : List Field) × Syn ts fields }
+        → (fields : List Field) × Folds ts fields }
 {}
 
-/// Tokens whose numbers 32 bits hold say just the fields that they say by the productions, as these are stored.
+/// Tokens whose numbers 32 bits hold say just the fields that their kept tokens, one after the other, give.
 pub fn stored_as_said()
-    ensures written { (ts : List Lexeme) (fields : List Field) → length ts ≤ 2 ^ 32 → Syn ts fields
-        → (written : List WrittenField) × SaysFields ts written × (fields ≡ map field_as written) }
-    ensures said { (ts : List Lexeme) (written : List WrittenField) → length ts ≤ 2 ^ 32 → SaysFields ts written
-        → Syn ts (map field_as written) }
+    ensures said { (ts : List Lexeme) (fields : List Field) → length ts ≤ 2 ^ 32 → Folds ts fields → Syn ts fields }
+    ensures given { (ts : List Lexeme) (fields : List Field) → length ts ≤ 2 ^ 32 → Syn ts fields → Folds ts fields }
 {}

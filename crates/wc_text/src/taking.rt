@@ -16,7 +16,7 @@ ghost use Rattle.wc_syntax.specs.declared.kind.Kind.{Kind as GrammarKind};
 ghost use Rattle.wc_words.specs.Symbols.{bare};
 ghost use Rattle.wc_words.specs.Tokens.{TokenIs};
 ghost use Rattle.wc_drafts.specs.Standard.Tokens.{kept_token};
-ghost use Rattle.wc_text.specs.Standard.Texts.{with_word, take_by};
+ghost use Rattle.wc_text.specs.Kept.Texts.{with_word, take_by};
 ghost use Rattle.wc_text.specs.Kept.SaidSoFar.{SaysMore, Refuses};
 
 use crate::fault::SynFault;

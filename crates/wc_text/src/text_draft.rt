@@ -2,7 +2,7 @@
 
 ghost use Rattle.std.specs.Prelude.{◌≡◌, OnOk};
 ghost use Rattle.wc_words.specs.Strings.{bytes_in};
-ghost use Rattle.wc_text.specs.Standard.Texts.{nothing, with_word, take_by};
+ghost use Rattle.wc_text.specs.Kept.Texts.{nothing, with_word, take_by};
 
 use std::alloc::{AllocError, Global};
 use std::mem::replace;
@@ -65,7 +65,7 @@ impl<'a> TextDraft<'a> {
 }
 
 impl<'a> TextDraft<'a> {
-    ghost use Rattle.wc_text.specs.Standard.Texts.{with_field};
+    ghost use Rattle.wc_text.specs.Kept.Texts.{with_field};
 
     /// The fields so far. It takes no memory.
     // They are taken out, and the rest is let go whole.

@@ -22,7 +22,7 @@ use Rattle.wc_drafts.specs.Standard.Tokens.{KeptToken, kept_token}
 use Rattle.wc_drafts.specs.Standard.Productions.Tokens.{Said, ◌⊳◌, IsId}
 use Rattle.wc_fields.specs.Standard.Productions.Parts.{AreExports, IsDeclared, AreLimits}
 use Rattle.wc_fields.specs.Standard.Productions.Fields.{IsMemory, IsField, AreFields}
-use Rattle.wc_text.specs.Standard.Meaning.{Each, HasKind}
+use Rattle.wc_text.specs.Standard.Kinds.{Each, HasKind}
 use Rattle.wc_text.specs.Standard.Productions.{IsKept, SaysFields}
 
 -- the token of this form and text, from one place to another

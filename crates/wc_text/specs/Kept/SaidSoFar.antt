@@ -7,8 +7,9 @@ use Rattle.wc_syntax.specs.declared.kind.Kind.{Kind}
 use Rattle.wc_syntax.specs.Deriving.{Event}
 use Rattle.wc_syntax.specs.Reading.{Standing, IsRead}
 use Rattle.wc_text.specs.declared.text_draft.TextDraft.{TextDraft}
-use Rattle.wc_text.specs.Standard.Texts.{Item, nothing, take_items}
-use Rattle.wc_text.specs.Standard.Meaning.{Each, HasKind, IsItem}
+use Rattle.wc_text.specs.Kept.Texts.{Item, nothing, take_items}
+use Rattle.wc_text.specs.Standard.Kinds.{Each, HasKind}
+use Rattle.wc_text.specs.Kept.Folds.{IsItem}
 use Rattle.wc_text.specs.Standard.Faults.{IsFault}
 use Rattle.wc_text.specs.declared.fault.SynFault.{SynFault}
 

@@ -7,7 +7,7 @@ use Rattle.wc_syntax.specs.declared.why.SynWhy.{SynWhy}
 use Rattle.wc_syntax.specs.Reasons.{FirstFault as FirstKindFault}
 use Rattle.wc_text.specs.declared.fault.SynFault.{SynFault}
 use Rattle.wc_text.specs.declared.fault.SynFault.TheVariants.{Bad, Memory}
-use Rattle.wc_text.specs.Standard.Meaning.{Each, HasKind}
+use Rattle.wc_text.specs.Standard.Kinds.{Each, HasKind}
 
 -- The fault is at the token of this number, or behind the last one, for this reason.
 pub record FirstFault (ts : List Lexeme) (token : ℕ) (why : SynWhy) : Type 0 where

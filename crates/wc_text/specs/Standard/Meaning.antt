@@ -1,49 +1,13 @@
--- What tokens say (Core 1.0, 6.3 to 6.6).
-use Rattle.std.specs.Prelude.{◌≡◌, ℕ, List, [], ◌∷◌, drop}
-use Rattle.wc_tokens.specs.declared.token.TokenKind.{TokenKind}
-use Rattle.wc_tokens.specs.declared.token.TokenKind.TheVariants as token
+-- What tokens say (Core 1.0, 6.3 to 6.6), as the code stores it.
+use Rattle.std.specs.Prelude.{◌≡◌, List, map}
 use Rattle.wc_tokens.specs.Standard.Lexemes.{Lexeme}
-use Rattle.wc_tokens.specs.Standard.Strings.{IsString}
-use Rattle.wc_body.specs.Standard.Nested.{nesting_limit}
-use Rattle.wc_syntax.specs.declared.kind.Kind.{Kind}
-use Rattle.wc_syntax.specs.Phrases.{word}
-use Rattle.wc_syntax.specs.Deriving.{at, Event, kept}
-use Rattle.wc_syntax.specs.Parsing.{IsText}
-use Rattle.wc_words.specs.declared.symbol.Symbol.{Symbol}
-use Rattle.wc_words.specs.Tokens.{TokenIs}
 use Rattle.wc_surface.specs.declared.field.Field.{Field}
-use Rattle.wc_text.specs.Standard.Texts.{Item, said}
+use Rattle.wc_surface.specs.Standard.Written.Fields.{Field as WrittenField}
+use Rattle.wc_fields.specs.Stored.Fields.{field_as}
+use Rattle.wc_text.specs.Standard.Productions.{SaysFields}
 
--- one stands for the other, pair by pair
-pub data Each {A B : Type 0} (R : A → B → Type 0) : List A → List B → Type 0 where
-  none : Each R [] []
-  more : {a : A} {b : B} {xs : List A} {ys : List B} → R a b → Each R xs ys → Each R (a ∷ xs) (b ∷ ys)
-
--- the token has this kind to the grammar
-abbrev pub HasKind : Lexeme → Kind → Type 0
-HasKind t k = (s : Symbol) × TokenIs t.kind t.text s × (k ≡ s.kind)
-
--- what a string stands for; nothing, where it is no string
-abbrev pub StandsFor : TokenKind → List ℕ → List ℕ → Type 0
-StandsFor token.Str text bytes = IsString text bytes
-StandsFor _ text bytes = bytes ≡ []
-
--- the token that is kept, with all that it says: the one of its number in the text
-pub record IsItem (ts : List Lexeme) (e : Event) (i : Item) : Type 0 where
-  pub lexeme : Lexeme
-  pub rest : List Lexeme
-  pub stands : drop i.word.token ts ≡ lexeme ∷ rest
-  pub event : e ≡ kept i.role (at i.word.token (word i.word.symbol.kind))
-  pub symbol : TokenIs lexeme.kind lexeme.text i.word.symbol
-  pub text : i.word.text ≡ lexeme.text
-  pub bytes : StandsFor lexeme.kind lexeme.text i.bytes
-
--- `Syn ts fields`: the tokens are a text, and these are the fields that it says
+-- `Syn ts fields`: the tokens are a text, and these are the fields that it says, as they are stored
 pub record Syn (ts : List Lexeme) (fields : List Field) : Type 0 where
-  pub kinds : List Kind
-  pub are_kinds : Each HasKind ts kinds
-  pub es : List Event
-  pub text : IsText nesting_limit kinds es
-  pub items : List Item
-  pub are_items : Each (IsItem ts) es items
-  pub says : fields ≡ said items
+  pub written : List WrittenField
+  pub says : SaysFields ts written
+  pub stored : fields ≡ map field_as written

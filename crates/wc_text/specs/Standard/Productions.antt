@@ -12,7 +12,7 @@ use Rattle.wc_surface.specs.Standard.Written.Fields.{Field}
 use Rattle.wc_drafts.specs.Standard.Tokens.{KeptToken}
 use Rattle.wc_drafts.specs.Standard.Productions.Tokens.{Said, ◌⊳◌}
 use Rattle.wc_fields.specs.Standard.Productions.Fields.{AreFields}
-use Rattle.wc_text.specs.Standard.Meaning.{Each, HasKind}
+use Rattle.wc_text.specs.Standard.Kinds.{Each, HasKind}
 
 -- the token that is kept, in its role: the one of its number in the text, which says this to the grammar
 pub data IsKept (ts : List Lexeme) : Event → Said → Type 0 where
