@@ -18,7 +18,7 @@ use Rattle.wc_targets.specs.Standard.Instructions.{resolved_instr}
 use Rattle.wc_targets.specs.Standard.Heads.{enter, resolved_head}
 use Rattle.wc_targets.specs.Standard.Bodies.{resolved, mark_faults, body_faults}
 use Rattle.wc_declared.specs.Standard.Uses.{use_index}
-use Rattle.wc_drafts.specs.Standard.Words.{place_behind}
+use Rattle.wc_drafts.specs.Drafting.Words.{place_behind}
 use Rattle.wc_told.specs.Bodies.{Spot, start, use_at, behind, behind_else, behind_code, text_code, text_body}
 use Rattle.wc_back.specs.Known.{KnownInstr, KnownBlock, KnownCode}
 use Rattle.wc_back.proofs.Spots.{Reached, HasRoom, at-end, before-close, before-else, before-code, has-room}

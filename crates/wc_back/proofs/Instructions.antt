@@ -30,8 +30,8 @@ use Rattle.wc_targets.specs.Standard.Operands.{index_in, index_faults}
 use Rattle.wc_targets.specs.Standard.Instructions.{type_at, table, labels_at, resolved_instr, instr_faults}
 use Rattle.wc_targets.specs.Standard.Heads.{type_in, faults_in, resolved_head, head_faults}
 use Rattle.wc_printed.specs.Signs.{exponent_of}
-use Rattle.wc_drafts.specs.Standard.Words.{place_behind}
-use Rattle.wc_drafts.specs.Standard.Heads.{head_of}
+use Rattle.wc_drafts.specs.Drafting.Words.{place_behind}
+use Rattle.wc_drafts.specs.Drafting.Heads.{head_of}
 use Rattle.wc_told.specs.Bodies.{Spot, use_at, instr_labels, head_type, unless_zero, unless_natural, text_instr, behind}
 use Rattle.wc_told.specs.Bodies.{behind_head}
 use Rattle.wc_back.specs.Known.{KnownInstr}

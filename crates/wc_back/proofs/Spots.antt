@@ -14,7 +14,7 @@ use Rattle.wc_surface.specs.declared.instr.Operand.{Operand}
 use Rattle.wc_surface.specs.declared.type_use.TypeUse.{TypeUse}
 use Rattle.wc_printed.specs.Instructions.{mark_signs, code_signs}
 use Rattle.wc_printed.proofs.Codes.{tree, flat-same}
-use Rattle.wc_drafts.specs.Standard.Heads.{head_of}
+use Rattle.wc_drafts.specs.Drafting.Heads.{head_of}
 use Rattle.wc_told.specs.Bodies.{Spot, start, instr_uses, instr_labels, block_uses, head_type, behind_head, behind, behind_else}
 use Rattle.wc_told.specs.Bodies.{behind_code, text_body}
 use Rattle.wc_told.proofs.Telling.{token-behind}

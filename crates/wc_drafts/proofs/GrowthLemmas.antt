@@ -19,15 +19,15 @@ use Rattle.wc_drafts.specs.declared.held.Held.{Held}
 use Rattle.wc_drafts.specs.declared.held.Held.TheVariants as held
 use Rattle.wc_drafts.specs.declared.body_draft.BodyDraft.{BodyDraft}
 use Rattle.wc_drafts.specs.declared.word.Word.{Word}
-use Rattle.wc_drafts.specs.Standard.Words.{identifier_of, operand_of, ids_by, ids_with, number_in}
-use Rattle.wc_drafts.specs.Standard.Uses.{short_type}
-use Rattle.wc_drafts.specs.Standard.Heads.{with_else_id, with_end_id}
-use Rattle.wc_drafts.specs.Standard.Saying.{say_by, release_by, with_use, head_by, settle_by, settled}
-use Rattle.wc_drafts.specs.Standard.Opening.{await, plain_by, begin_by, turn_by, end_by}
-use Rattle.wc_drafts.specs.Standard.Immediates.{label_by, end_label_by, index_in, offset_by, align_by, literal_by}
-use Rattle.wc_drafts.specs.Standard.Taking.{take, take_name}
-use Rattle.wc_drafts.specs.Standard.Ending.{body_of, ended}
-use Rattle.wc_drafts.specs.Standard.Growing.{Continues, begun_head, Grows}
+use Rattle.wc_drafts.specs.Drafting.Words.{identifier_of, operand_of, ids_by, ids_with, number_in}
+use Rattle.wc_drafts.specs.Drafting.Uses.{short_type}
+use Rattle.wc_drafts.specs.Drafting.Heads.{with_else_id, with_end_id}
+use Rattle.wc_drafts.specs.Drafting.Saying.{say_by, release_by, with_use, head_by, settle_by, settled}
+use Rattle.wc_drafts.specs.Drafting.Opening.{await, plain_by, begin_by, turn_by, end_by}
+use Rattle.wc_drafts.specs.Drafting.Immediates.{label_by, end_label_by, index_in, offset_by, align_by, literal_by}
+use Rattle.wc_drafts.specs.Drafting.Taking.{take, take_name}
+use Rattle.wc_drafts.specs.Drafting.Ending.{body_of, ended}
+use Rattle.wc_drafts.specs.Drafting.Growing.{Continues, begun_head, Grows}
 
 -- ---- lists
 

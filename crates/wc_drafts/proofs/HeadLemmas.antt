@@ -3,7 +3,7 @@ use Rattle.std.proofs.Common.{◌≡◌, ℕ, zero, suc, ◌<◌, ◌≤◌, Lis
 use Rattle.std.proofs.Common.{Some, refl, ap, arith}
 use Rattle.wc_surface.specs.declared.head.Head.{Head}
 use Rattle.wc_surface.specs.Standard.Identifiers.{Identifier}
-use Rattle.wc_drafts.specs.Standard.Heads.{with_else_id, with_end_id}
+use Rattle.wc_drafts.specs.Drafting.Heads.{with_else_id, with_end_id}
 
 -- a head with this identifier behind `else`
 abbrev pub else_set : Head → Identifier → Head

@@ -32,13 +32,15 @@ use Rattle.wc_drafts.specs.declared.held.Held.TheVariants as held
 use Rattle.wc_drafts.specs.declared.body_draft.BodyDraft.{BodyDraft}
 use Rattle.wc_drafts.specs.declared.use_draft.UseDraft.{UseDraft}
 use Rattle.wc_drafts.specs.declared.word.Word.{Word}
-use Rattle.wc_drafts.specs.Standard.Words.{place_behind, operand_of}
-use Rattle.wc_drafts.specs.Standard.Saying.{complete, settle_by, settled, table_of}
-use Rattle.wc_drafts.specs.Standard.Opening.{name_plain}
-use Rattle.wc_drafts.specs.Standard.Immediates.{index_in, offset_by, align_by, literal_by}
-use Rattle.wc_drafts.specs.Standard.Taking.{take}
-use Rattle.wc_drafts.specs.Standard.Ending.{nothing_said}
-use Rattle.wc_drafts.specs.Standard.Derived.{AreWords, take_all, Leaves}
+use Rattle.wc_drafts.specs.Drafting.Words.{place_behind, operand_of}
+use Rattle.wc_drafts.specs.Drafting.Saying.{complete, settle_by, settled, table_of}
+use Rattle.wc_drafts.specs.Drafting.Opening.{name_plain}
+use Rattle.wc_drafts.specs.Drafting.Immediates.{index_in, offset_by, align_by, literal_by}
+use Rattle.wc_drafts.specs.Drafting.Taking.{take}
+use Rattle.wc_drafts.specs.Drafting.Ending.{nothing_said}
+use Rattle.wc_drafts.specs.Drafting.Following.{take_all}
+use Rattle.wc_drafts.specs.Drafting.Leaving.{Leaves}
+use Rattle.wc_drafts.specs.Standard.Derived.{AreWords}
 use Rattle.wc_drafts.proofs.Meanings.{Star, star-keeps, Writes, Balances, RuleDoes, Takes, Does, does}
 use Rattle.wc_drafts.proofs.Meanings.{writes-typeuse, writes-param, writes-result}
 use Rattle.wc_drafts.proofs.OpenLemmas.{Frames, Idle, idle-leaves, head-idle, end_id-idle, region-opened, if-opened, held-if}

@@ -17,8 +17,10 @@ use Rattle.wc_drafts.specs.declared.held.Held.{Held}
 use Rattle.wc_drafts.specs.declared.body_draft.BodyDraft.{BodyDraft}
 use Rattle.wc_drafts.specs.declared.use_draft.UseDraft.{UseDraft}
 use Rattle.wc_drafts.specs.declared.word.Word.{Word}
-use Rattle.wc_drafts.specs.Standard.Taking.{take}
-use Rattle.wc_drafts.specs.Standard.Derived.{IsWord, AreWords, take_all, Leaves}
+use Rattle.wc_drafts.specs.Drafting.Taking.{take}
+use Rattle.wc_drafts.specs.Drafting.Following.{take_all}
+use Rattle.wc_drafts.specs.Drafting.Leaving.{Leaves}
+use Rattle.wc_drafts.specs.Standard.Derived.{IsWord, AreWords}
 
 -- a body, and the same one step later
 abbrev pub Relation : Type 1

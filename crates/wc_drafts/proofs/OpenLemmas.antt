@@ -25,13 +25,13 @@ use Rattle.wc_drafts.specs.declared.held.Held.TheVariants as held
 use Rattle.wc_drafts.specs.declared.body_draft.BodyDraft.{BodyDraft}
 use Rattle.wc_drafts.specs.declared.use_draft.UseDraft.{UseDraft}
 use Rattle.wc_drafts.specs.declared.word.Word.{Word}
-use Rattle.wc_drafts.specs.Standard.Words.{place_behind, identifier_of}
-use Rattle.wc_drafts.specs.Standard.Uses.{short_type}
-use Rattle.wc_drafts.specs.Standard.Saying.{begun_in, begin_block, release_by, head_by, settle_by, settled}
-use Rattle.wc_drafts.specs.Standard.Opening.{await_head, hold_if, turn_by, end_by, begin_by}
-use Rattle.wc_drafts.specs.Standard.Immediates.{label_by, end_label_by}
-use Rattle.wc_drafts.specs.Standard.Taking.{take}
-use Rattle.wc_drafts.specs.Standard.Derived.{Leaves}
+use Rattle.wc_drafts.specs.Drafting.Words.{place_behind, identifier_of}
+use Rattle.wc_drafts.specs.Drafting.Uses.{short_type}
+use Rattle.wc_drafts.specs.Drafting.Saying.{begun_in, begin_block, release_by, head_by, settle_by, settled}
+use Rattle.wc_drafts.specs.Drafting.Opening.{await_head, hold_if, turn_by, end_by, begin_by}
+use Rattle.wc_drafts.specs.Drafting.Immediates.{label_by, end_label_by}
+use Rattle.wc_drafts.specs.Drafting.Taking.{take}
+use Rattle.wc_drafts.specs.Drafting.Leaving.{Leaves}
 use Rattle.wc_drafts.proofs.Meanings.{Star, star-keeps, Writes, Balances, Does, Takes}
 
 abbrev pub Frames : Type 0

@@ -20,14 +20,14 @@ use Rattle.wc_drafts.specs.declared.held.Held.TheVariants as held
 use Rattle.wc_drafts.specs.declared.body_draft.BodyDraft.{BodyDraft}
 use Rattle.wc_drafts.specs.declared.use_draft.UseDraft.{UseDraft}
 use Rattle.wc_drafts.specs.declared.word.Word.{Word}
-use Rattle.wc_drafts.specs.Standard.Words.{identifier_of}
-use Rattle.wc_drafts.specs.Standard.Uses.{take_use, with_param, with_result, use_of, short_type}
-use Rattle.wc_drafts.specs.Standard.Saying.{say_by, say, release_by, head_by, settle_by, settled, with_use}
-use Rattle.wc_drafts.specs.Standard.Opening.{await, plain_by, name_plain, begin_by, hold_if, turn_by, end_by}
-use Rattle.wc_drafts.specs.Standard.Immediates.{label_by, end_label_by, index_in, offset_by, align_by, literal_by}
-use Rattle.wc_drafts.specs.Standard.Taking.{take, take_name}
-use Rattle.wc_drafts.specs.Standard.Ending.{ended}
-use Rattle.wc_drafts.specs.Standard.Sizes.{written_size, said_size}
+use Rattle.wc_drafts.specs.Drafting.Words.{identifier_of}
+use Rattle.wc_drafts.specs.Drafting.Uses.{take_use, with_param, with_result, use_of, short_type}
+use Rattle.wc_drafts.specs.Drafting.Saying.{say_by, say, release_by, head_by, settle_by, settled, with_use}
+use Rattle.wc_drafts.specs.Drafting.Opening.{await, plain_by, name_plain, begin_by, hold_if, turn_by, end_by}
+use Rattle.wc_drafts.specs.Drafting.Immediates.{label_by, end_label_by, index_in, offset_by, align_by, literal_by}
+use Rattle.wc_drafts.specs.Drafting.Taking.{take, take_name}
+use Rattle.wc_drafts.specs.Drafting.Ending.{ended}
+use Rattle.wc_drafts.specs.Drafting.Sizes.{written_size, said_size}
 
 -- type uses
 

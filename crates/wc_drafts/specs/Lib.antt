@@ -1,2 +1,3 @@
 pub mod Standard
+pub mod Drafting
 pub mod Stored

@@ -2,8 +2,8 @@
 
 ghost use Rattle.std.specs.Prelude.{◌≡◌, IfOk, MatchOption, IsTrue, OnOk};
 ghost use Rattle.wc_surface.specs.Kept.Bodies.{plain_body};
-ghost use Rattle.wc_drafts.specs.Standard.Taking.{take, take_name};
-ghost use Rattle.wc_drafts.specs.Standard.Ending.{nothing_said, body_of, ended};
+ghost use Rattle.wc_drafts.specs.Drafting.Taking.{take, take_name};
+ghost use Rattle.wc_drafts.specs.Drafting.Ending.{nothing_said, body_of, ended};
 
 use crate::awaiting::Awaiting;
 use crate::ending::all_closed;
@@ -130,7 +130,7 @@ impl<'a> BodyDraft<'a> {
 }
 
 impl<'a> BodyDraft<'a> {
-    ghost use Rattle.wc_drafts.specs.Standard.Saying.{settled};
+    ghost use Rattle.wc_drafts.specs.Drafting.Saying.{settled};
 
     /// Whether what was said is instructions alone.
     #[inline(always)]

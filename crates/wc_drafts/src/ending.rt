@@ -3,7 +3,7 @@
 ghost use Rattle.std.specs.Prelude.{◌≡◌, IfOk, OnOk};
 ghost use Rattle.wc_body.specs.Standard.Draft.{whole};
 ghost use Rattle.wc_body.specs.Standard.Nested.{empty};
-ghost use Rattle.wc_drafts.specs.Standard.Ending.{all_closed};
+ghost use Rattle.wc_drafts.specs.Drafting.Ending.{all_closed};
 
 use crate::saying::end_in;
 use std::alloc::AllocError;

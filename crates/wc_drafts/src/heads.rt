@@ -1,7 +1,7 @@
 //! Heads of blocks that are being said.
 
 ghost use Rattle.std.specs.Prelude.{◌≡◌, ◌↔◌, [], ◌∷◌, ◌++◌, IsTrue, OnOk};
-ghost use Rattle.wc_drafts.specs.Standard.Heads.{with_else_id, with_end_id};
+ghost use Rattle.wc_drafts.specs.Drafting.Heads.{with_else_id, with_end_id};
 
 use std::alloc::{AllocError, Global};
 use std::marker::Model;
@@ -25,10 +25,10 @@ impl<'a> Model for Heads<'a> {
 }
 
 impl<'a> Heads<'a> {
-    ghost use Rattle.wc_drafts.specs.Standard.Words.{place_behind};
+    ghost use Rattle.wc_drafts.specs.Drafting.Words.{place_behind};
 
     /// None so far. It takes no memory.
-    pub fn new(alloc: Global) -> Heads<'a>
+    pub(crate) fn new(alloc: Global) -> Heads<'a>
         ensures { result ≡ [] }
     {
         Heads {
@@ -37,7 +37,7 @@ impl<'a> Heads<'a> {
     }
 
     /// Adds a head at the end. The error is want of memory.
-    pub fn push(&mut self, head: Head<'a>) -> Result<(), AllocError>
+    pub(crate) fn push(&mut self, head: Head<'a>) -> Result<(), AllocError>
         ensures { OnOk result (self.new ≡ self.old ++ head.entry ∷ []) }
     {
         self.items.reserve(1)?;
@@ -47,21 +47,21 @@ impl<'a> Heads<'a> {
 
     /// Whether there is no head.
     #[inline(always)]
-    pub fn is_empty(&self) -> bool
+    pub(crate) fn is_empty(&self) -> bool
         ensures { IsTrue result ↔ (self.now ≡ []) }
     {
         self.items.is_empty()
     }
 
     /// The place that the next head will have, as 32 bits hold it.
-    pub fn place_behind(&self) -> u32
+    pub(crate) fn place_behind(&self) -> u32
         ensures { result ≡ place_behind self.now }
     {
         crate::row::low_32(self.items.as_slice().len())
     }
 
     /// Puts the identifier behind `else` into the head of this place. The error is want of memory.
-    pub fn set_else_id(&mut self, place: u32, id: Id<'a>) -> Result<(), AllocError>
+    pub(crate) fn set_else_id(&mut self, place: u32, id: Id<'a>) -> Result<(), AllocError>
         ensures { OnOk result (self.new ≡ with_else_id self.old place id.entry) }
     {
         let place = place as usize;
@@ -73,7 +73,7 @@ impl<'a> Heads<'a> {
     }
 
     /// Puts the identifier behind `end` into the head of this place. The error is want of memory.
-    pub fn set_end_id(&mut self, place: u32, id: Id<'a>) -> Result<(), AllocError>
+    pub(crate) fn set_end_id(&mut self, place: u32, id: Id<'a>) -> Result<(), AllocError>
         ensures { OnOk result (self.new ≡ with_end_id self.old place id.entry) }
     {
         let place = place as usize;
@@ -86,14 +86,14 @@ impl<'a> Heads<'a> {
 
     /// Drops the heads, and keeps the memory that they stood in.
     #[inline(always)]
-    pub fn clear(&mut self)
+    pub(crate) fn clear(&mut self)
         ensures { self.new ≡ [] }
     {
         self.items.clear();
     }
 
     /// Takes the heads out. It takes no memory.
-    pub fn take_list(&mut self) -> List<Head<'a>>
+    pub(crate) fn take_list(&mut self) -> List<Head<'a>>
         ensures list { result ≡ self.old }
         ensures none { self.new ≡ [] }
     {

@@ -1,8 +1,8 @@
 //! Labels and immediates.
 
 ghost use Rattle.std.specs.Prelude.{◌≡◌, OnOk};
-ghost use Rattle.wc_drafts.specs.Standard.Immediates.{label_by, end_label_by, index_in, offset_by, align_by};
-ghost use Rattle.wc_drafts.specs.Standard.Immediates.{literal_by};
+ghost use Rattle.wc_drafts.specs.Drafting.Immediates.{label_by, end_label_by, index_in, offset_by, align_by};
+ghost use Rattle.wc_drafts.specs.Drafting.Immediates.{literal_by};
 
 use crate::awaiting::Awaiting;
 use crate::body_draft::BodyDraft;

@@ -14,13 +14,13 @@ ghost use Rattle.wc_drafts.specs.declared.body_draft.BodyDraft.{BodyDraft};
 ghost use Rattle.wc_drafts.specs.declared.held.Held.{Held};
 ghost use Rattle.wc_drafts.specs.declared.use_draft.UseDraft.{UseDraft};
 ghost use Rattle.wc_drafts.specs.declared.word.Word.{Word};
-ghost use Rattle.wc_drafts.specs.Standard.Words.{index_of};
-ghost use Rattle.wc_drafts.specs.Standard.Uses.{started_use, take_use, use_of};
-ghost use Rattle.wc_drafts.specs.Standard.Taking.{take};
-ghost use Rattle.wc_drafts.specs.Standard.Ending.{nothing_said, body_of, ended};
-ghost use Rattle.wc_drafts.specs.Standard.Sizes.{said_size};
-ghost use Rattle.wc_drafts.specs.Standard.Growing.{Grows};
-ghost use Rattle.wc_drafts.specs.Standard.Derived.{AreWords, take_all, Leaves};
+ghost use Rattle.wc_drafts.specs.Drafting.Words.{index_of};
+ghost use Rattle.wc_drafts.specs.Drafting.Uses.{started_use, take_use, use_of};
+ghost use Rattle.wc_drafts.specs.Drafting.Taking.{take};
+ghost use Rattle.wc_drafts.specs.Drafting.Ending.{nothing_said, body_of, ended};
+ghost use Rattle.wc_drafts.specs.Drafting.Sizes.{said_size};
+ghost use Rattle.wc_drafts.specs.Drafting.Growing.{Grows};
+ghost use Rattle.wc_drafts.specs.Standard.Derived.{AreWords};
 ghost use Rattle.wc_surface.specs.declared.type_use.User.{User};
 ghost use Rattle.wc_surface.specs.Standard.Written.Indices.{Index};
 ghost use Rattle.wc_surface.specs.Standard.Written.TypeUses.{Signature, TypeUse};
@@ -29,13 +29,14 @@ ghost use Rattle.wc_drafts.specs.Standard.Productions.Tokens.{Said, IsIndex};
 ghost use Rattle.wc_drafts.specs.Standard.Productions.TypeUses.{IsSignature, IsTypeUse, type_use};
 ghost use Rattle.wc_drafts.specs.Standard.Productions.Instructions.{Part, Says};
 ghost use Rattle.wc_drafts.specs.Standard.Productions.Kept.{IsSpoken, AreKept};
-ghost use Rattle.wc_drafts.specs.Standard.Following.{take_said, take_uses};
+ghost use Rattle.wc_drafts.specs.Drafting.Following.{take_said, take_uses, take_all};
+ghost use Rattle.wc_drafts.specs.Drafting.Leaving.{Leaves};
 ghost use Rattle.wc_drafts.specs.Stored.TypeUses.{index_as, use_as};
 ghost use Rattle.wc_drafts.specs.Stored.Bodies.{body_as};
 
 /// One more kept token adds no more than one parameter to a type use, and no more than one to the type uses and
 /// parameters of a body. At first there are none, and the end adds none.
-pub fn one_token_adds_one()
+pub(crate) fn one_token_adds_one()
     ensures params { (u : UseDraft) (r : Role) (w : Word) → length (take_use u r w).params ≤ length u.params + 1 }
     ensures body { (d : BodyDraft) (r : Role) (w : Word) → said_size (take d r w) ≤ said_size d + 1 }
     ensures first { said_size nothing_said ≡ 0 }
@@ -44,14 +45,14 @@ pub fn one_token_adds_one()
 
 /// One more kept token, and the end, leave all that was said: the heads, type uses, identifiers and labels of a body
 /// only grow at their ends. Of a head, the identifiers behind `else` and `end` come later.
-pub fn what_was_said_stays()
+pub(crate) fn what_was_said_stays()
     ensures token { (d : BodyDraft) (r : Role) (w : Word) → Grows (body_of d) (body_of (take d r w)) }
     ensures end { (d : BodyDraft) → Grows (body_of d) (ended d) }
 {}
 
 /// Behind the instructions of a derivation stands open, and waits, what stood open and waited before them: so behind a
 /// whole body nothing does.
-pub fn instructions_close_what_they_open()
+pub(crate) fn instructions_close_what_they_open()
     ensures instrs { (depth : ℕ) (items : List Item) (es : List Event) (words : ℕ → Word) (d : BodyDraft)
         (around : List (Frame TextInstr ℕ)) (held : List Held) (blocks : List ℕ)
         → Derives (instrs depth) items es → AreWords words es → length around + depth ≤ nesting_limit
@@ -79,7 +80,7 @@ pub fn always_a_value()
 
 /// The kept tokens of derived instructions, whose numbers 32 bits hold, add to a body just the instructions that they
 /// say, as they are stored.
-pub fn stored_as_said()
+pub(crate) fn stored_as_said()
     ensures instrs { (depth n : ℕ) (kinds : List Kind) (es : List Event) (us : List Said) (c : Instrs)
         → depth ≤ nesting_limit → n + length kinds ≤ 2 ^ 32 → Derives (instrs depth) (numbered n kinds) es
         → AreKept es us → Says Part.instrs us c → ended (take_said nothing_said us) ≡ body_as c }
@@ -89,7 +90,7 @@ pub fn stored_as_said()
 {}
 
 /// So are an index and a type use, and parameters and results without an index.
-pub fn parts_stored_as_said()
+pub(crate) fn parts_stored_as_said()
     ensures index { (w : Word) (x : Index) → IsSpoken w → IsIndex w x → index_of w ≡ index_as x }
     ensures type_use { (n : ℕ) (kinds : List Kind) (es : List Event) (us : List Said) (u : TypeUse) (user : User)
         (token : ℕ) → n + length kinds ≤ 2 ^ 32 → Derives (The typeuse) (numbered n kinds) es → AreKept es us

@@ -16,9 +16,6 @@ mod use_draft;
 mod word;
 
 pub use body_draft::BodyDraft;
-pub use laws::{
-    always_a_value, instructions_close_what_they_open, one_token_adds_one, one_value,
-    parts_stored_as_said, stored_as_said, what_was_said_stays,
-};
+pub use laws::{always_a_value, one_value};
 pub use use_draft::UseDraft;
 pub use word::{Word, identifier_of, index_of, number_in};

@@ -1,8 +1,8 @@
 //! Names of instructions.
 
 ghost use Rattle.std.specs.Prelude.{◌≡◌, OnOk};
-ghost use Rattle.wc_drafts.specs.Standard.Opening.{plain_by, name_plain, await_head, begin_by, hold_if, turn_by};
-ghost use Rattle.wc_drafts.specs.Standard.Opening.{end_by};
+ghost use Rattle.wc_drafts.specs.Drafting.Opening.{plain_by, name_plain, await_head, begin_by, hold_if, turn_by};
+ghost use Rattle.wc_drafts.specs.Drafting.Opening.{end_by};
 
 use crate::awaiting::Awaiting;
 use crate::body_draft::BodyDraft;

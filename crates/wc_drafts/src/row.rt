@@ -21,10 +21,10 @@ impl<T> Model for Row<T> {
 }
 
 impl<T: Drop> Row<T> {
-    ghost use Rattle.wc_drafts.specs.Standard.Words.{place_behind};
+    ghost use Rattle.wc_drafts.specs.Drafting.Words.{place_behind};
 
     /// Nothing so far. It takes no memory.
-    pub fn new(alloc: Global) -> Row<T>
+    pub(crate) fn new(alloc: Global) -> Row<T>
         ensures { result ≡ [] }
     {
         Row {
@@ -34,7 +34,7 @@ impl<T: Drop> Row<T> {
 
     /// Adds an item at the end. The error is want of memory.
     #[inline(always)]
-    pub fn push(&mut self, item: T) -> Result<(), AllocError>
+    pub(crate) fn push(&mut self, item: T) -> Result<(), AllocError>
         ensures { OnOk result (self.new ≡ self.old ++ item ∷ []) }
     {
         self.items.reserve(1)?;
@@ -44,7 +44,7 @@ impl<T: Drop> Row<T> {
 
     /// How many items there are.
     #[inline(always)]
-    pub fn len(&self) -> usize
+    pub(crate) fn len(&self) -> usize
         ensures { result ≡ length self.now }
     {
         self.items.as_slice().len()
@@ -52,7 +52,7 @@ impl<T: Drop> Row<T> {
 
     /// The place that the next item will have, as 32 bits hold it.
     #[inline(always)]
-    pub fn place_behind(&self) -> u32
+    pub(crate) fn place_behind(&self) -> u32
         ensures { result ≡ place_behind self.now }
     {
         low_32(self.items.as_slice().len())
@@ -60,19 +60,19 @@ impl<T: Drop> Row<T> {
 
     /// The items, in order.
     #[inline(always)]
-    pub fn as_slice(&self) -> &[T]
+    pub(crate) fn as_slice(&self) -> &[T]
         ensures { result.now ≡ self.now }
     {
         self.items.as_slice()
     }
 
     /// What new rows allocate by.
-    pub fn allocator(&self) -> Global {
+    pub(crate) fn allocator(&self) -> Global {
         *self.items.allocator()
     }
 
     /// Takes the items out. It takes no memory.
-    pub fn take_list(&mut self) -> List<T>
+    pub(crate) fn take_list(&mut self) -> List<T>
         ensures list { result ≡ self.old }
         ensures none { self.new ≡ [] }
     {
@@ -82,7 +82,7 @@ impl<T: Drop> Row<T> {
 
     /// Drops the items, and keeps the memory that they stood in.
     #[inline(always)]
-    pub fn clear(&mut self)
+    pub(crate) fn clear(&mut self)
         ensures { self.new ≡ [] }
     {
         self.items.clear();
@@ -91,7 +91,7 @@ impl<T: Drop> Row<T> {
 
 /// The lower 32 bits.
 #[inline(always)]
-pub fn low_32(number: usize) -> u32
+pub(crate) fn low_32(number: usize) -> u32
     ensures { result ≡ number % 2 ^ 32 }
 {
     (number % 0x1_0000_0000) as u32

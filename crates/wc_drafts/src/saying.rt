@@ -3,8 +3,8 @@
 ghost use Rattle.std.specs.Prelude.{◌≡◌, IfOk, OnOk};
 ghost use Rattle.wc_body.specs.Standard.Nested.{plain, otherwise, close};
 ghost use Rattle.wc_body.specs.Standard.Draft.{step};
-ghost use Rattle.wc_drafts.specs.Standard.Saying.{say, begun_in, begin_block, release, with_use, with_head};
-ghost use Rattle.wc_drafts.specs.Standard.Saying.{settled, table_of};
+ghost use Rattle.wc_drafts.specs.Drafting.Saying.{say, begun_in, begin_block, release, with_use, with_head};
+ghost use Rattle.wc_drafts.specs.Drafting.Saying.{settled, table_of};
 
 use crate::awaiting::Awaiting;
 use crate::body_draft::BodyDraft;

@@ -21,7 +21,7 @@ impl<T> Model for Stack<T> {
 
 impl<T: Drop> Stack<T> {
     /// Nothing so far. It takes no memory.
-    pub fn new(alloc: Global) -> Stack<T>
+    pub(crate) fn new(alloc: Global) -> Stack<T>
         ensures { result ≡ [] }
     {
         Stack {
@@ -31,7 +31,7 @@ impl<T: Drop> Stack<T> {
 
     /// Puts an item on top. The error is want of memory.
     #[inline(always)]
-    pub fn push(&mut self, item: T) -> Result<(), AllocError>
+    pub(crate) fn push(&mut self, item: T) -> Result<(), AllocError>
         ensures { OnOk result (self.new ≡ item ∷ self.old) }
     {
         self.items.reserve(1)?;
@@ -41,7 +41,7 @@ impl<T: Drop> Stack<T> {
 
     /// Takes the item on top.
     #[inline(always)]
-    pub fn pop(&mut self) -> Option<T>
+    pub(crate) fn pop(&mut self) -> Option<T>
         ensures { MatchOption result ((self.old ≡ []) × (self.new ≡ [])) (λ item. self.old ≡ item ∷ self.new) }
     {
         self.items.pop()
@@ -49,7 +49,7 @@ impl<T: Drop> Stack<T> {
 
     /// Drops the items, and keeps the memory that they stood in.
     #[inline(always)]
-    pub fn clear(&mut self)
+    pub(crate) fn clear(&mut self)
         ensures { self.new ≡ [] }
     {
         self.items.clear();
@@ -59,7 +59,7 @@ impl<T: Drop> Stack<T> {
 impl<T: Copy> Stack<T> {
     /// The item on top.
     #[inline(always)]
-    pub fn top(&self) -> Option<T>
+    pub(crate) fn top(&self) -> Option<T>
         ensures { MatchOption result (self.now ≡ []) (λ item. (rest : List T) × (self.now ≡ item ∷ rest)) }
     {
         self.items.last().copied()

@@ -2,7 +2,7 @@
 
 ghost use Rattle.std.specs.Prelude.{◌≡◌, IfOk, IfSome, OnOk};
 ghost use Rattle.wc_surface.specs.Kept.Funcs.{plain_use};
-ghost use Rattle.wc_drafts.specs.Standard.Uses.{started_use, begun_use, take_use, use_of, short_type};
+ghost use Rattle.wc_drafts.specs.Drafting.Uses.{started_use, begun_use, take_use, use_of, short_type};
 
 use crate::row::Row;
 use crate::word::{Word, identifier_of, index_of};
@@ -100,7 +100,7 @@ impl<'a> UseDraft<'a> {
 }
 
 impl<'a> UseDraft<'a> {
-    ghost use Rattle.wc_drafts.specs.Standard.Uses.{with_param, with_result};
+    ghost use Rattle.wc_drafts.specs.Drafting.Uses.{with_param, with_result};
 
     fn take_param(&mut self, value: Value) -> Result<(), AllocError>
         ensures { OnOk result (self.new ≡ with_param self.old value) }

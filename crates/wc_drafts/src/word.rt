@@ -1,7 +1,7 @@
 //! Kept tokens, and what each says by itself.
 
 ghost use Rattle.std.specs.Prelude.{◌≡◌, OnOk, IfOk};
-ghost use Rattle.wc_drafts.specs.Standard.Words.{identifier_of, number_in, index_of, operand_of, ids_with};
+ghost use Rattle.wc_drafts.specs.Drafting.Words.{identifier_of, number_in, index_of, operand_of, ids_with};
 
 use crate::row::Row;
 use std::alloc::AllocError;

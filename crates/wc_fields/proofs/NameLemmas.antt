@@ -3,7 +3,7 @@ use Rattle.std.proofs.Common.{◌≡◌, ℕ, Bool, true, false, List, [], refl,
 use Rattle.std.specs.Prelude.{if◌then◌else◌}
 use Rattle.std.specs.Str.{is_utf8}
 use Rattle.std.proofs.lemmas.Str.{is_utf8-from_IsUtf8, IsUtf8-from_is_utf8}
-use Rattle.wc_fields.specs.Standard.Fields.{name_of}
+use Rattle.wc_fields.specs.Drafting.Fields.{name_of}
 
 kept-by : (bytes : List ℕ) (b : Bool) → is_utf8 bytes ≡ b → is_utf8 bytes ≡ true → bytes ≡ (if b then bytes else [])
 kept-by bytes true e f = refl

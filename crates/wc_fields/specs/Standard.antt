@@ -1,4 +1,2 @@
-pub mod Fields
-pub mod Finished
-pub mod Following
+-- What the kept tokens of fields say, by the grammar's productions.
 pub mod Productions

@@ -2,8 +2,8 @@
 
 ghost use Rattle.std.specs.Prelude.{◌≡◌, OnOk, IfOk, MatchOption};
 ghost use Rattle.wc_surface.specs.Kept.Bodies.{plain_body};
-ghost use Rattle.wc_drafts.specs.Standard.Ending.{ended};
-ghost use Rattle.wc_fields.specs.Standard.Fields.{no_code, take_code};
+ghost use Rattle.wc_drafts.specs.Drafting.Ending.{ended};
+ghost use Rattle.wc_fields.specs.Drafting.Fields.{no_code, take_code};
 
 use std::alloc::{AllocError, Global};
 use wc_drafts::{BodyDraft, Word};

@@ -2,7 +2,7 @@
 
 ghost use Rattle.std.specs.Prelude.{◌≡◌, OnOk};
 ghost use Rattle.wc_words.specs.Strings.{bytes_in};
-ghost use Rattle.wc_fields.specs.Standard.Fields.{no_contents, with_bytes, take_content};
+ghost use Rattle.wc_fields.specs.Drafting.Fields.{no_contents, with_bytes, take_content};
 
 use std::alloc::{AllocError, Global};
 use std::mem::replace;

@@ -2,7 +2,7 @@
 
 ghost use Rattle.std.specs.Prelude.{◌≡◌, OnOk};
 ghost use Rattle.wc_words.specs.Strings.{bytes_in};
-ghost use Rattle.wc_fields.specs.Standard.Fields.{started, begun, take_string, take_word};
+ghost use Rattle.wc_fields.specs.Drafting.Fields.{started, begun, take_string, take_word};
 
 use crate::code_draft::CodeDraft;
 use crate::contents::Contents;
@@ -135,7 +135,7 @@ impl<'a> FieldDraft<'a> {
 }
 
 impl<'a> FieldDraft<'a> {
-    ghost use Rattle.wc_fields.specs.Standard.Fields.{with_use_part, take_part};
+    ghost use Rattle.wc_fields.specs.Drafting.Fields.{with_use_part, take_part};
 
     /// A part of the field's own type use, or of one inside of an instruction. The error is want of memory.
     fn take_use_part(&mut self, role: Role, word: &Word<'a>) -> Result<(), AllocError>

@@ -1,8 +1,8 @@
 //! Fields that are said whole.
 
 ghost use Rattle.std.specs.Prelude.{◌≡◌, IfOk};
-ghost use Rattle.wc_drafts.specs.Standard.Ending.{ended};
-ghost use Rattle.wc_fields.specs.Standard.Finished.{target_of, import_by, func_by, table_by, memory_by, global_by};
+ghost use Rattle.wc_drafts.specs.Drafting.Ending.{ended};
+ghost use Rattle.wc_fields.specs.Drafting.Finished.{target_of, import_by, func_by, table_by, memory_by, global_by};
 
 use crate::code_draft::CodeDraft;
 use crate::contents::Contents;
@@ -118,11 +118,11 @@ fn global_by<'a>(
 }
 
 impl<'a> FieldDraft<'a> {
-    ghost use Rattle.wc_fields.specs.Standard.Finished.{finished, type_field, import_field, func_field, table_field};
-    ghost use Rattle.wc_fields.specs.Standard.Finished.{memory_field, global_field, export_field};
-    ghost use Rattle.wc_fields.specs.Standard.Finished.{elem_field, data_field};
-    ghost use Rattle.wc_fields.specs.Standard.Finished.{start_field};
-    ghost use Rattle.wc_fields.specs.Standard.Fields.{started};
+    ghost use Rattle.wc_fields.specs.Drafting.Finished.{finished, type_field, import_field, func_field, table_field};
+    ghost use Rattle.wc_fields.specs.Drafting.Finished.{memory_field, global_field, export_field};
+    ghost use Rattle.wc_fields.specs.Drafting.Finished.{elem_field, data_field};
+    ghost use Rattle.wc_fields.specs.Drafting.Finished.{start_field};
+    ghost use Rattle.wc_fields.specs.Drafting.Fields.{started};
     ghost use Rattle.wc_syntax.specs.declared.kind.Kind.TheVariants.{OtherWord};
     ghost use Rattle.std.specs.Prelude.{◌≡◌, IfOk, MatchOption, OnOk};
 

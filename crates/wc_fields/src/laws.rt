@@ -12,9 +12,9 @@ ghost use Rattle.wc_drafts.specs.Standard.Tokens.{KeptToken};
 ghost use Rattle.wc_drafts.specs.Standard.Productions.Tokens.{Said, ◌⊳◌};
 ghost use Rattle.wc_drafts.specs.Standard.Productions.Kept.{AreKept};
 ghost use Rattle.wc_fields.specs.declared.field_draft.FieldDraft.{FieldDraft};
-ghost use Rattle.wc_fields.specs.Standard.Fields.{started, begun};
-ghost use Rattle.wc_fields.specs.Standard.Finished.{finished};
-ghost use Rattle.wc_fields.specs.Standard.Following.{Takes};
+ghost use Rattle.wc_fields.specs.Drafting.Fields.{started, begun};
+ghost use Rattle.wc_fields.specs.Drafting.Finished.{finished};
+ghost use Rattle.wc_fields.specs.Drafting.Following.{Takes};
 ghost use Rattle.wc_fields.specs.Standard.Productions.Fields.{IsField, AreFields};
 ghost use Rattle.wc_fields.specs.Stored.Fields.{field_as};
 
@@ -32,7 +32,7 @@ pub fn one_list_of_fields()
 
 /// The kept tokens of a derived field, whose numbers 32 bits hold, make a draft of just the field that they say, as it
 /// is stored.
-pub fn field_stored_as_said()
+pub(crate) fn field_stored_as_said()
     ensures { (depth n : ℕ) (kinds : List Kind) (es : List Event) (w z : KeptToken) (us : List Said) (f : Field)
         → depth ≤ nesting_limit → n + length kinds ≤ 2 ^ 32 → Derives (The (modulefield depth)) (numbered n kinds) es
         → AreKept es (role.Field ⊳ w ∷ us ++ role.FieldEnd ⊳ z ∷ []) → IsField w us f

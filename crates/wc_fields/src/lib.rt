@@ -12,4 +12,4 @@ mod names;
 mod parts;
 
 pub use field_draft::FieldDraft;
-pub use laws::{always_some_fields, field_stored_as_said, one_list_of_fields};
+pub use laws::{always_some_fields, one_list_of_fields};

@@ -1,7 +1,7 @@
 //! Locals that are being said.
 
 ghost use Rattle.std.specs.Prelude.{◌≡◌, OnOk};
-ghost use Rattle.wc_fields.specs.Standard.Fields.{no_locals, with_local, take_local};
+ghost use Rattle.wc_fields.specs.Drafting.Fields.{no_locals, with_local, take_local};
 
 use std::alloc::{AllocError, Global};
 use std::mem::replace;

@@ -2,7 +2,7 @@
 
 ghost use Rattle.std.specs.Prelude.{◌≡◌};
 ghost use Rattle.wc_words.specs.Strings.{bytes_in};
-ghost use Rattle.wc_fields.specs.Standard.Fields.{name_of};
+ghost use Rattle.wc_fields.specs.Drafting.Fields.{name_of};
 
 use wc_surface::TextName;
 use wc_words::StringValue;

@@ -1,8 +1,8 @@
 //! The names of a field.
 
 ghost use Rattle.std.specs.Prelude.{◌≡◌, None, IsTrue, OnOk, []};
-ghost use Rattle.wc_fields.specs.Standard.Fields.{unnamed, with_export, with_inline_export, take_name};
-ghost use Rattle.wc_fields.specs.Standard.Finished.{asked, asked_at};
+ghost use Rattle.wc_fields.specs.Drafting.Fields.{unnamed, with_export, with_inline_export, take_name};
+ghost use Rattle.wc_fields.specs.Drafting.Finished.{asked, asked_at};
 
 use std::alloc::{AllocError, Global};
 use std::mem::replace;

@@ -1,7 +1,7 @@
 //! Small parts of fields.
 
 ghost use Rattle.std.specs.Prelude.{◌≡◌};
-ghost use Rattle.wc_fields.specs.Standard.Fields.{first_import, described, with_min, with_max, with_value_type};
+ghost use Rattle.wc_fields.specs.Drafting.Fields.{first_import, described, with_min, with_max, with_value_type};
 
 use wc_ast::{ExportKind, GlobalType, Limits};
 use wc_syntax::Kind;

@@ -18,7 +18,7 @@ use Rattle.wc_printed.specs.Instructions.{naturals, block_signs, operand_signs, 
 use Rattle.wc_printed.specs.Kept.{Said, said_as, said_before, said_from}
 use Rattle.wc_drafts.specs.declared.word.Word.{Word}
 use Rattle.wc_drafts.specs.declared.body_draft.BodyDraft.{BodyDraft}
-use Rattle.wc_drafts.specs.Standard.Taking.{take}
+use Rattle.wc_drafts.specs.Drafting.Taking.{take}
 use Rattle.wc_fields.specs.declared.field_draft.FieldDraft.{FieldDraft}
 use Rattle.wc_text.specs.Kept.Texts.{Item, take_by, take_items}
 use Rattle.wc_text.specs.declared.text_draft.TextDraft.{TextDraft}

@@ -28,17 +28,17 @@ use Rattle.wc_printed.specs.Kept.{said_as, said_from}
 use Rattle.wc_printed.specs.Fitting.{FitsLimits, FitsOptional, FitsDesc, FitsImport, FitsExport, FitsFunc, FitsGlobal}
 use Rattle.wc_printed.specs.Fitting.{FitsElem, FitsData}
 use Rattle.wc_drafts.specs.declared.word.Word.{Word}
-use Rattle.wc_drafts.specs.Standard.Words.{index_by, number_in}
-use Rattle.wc_drafts.specs.Standard.Uses.{started_use}
+use Rattle.wc_drafts.specs.Drafting.Words.{index_by, number_in}
+use Rattle.wc_drafts.specs.Drafting.Uses.{started_use}
 use Rattle.wc_fields.specs.declared.field_draft.FieldDraft.{FieldDraft}
-use Rattle.wc_fields.specs.Standard.Fields.{started, unnamed, first_limits, name_of, with_min, with_max}
+use Rattle.wc_fields.specs.Drafting.Fields.{started, unnamed, first_limits, name_of, with_min, with_max}
 use Rattle.wc_told.specs.Words.{word_of, taken}
 use Rattle.wc_told.proofs.Marks.{number}
 use Rattle.wc_reread.specs.Surface.{use_by, locals_along, indices_along, type_field, import_field, func_field, table_field}
 use Rattle.wc_reread.specs.Surface.{memory_field, global_field, export_field, start_field, elem_field, data_field}
 use Rattle.wc_reread.proofs.Coding.{coded, begun, body}
 use Rattle.wc_told.proofs.Finished.{told-body}
-use Rattle.wc_drafts.specs.Standard.Ending.{nothing_said}
+use Rattle.wc_drafts.specs.Drafting.Ending.{nothing_said}
 use Rattle.wc_words.specs.declared.symbol.Value.TheVariants.{Number}
 use Rattle.wc_surface.specs.declared.head.TextBody.{TextBody}
 use Rattle.wc_surface.specs.declared.id.Index.TheVariants as index

@@ -14,7 +14,7 @@ use Rattle.wc_surface.specs.Standard.WrittenLocals.{local}
 use Rattle.wc_printed.specs.Signs.{closes, type_sign, natural}
 use Rattle.wc_printed.specs.Instructions.{values_signs, naturals}
 use Rattle.wc_printed.specs.Kept.{said_as}
-use Rattle.wc_drafts.specs.Standard.Words.{index_by}
+use Rattle.wc_drafts.specs.Drafting.Words.{index_by}
 use Rattle.wc_fields.specs.declared.field_draft.FieldDraft.{FieldDraft}
 use Rattle.wc_told.specs.Words.{word_of}
 use Rattle.wc_told.proofs.Marks.{number}

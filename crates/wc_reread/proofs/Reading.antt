@@ -7,7 +7,7 @@ use Rattle.wc_surface.specs.declared.field.Field.{Field}
 use Rattle.wc_printed.specs.Signs.{Sign}
 use Rattle.wc_fields.specs.declared.field_draft.FieldDraft.{FieldDraft}
 use Rattle.wc_text.specs.declared.text_draft.TextDraft.{TextDraft}
-use Rattle.wc_fields.specs.Standard.Fields.{started}
+use Rattle.wc_fields.specs.Drafting.Fields.{started}
 use Rattle.wc_text.specs.Kept.Texts.{Item, take_item, take_items}
 use Rattle.wc_reread.specs.Items.{item_as, item_before, items_from}
 use Rattle.wc_reread.specs.Surface.{along}

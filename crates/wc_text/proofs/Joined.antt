@@ -18,9 +18,9 @@ use Rattle.wc_drafts.proofs.OneValue.Reading.{AllRoles}
 use Rattle.wc_drafts.proofs.Storing.Following.{is_string as is_string_kind, FitsRole, Follow, follow-range, part}
 use Rattle.wc_drafts.proofs.Storing.Derived.{derived-follow}
 use Rattle.wc_fields.specs.declared.field_draft.FieldDraft.{FieldDraft}
-use Rattle.wc_fields.specs.Standard.Fields.{started, begun, take_word, take_string}
-use Rattle.wc_fields.specs.Standard.Finished.{finished}
-use Rattle.wc_fields.specs.Standard.Following.{is_string, Takes}
+use Rattle.wc_fields.specs.Drafting.Fields.{started, begun, take_word, take_string}
+use Rattle.wc_fields.specs.Drafting.Finished.{finished}
+use Rattle.wc_fields.specs.Drafting.Following.{is_string, Takes}
 use Rattle.wc_fields.specs.Standard.Productions.Fields.{AreFields}
 use Rattle.wc_fields.specs.Stored.Fields.{field_as}
 use Rattle.wc_fields.proofs.OneValue.Cutting.{before}

@@ -22,16 +22,16 @@ use Rattle.wc_surface.specs.Standard.Sizes.{table_inline, memory_inline}
 use Rattle.wc_surface.specs.Standard.WrittenLocals.{local}
 use Rattle.wc_drafts.specs.declared.use_draft.UseDraft.{UseDraft}
 use Rattle.wc_drafts.specs.declared.word.Word.{Word}
-use Rattle.wc_drafts.specs.Standard.Sizes.{said_size}
-use Rattle.wc_drafts.specs.Standard.Words.{index_of}
+use Rattle.wc_drafts.specs.Drafting.Sizes.{said_size}
+use Rattle.wc_drafts.specs.Drafting.Words.{index_of}
 use Rattle.wc_drafts.proofs.SizeLemmas.{take_use-size, take-size, ended-size}
 use Rattle.wc_fields.specs.declared.locals_draft.LocalsDraft.{LocalsDraft}
 use Rattle.wc_fields.specs.declared.contents.Contents.{Contents}
 use Rattle.wc_fields.specs.declared.code_draft.CodeDraft.{CodeDraft}
 use Rattle.wc_fields.specs.declared.field_draft.FieldDraft.{FieldDraft}
-use Rattle.wc_fields.specs.Standard.Fields.{begun, take_string, take_word, take_part, with_use_part, with_local}
-use Rattle.wc_fields.specs.Standard.Finished.{finished_by, finished, asked, func_by, table_by, memory_by, global_by}
-use Rattle.wc_fields.specs.Standard.Finished.{import_by}
+use Rattle.wc_fields.specs.Drafting.Fields.{begun, take_string, take_word, take_part, with_use_part, with_local}
+use Rattle.wc_fields.specs.Drafting.Finished.{finished_by, finished, asked, func_by, table_by, memory_by, global_by}
+use Rattle.wc_fields.specs.Drafting.Finished.{import_by}
 use Rattle.wc_text.specs.declared.text_draft.TextDraft.{TextDraft}
 use Rattle.wc_text.specs.Kept.Texts.{Item, nothing, take_by, take_item, take_items}
 

@@ -47,7 +47,7 @@ pub fn one_written_list()
 {}
 
 /// By the productions, tokens say some fields exactly where their kept tokens, one after the other, give any.
-pub fn always_written()
+pub(crate) fn always_written()
     ensures written { (ts : List Lexeme) (fields : List Field) → Folds ts fields
         → (written : List WrittenField) × SaysFields ts written }
     ensures said { (ts : List Lexeme) (written : List WrittenField) → SaysFields ts written
@@ -55,7 +55,7 @@ pub fn always_written()
 {}
 
 /// Tokens whose numbers 32 bits hold say just the fields that their kept tokens, one after the other, give.
-pub fn stored_as_said()
+pub(crate) fn stored_as_said()
     ensures said { (ts : List Lexeme) (fields : List Field) → length ts ≤ 2 ^ 32 → Folds ts fields → Syn ts fields }
     ensures given { (ts : List Lexeme) (fields : List Field) → length ts ≤ 2 ^ 32 → Syn ts fields → Folds ts fields }
 {}

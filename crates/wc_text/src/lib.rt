@@ -13,10 +13,6 @@ mod words;
 
 pub use fault::SynFault;
 pub use fields::parse;
-pub use laws::{
-    always_one, always_written, few_fields, never_both, one_fault, one_list, one_written_list,
-    stored_as_said,
-};
+pub use laws::{always_one, few_fields, never_both, one_fault, one_list, one_written_list};
 pub use refusal::TextRefusal;
 pub use stream::parse_text;
-pub use text_draft::TextDraft;

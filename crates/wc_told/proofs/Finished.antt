@@ -17,8 +17,8 @@ use Rattle.wc_printed.specs.Instructions.{code_signs}
 use Rattle.wc_printed.specs.Kept.{said_from}
 use Rattle.wc_printed.proofs.Codes.{tree, flat-same}
 use Rattle.wc_drafts.specs.declared.body_draft.BodyDraft.{BodyDraft}
-use Rattle.wc_drafts.specs.Standard.Saying.{settled}
-use Rattle.wc_drafts.specs.Standard.Ending.{nothing_said, all_closed, ended}
+use Rattle.wc_drafts.specs.Drafting.Saying.{settled}
+use Rattle.wc_drafts.specs.Drafting.Ending.{nothing_said, all_closed, ended}
 use Rattle.wc_told.specs.Words.{taken}
 use Rattle.wc_told.specs.Bodies.{Spot, start, behind_code, text_code, text_body}
 use Rattle.wc_told.proofs.Marks.{Holds}

@@ -20,11 +20,11 @@ use Rattle.wc_printed.specs.Signs.{natural}
 use Rattle.wc_printed.specs.Instructions.{block_signs}
 use Rattle.wc_printed.specs.Kept.{said_as, said_from}
 use Rattle.wc_drafts.specs.declared.body_draft.BodyDraft.{BodyDraft}
-use Rattle.wc_drafts.specs.Standard.Words.{index_by, place_behind}
-use Rattle.wc_drafts.specs.Standard.Uses.{started_use}
-use Rattle.wc_drafts.specs.Standard.Heads.{head_of}
-use Rattle.wc_drafts.specs.Standard.Saying.{settled}
-use Rattle.wc_drafts.specs.Standard.Opening.{await_head, turn_by, end_by}
+use Rattle.wc_drafts.specs.Drafting.Words.{index_by, place_behind}
+use Rattle.wc_drafts.specs.Drafting.Uses.{started_use}
+use Rattle.wc_drafts.specs.Drafting.Heads.{head_of}
+use Rattle.wc_drafts.specs.Drafting.Saying.{settled}
+use Rattle.wc_drafts.specs.Drafting.Opening.{await_head, turn_by, end_by}
 use Rattle.wc_told.specs.Words.{word_of, taken}
 use Rattle.wc_told.specs.Bodies.{Spot, block_uses, head_type, behind_head, behind}
 use Rattle.wc_told.proofs.Marks.{Holds, number, said-of}

@@ -32,12 +32,12 @@ use Rattle.wc_surface.specs.declared.instr.TextInstr.{TextInstr}
 use Rattle.wc_printed.specs.Instructions.{mark_signs, naturals}
 use Rattle.wc_printed.specs.Kept.{said_as, said_from}
 use Rattle.wc_drafts.specs.declared.body_draft.BodyDraft.{BodyDraft}
-use Rattle.wc_drafts.specs.Standard.Words.{number_in, operand_by, ids_by, index_by, place_behind}
-use Rattle.wc_drafts.specs.Standard.Uses.{started_use}
+use Rattle.wc_drafts.specs.Drafting.Words.{number_in, operand_by, ids_by, index_by, place_behind}
+use Rattle.wc_drafts.specs.Drafting.Uses.{started_use}
 use Rattle.wc_surface.specs.declared.type_use.User.TheVariants as user
 use Rattle.wc_drafts.specs.declared.awaiting.Awaiting.TheVariants as awaiting
-use Rattle.wc_drafts.specs.Standard.Opening.{await}
-use Rattle.wc_drafts.specs.Standard.Saying.{settled, table_of}
+use Rattle.wc_drafts.specs.Drafting.Opening.{await}
+use Rattle.wc_drafts.specs.Drafting.Saying.{settled, table_of}
 use Rattle.wc_told.specs.Words.{word_of, taken}
 use Rattle.wc_told.specs.Bodies.{Spot, instr_uses, instr_labels, behind, text_instr}
 

@@ -17,8 +17,8 @@ use Rattle.wc_printed.specs.Kept.{Said, said_from}
 use Rattle.wc_printed.proofs.Meaning.{said-append}
 use Rattle.wc_printed.proofs.Codes.{else_signs, end_signs, tree}
 use Rattle.wc_drafts.specs.declared.body_draft.BodyDraft.{BodyDraft}
-use Rattle.wc_drafts.specs.Standard.Words.{place_behind}
-use Rattle.wc_drafts.specs.Standard.Taking.{take}
+use Rattle.wc_drafts.specs.Drafting.Words.{place_behind}
+use Rattle.wc_drafts.specs.Drafting.Taking.{take}
 use Rattle.wc_told.specs.Words.{word_of, taken}
 use Rattle.wc_told.specs.Bodies.{Spot, behind, behind_else, behind_code, text_instr, text_code}
 use Rattle.wc_told.proofs.Marks.{Holds, plains, said-of}

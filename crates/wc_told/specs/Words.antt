@@ -3,7 +3,7 @@ use Rattle.std.specs.Prelude.{ℕ, List, [], ◌∷◌}
 use Rattle.wc_printed.specs.Kept.{Said}
 use Rattle.wc_drafts.specs.declared.word.Word.{Word}
 use Rattle.wc_drafts.specs.declared.body_draft.BodyDraft.{BodyDraft}
-use Rattle.wc_drafts.specs.Standard.Taking.{take}
+use Rattle.wc_drafts.specs.Drafting.Taking.{take}
 
 -- a kept token, whose bytes stand at an address
 abbrev pub word_of : (ℕ → ℕ × ℕ) → Said → Word

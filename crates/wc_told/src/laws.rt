@@ -7,7 +7,7 @@ ghost use Rattle.wc_body.specs.declared.instr.BlockType.{BlockType as HeadType};
 ghost use Rattle.wc_body.specs.declared.instr.Instr.{Instr as Instruction};
 ghost use Rattle.wc_printed.specs.Instructions.{code_signs};
 ghost use Rattle.wc_printed.specs.Kept.{said_from};
-ghost use Rattle.wc_drafts.specs.Standard.Ending.{nothing_said, ended};
+ghost use Rattle.wc_drafts.specs.Drafting.Ending.{nothing_said, ended};
 ghost use Rattle.wc_told.specs.Bodies.{text_body};
 ghost use Rattle.wc_told.specs.Words.{taken};
 

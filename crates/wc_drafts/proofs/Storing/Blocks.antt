@@ -21,14 +21,14 @@ use Rattle.wc_drafts.specs.declared.held.Held.{Held}
 use Rattle.wc_drafts.specs.declared.held.Held.TheVariants as held
 use Rattle.wc_drafts.specs.declared.body_draft.BodyDraft.{BodyDraft}
 use Rattle.wc_drafts.specs.Standard.Tokens.{KeptToken}
-use Rattle.wc_drafts.specs.Standard.Words.{place_behind}
-use Rattle.wc_drafts.specs.Standard.Heads.{with_else_id, with_end_id}
-use Rattle.wc_drafts.specs.Standard.Saying.{begun_in, begin_block, release_by, settled}
-use Rattle.wc_drafts.specs.Standard.Opening.{await_head, begin_by, turn_by, end_by}
-use Rattle.wc_drafts.specs.Standard.Taking.{take}
+use Rattle.wc_drafts.specs.Drafting.Words.{place_behind}
+use Rattle.wc_drafts.specs.Drafting.Heads.{with_else_id, with_end_id}
+use Rattle.wc_drafts.specs.Drafting.Saying.{begun_in, begin_block, release_by, settled}
+use Rattle.wc_drafts.specs.Drafting.Opening.{await_head, begin_by, turn_by, end_by}
+use Rattle.wc_drafts.specs.Drafting.Taking.{take}
 use Rattle.wc_drafts.specs.Standard.Productions.Tokens.{Said, ◌⊳◌, NamesInstruction, IsId, bytes}
 use Rattle.wc_drafts.specs.Standard.Productions.Instructions.{IsRegion, block_word, loop_word, IsHead, head}
-use Rattle.wc_drafts.specs.Standard.Following.{take_said}
+use Rattle.wc_drafts.specs.Drafting.Following.{take_said}
 use Rattle.wc_drafts.specs.Stored.Rows.{Rows}
 use Rattle.wc_drafts.specs.Stored.Bodies.{Places, head_as}
 use Rattle.wc_drafts.proofs.Storing.Following.{Follow}

@@ -10,10 +10,10 @@ use Rattle.wc_surface.specs.Standard.Written.Instructions.{BlockType, Head, Inst
 use Rattle.wc_drafts.specs.declared.held.Held.TheVariants as held
 use Rattle.wc_drafts.specs.declared.body_draft.BodyDraft.{BodyDraft}
 use Rattle.wc_drafts.specs.Standard.Tokens.{KeptToken}
-use Rattle.wc_drafts.specs.Standard.Taking.{take}
+use Rattle.wc_drafts.specs.Drafting.Taking.{take}
 use Rattle.wc_drafts.specs.Standard.Productions.Tokens.{Said, ◌⊳◌, IsId}
 use Rattle.wc_drafts.specs.Standard.Productions.Instructions.{IsHead, head}
-use Rattle.wc_drafts.specs.Standard.Following.{take_said}
+use Rattle.wc_drafts.specs.Drafting.Following.{take_said}
 use Rattle.wc_drafts.specs.Stored.Rows.{Rows, type_uses_in}
 use Rattle.wc_drafts.specs.Stored.Bodies.{Places, code_as}
 use Rattle.wc_drafts.proofs.Storing.Following.{Follow, follow-range, Parted, said-append}

@@ -7,10 +7,10 @@ use Rattle.wc_syntax.specs.declared.role.Role.{Role}
 use Rattle.wc_syntax.specs.declared.role.Role.TheVariants as role
 use Rattle.wc_drafts.specs.declared.body_draft.BodyDraft.{BodyDraft}
 use Rattle.wc_drafts.specs.Standard.Tokens.{KeptToken}
-use Rattle.wc_drafts.specs.Standard.Taking.{take}
+use Rattle.wc_drafts.specs.Drafting.Taking.{take}
 use Rattle.wc_drafts.specs.Standard.Productions.Tokens.{Said, ◌⊳◌}
 use Rattle.wc_drafts.specs.Standard.Productions.Kept.{IsSpoken}
-use Rattle.wc_drafts.specs.Standard.Following.{take_said}
+use Rattle.wc_drafts.specs.Drafting.Following.{take_said}
 use Rattle.wc_drafts.proofs.SomeValue.Spoken.{is_wide}
 
 -- the kind is that of a string

@@ -12,15 +12,15 @@ use Rattle.wc_surface.specs.Standard.Written.Instructions.{BlockType}
 use Rattle.wc_drafts.specs.declared.awaiting.Awaiting.TheVariants as awaiting
 use Rattle.wc_drafts.specs.declared.body_draft.BodyDraft.{BodyDraft}
 use Rattle.wc_drafts.specs.Standard.Tokens.{KeptToken}
-use Rattle.wc_drafts.specs.Standard.Uses.{short_by, started_use}
-use Rattle.wc_drafts.specs.Standard.Heads.{head_of}
-use Rattle.wc_drafts.specs.Standard.Saying.{complete, head_by}
-use Rattle.wc_drafts.specs.Standard.Opening.{await_head}
+use Rattle.wc_drafts.specs.Drafting.Uses.{short_by, started_use}
+use Rattle.wc_drafts.specs.Drafting.Heads.{head_of}
+use Rattle.wc_drafts.specs.Drafting.Saying.{complete, head_by}
+use Rattle.wc_drafts.specs.Drafting.Opening.{await_head}
 use Rattle.wc_drafts.specs.Standard.Productions.Tokens.{Said, IsId, bytes}
 use Rattle.wc_drafts.specs.Standard.Productions.TypeUses.{IsLong, by_index, by_param, by_results}
 use Rattle.wc_drafts.specs.Standard.Productions.TypeUses.{IsBlockType, no_type, one_type, typed}
 use Rattle.wc_drafts.specs.Standard.Productions.Instructions.{IsHead, head}
-use Rattle.wc_drafts.specs.Standard.Following.{take_said}
+use Rattle.wc_drafts.specs.Drafting.Following.{take_said}
 use Rattle.wc_drafts.specs.Stored.TypeUses.{index_as}
 use Rattle.wc_drafts.specs.Stored.Bodies.{Places}
 use Rattle.wc_drafts.proofs.Storing.Following.{Follow, said-append, part}

@@ -11,7 +11,7 @@ use Rattle.wc_drafts.specs.declared.body_draft.BodyDraft.{BodyDraft}
 use Rattle.wc_drafts.specs.Standard.Tokens.{KeptToken}
 use Rattle.wc_drafts.specs.Standard.Productions.Tokens.{Said, ◌⊳◌}
 use Rattle.wc_drafts.specs.Standard.Productions.Plain.{IsPlain}
-use Rattle.wc_drafts.specs.Standard.Following.{take_said}
+use Rattle.wc_drafts.specs.Drafting.Following.{take_said}
 use Rattle.wc_drafts.specs.Stored.Rows.{Rows}
 use Rattle.wc_drafts.specs.Stored.Bodies.{Places, plain_as, code_as}
 use Rattle.wc_drafts.proofs.Storing.Following.{Follow, follow-range, Parted, said-append}

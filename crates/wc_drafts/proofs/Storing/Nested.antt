@@ -15,7 +15,7 @@ use Rattle.wc_drafts.specs.declared.body_draft.BodyDraft.{BodyDraft}
 use Rattle.wc_drafts.specs.Standard.Tokens.{KeptToken}
 use Rattle.wc_drafts.specs.Standard.Productions.Tokens.{Said, ◌⊳◌, NamesInstruction, IsId}
 use Rattle.wc_drafts.specs.Standard.Productions.Instructions.{IsRegion, IsHead, head}
-use Rattle.wc_drafts.specs.Standard.Following.{take_said}
+use Rattle.wc_drafts.specs.Drafting.Following.{take_said}
 use Rattle.wc_drafts.specs.Stored.Rows.{Rows, type_uses_in}
 use Rattle.wc_drafts.specs.Stored.Bodies.{Places, code_as}
 use Rattle.wc_drafts.proofs.Storing.Following.{follow-range, Parted, said-append}

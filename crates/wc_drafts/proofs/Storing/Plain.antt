@@ -30,14 +30,14 @@ use Rattle.wc_drafts.specs.declared.held.Held.TheVariants as held
 use Rattle.wc_drafts.specs.declared.body_draft.BodyDraft.{BodyDraft}
 use Rattle.wc_drafts.specs.declared.use_draft.UseDraft.{UseDraft}
 use Rattle.wc_drafts.specs.Standard.Tokens.{KeptToken}
-use Rattle.wc_drafts.specs.Standard.Words.{place_behind, operand_of, ids_with}
-use Rattle.wc_drafts.specs.Standard.Uses.{use_of}
-use Rattle.wc_drafts.specs.Standard.Saying.{complete, settle_by, settled, table_of}
-use Rattle.wc_drafts.specs.Standard.Opening.{name_plain, await}
-use Rattle.wc_drafts.specs.Standard.Immediates.{index_in, offset_by, align_by, literal_by}
+use Rattle.wc_drafts.specs.Drafting.Words.{place_behind, operand_of, ids_with}
+use Rattle.wc_drafts.specs.Drafting.Uses.{use_of}
+use Rattle.wc_drafts.specs.Drafting.Saying.{complete, settle_by, settled, table_of}
+use Rattle.wc_drafts.specs.Drafting.Opening.{name_plain, await}
+use Rattle.wc_drafts.specs.Drafting.Immediates.{index_in, offset_by, align_by, literal_by}
 use Rattle.wc_drafts.specs.Standard.Productions.Tokens.{Said, ◌⊳◌}
 use Rattle.wc_drafts.specs.Standard.Productions.Plain.{AreLabels, IsMemOffset, IsMemAlign, IsMemArg, IsPlain}
-use Rattle.wc_drafts.specs.Standard.Following.{take_said}
+use Rattle.wc_drafts.specs.Drafting.Following.{take_said}
 use Rattle.wc_drafts.specs.Stored.Rows.{id_in, index_token}
 use Rattle.wc_drafts.specs.Stored.Bodies.{Places, operand_as, plain_as, first_label}
 use Rattle.wc_drafts.proofs.Storing.Placing.{Placed, placed-first, placed-last}

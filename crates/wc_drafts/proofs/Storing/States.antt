@@ -12,7 +12,7 @@ use Rattle.wc_surface.specs.declared.type_use.TypeUse.{TypeUse as StoredUse}
 use Rattle.wc_surface.specs.Standard.Identifiers.{Identifier}
 use Rattle.wc_drafts.specs.declared.held.Held.{Held}
 use Rattle.wc_drafts.specs.declared.body_draft.BodyDraft.{BodyDraft}
-use Rattle.wc_drafts.specs.Standard.Saying.{settled}
+use Rattle.wc_drafts.specs.Drafting.Saying.{settled}
 use Rattle.wc_drafts.specs.Stored.Rows.{Rows, index_token}
 use Rattle.wc_drafts.specs.Stored.Bodies.{Places, operand_as, head_as}
 use Rattle.wc_drafts.proofs.Storing.Placing.{Placed, placed-first, placed-last}

@@ -13,12 +13,12 @@ use Rattle.wc_surface.specs.Standard.Identifiers.{Identifier}
 use Rattle.wc_surface.specs.Standard.Written.TypeUses.{Param, Signature, TypeUse}
 use Rattle.wc_drafts.specs.declared.body_draft.BodyDraft.{BodyDraft}
 use Rattle.wc_drafts.specs.declared.use_draft.UseDraft.{UseDraft}
-use Rattle.wc_drafts.specs.Standard.Uses.{started_use, with_param, with_result}
+use Rattle.wc_drafts.specs.Drafting.Uses.{started_use, with_param, with_result}
 use Rattle.wc_drafts.specs.Standard.Productions.Tokens.{Said, bytes}
 use Rattle.wc_drafts.specs.Standard.Productions.TypeUses.{AreTypes, unnamed, IsParam, one, several, AreParams}
 use Rattle.wc_drafts.specs.Standard.Productions.TypeUses.{AreResults, IsSignature, both, IsTypeUse}
 use Rattle.wc_drafts.specs.Standard.Productions.TypeUses.{inline, indexed}
-use Rattle.wc_drafts.specs.Standard.Following.{take_said}
+use Rattle.wc_drafts.specs.Drafting.Following.{take_said}
 use Rattle.wc_drafts.specs.Stored.TypeUses.{index_as, names_from, name_at}
 use Rattle.wc_drafts.proofs.Storing.Following.{Follow, said-append, follow-length}
 use Rattle.wc_drafts.proofs.Storing.Words.{behind, stored-index}

@@ -7,12 +7,12 @@ use Rattle.wc_surface.specs.Standard.Written.TypeUses.{TypeUse}
 use Rattle.wc_drafts.specs.declared.body_draft.BodyDraft.{BodyDraft}
 use Rattle.wc_drafts.specs.declared.use_draft.UseDraft.{UseDraft}
 use Rattle.wc_drafts.specs.Standard.Tokens.{KeptToken}
-use Rattle.wc_drafts.specs.Standard.Uses.{started_use, take_use, use_of}
-use Rattle.wc_drafts.specs.Standard.Taking.{take}
-use Rattle.wc_drafts.specs.Standard.Ending.{nothing_said}
+use Rattle.wc_drafts.specs.Drafting.Uses.{started_use, take_use, use_of}
+use Rattle.wc_drafts.specs.Drafting.Taking.{take}
+use Rattle.wc_drafts.specs.Drafting.Ending.{nothing_said}
 use Rattle.wc_drafts.specs.Standard.Productions.Tokens.{Said}
 use Rattle.wc_drafts.specs.Standard.Productions.TypeUses.{IsTypeUse}
-use Rattle.wc_drafts.specs.Standard.Following.{take_said, take_uses}
+use Rattle.wc_drafts.specs.Drafting.Following.{take_said, take_uses}
 use Rattle.wc_drafts.specs.Stored.TypeUses.{use_as}
 use Rattle.wc_drafts.proofs.OneValue.Reading.{is_use, AllRoles}
 use Rattle.wc_drafts.proofs.OneValue.Structure.{type_use-roles}

@@ -4,10 +4,10 @@ use Rattle.wc_body.specs.Standard.Nested.{nesting_limit, nesting}
 use Rattle.wc_syntax.specs.declared.role.Role.TheVariants as role
 use Rattle.wc_surface.specs.declared.head.TextBody.{TextBody}
 use Rattle.wc_surface.specs.Standard.Written.Instructions.{Instrs}
-use Rattle.wc_drafts.specs.Standard.Ending.{nothing_said, all_closed, ended}
+use Rattle.wc_drafts.specs.Drafting.Ending.{nothing_said, all_closed, ended}
 use Rattle.wc_drafts.specs.Standard.Productions.Tokens.{Said, ◌⊳◌, IsId}
 use Rattle.wc_drafts.specs.Standard.Productions.Instructions.{Part, Says}
-use Rattle.wc_drafts.specs.Standard.Following.{take_said}
+use Rattle.wc_drafts.specs.Drafting.Following.{take_said}
 use Rattle.wc_drafts.specs.Stored.Rows.{Rows, index_token}
 use Rattle.wc_drafts.specs.Stored.Bodies.{Places, places_in, body_with, body_as}
 use Rattle.wc_drafts.proofs.Storing.Placing.{placed-all}

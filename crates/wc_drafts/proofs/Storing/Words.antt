@@ -19,8 +19,8 @@ use Rattle.wc_surface.specs.declared.instr.Operand.TheVariants as operand
 use Rattle.wc_surface.specs.Standard.Identifiers.{Identifier}
 use Rattle.wc_surface.specs.Standard.Written.Indices.{Index, number, named}
 use Rattle.wc_drafts.specs.Standard.Tokens.{KeptToken}
-use Rattle.wc_drafts.specs.Standard.Words.{place_behind, number_in, index_by, index_of, operand_by, operand_of}
-use Rattle.wc_drafts.specs.Standard.Words.{ids_by, ids_with}
+use Rattle.wc_drafts.specs.Drafting.Words.{place_behind, number_in, index_by, index_of, operand_by, operand_of}
+use Rattle.wc_drafts.specs.Drafting.Words.{ids_by, ids_with}
 use Rattle.wc_drafts.specs.Standard.Productions.Tokens.{IsIndex, u32, id, bytes, IsLiteral, spelled}
 use Rattle.wc_drafts.specs.Standard.Productions.Kept.{IsSpoken}
 use Rattle.wc_drafts.specs.Stored.TypeUses.{index_as}

@@ -11,9 +11,9 @@ use Rattle.wc_surface.specs.Standard.Written.Instructions.{Instrs}
 use Rattle.wc_drafts.specs.declared.use_draft.UseDraft.{UseDraft}
 use Rattle.wc_drafts.specs.declared.body_draft.BodyDraft.{BodyDraft}
 use Rattle.wc_drafts.specs.Standard.Tokens.{KeptToken}
-use Rattle.wc_drafts.specs.Standard.Uses.{take_use}
-use Rattle.wc_drafts.specs.Standard.Taking.{take}
-use Rattle.wc_drafts.specs.Standard.Following.{take_said, take_uses}
+use Rattle.wc_drafts.specs.Drafting.Uses.{take_use}
+use Rattle.wc_drafts.specs.Drafting.Taking.{take}
+use Rattle.wc_drafts.specs.Drafting.Following.{take_said, take_uses}
 use Rattle.wc_drafts.specs.Standard.Productions.Tokens.{Said}
 use Rattle.wc_drafts.specs.Standard.Productions.TypeUses.{IsTypeUse}
 use Rattle.wc_drafts.specs.Standard.Productions.Instructions.{Part, Says}
@@ -24,8 +24,8 @@ use Rattle.wc_fields.specs.declared.locals_draft.LocalsDraft.{LocalsDraft}
 use Rattle.wc_fields.specs.declared.contents.Contents.{Contents}
 use Rattle.wc_fields.specs.declared.code_draft.CodeDraft.{CodeDraft}
 use Rattle.wc_fields.specs.declared.field_draft.FieldDraft.{FieldDraft}
-use Rattle.wc_fields.specs.Standard.Fields.{no_code, take_word}
-use Rattle.wc_fields.specs.Standard.Following.{is_string, Takes}
+use Rattle.wc_fields.specs.Drafting.Fields.{no_code, take_word}
+use Rattle.wc_fields.specs.Drafting.Following.{is_string, Takes}
 use Rattle.wc_fields.proofs.OneValue.Cutting.{before, Starts}
 use Rattle.wc_fields.proofs.OneValue.Places.{is_code, code-roles, code-starts}
 use Rattle.wc_fields.proofs.Storing.Taking.{draft, one-word}

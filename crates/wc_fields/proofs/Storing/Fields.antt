@@ -31,9 +31,9 @@ use Rattle.wc_drafts.specs.Standard.Productions.Tokens.{Said, ◌⊳◌, IsIndex
 use Rattle.wc_drafts.specs.Standard.Productions.Kept.{IsSpoken}
 use Rattle.wc_drafts.specs.Standard.Productions.TypeUses.{IsTypeUse, inline}
 use Rattle.wc_drafts.specs.Standard.Productions.Instructions.{Part, Says}
-use Rattle.wc_drafts.specs.Standard.Uses.{started_use, use_of}
-use Rattle.wc_drafts.specs.Standard.Ending.{nothing_said, ended}
-use Rattle.wc_drafts.specs.Standard.Following.{take_said, take_uses}
+use Rattle.wc_drafts.specs.Drafting.Uses.{started_use, use_of}
+use Rattle.wc_drafts.specs.Drafting.Ending.{nothing_said, ended}
+use Rattle.wc_drafts.specs.Drafting.Following.{take_said, take_uses}
 use Rattle.wc_drafts.specs.Stored.TypeUses.{index_as, use_as}
 use Rattle.wc_drafts.specs.Stored.Bodies.{body_as}
 use Rattle.wc_drafts.proofs.Storing.Following.{Follow, follow-range, Parted, part}
@@ -41,9 +41,9 @@ use Rattle.wc_drafts.proofs.Storing.Uses.{use-stored}
 use Rattle.wc_drafts.proofs.Storing.Whole.{body-stored}
 use Rattle.wc_drafts.proofs.Storing.Derived.{follow-from}
 use Rattle.wc_fields.specs.declared.field_draft.FieldDraft.{FieldDraft}
-use Rattle.wc_fields.specs.Standard.Fields.{started, begun}
-use Rattle.wc_fields.specs.Standard.Finished.{finished}
-use Rattle.wc_fields.specs.Standard.Following.{Takes}
+use Rattle.wc_fields.specs.Drafting.Fields.{started, begun}
+use Rattle.wc_fields.specs.Drafting.Finished.{finished}
+use Rattle.wc_fields.specs.Drafting.Following.{Takes}
 use Rattle.wc_fields.specs.Standard.Productions.Parts.{IsName, IsDeclared, IsImport, IsKind}
 use Rattle.wc_fields.specs.Standard.Productions.Fields.{IsDesc, IsFunction, IsTable, IsMemory, IsGlobal, IsField}
 use Rattle.wc_fields.specs.Stored.Fields.{import_as, local_as, field_as}

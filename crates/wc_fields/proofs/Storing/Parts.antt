@@ -16,7 +16,7 @@ use Rattle.wc_surface.specs.Standard.Written.Indices.{Index}
 use Rattle.wc_surface.specs.Standard.Written.Fields.{Import, Local, Declared}
 use Rattle.wc_drafts.specs.declared.use_draft.UseDraft.{UseDraft}
 use Rattle.wc_drafts.specs.Standard.Tokens.{KeptToken}
-use Rattle.wc_drafts.specs.Standard.Words.{number_in}
+use Rattle.wc_drafts.specs.Drafting.Words.{number_in}
 use Rattle.wc_drafts.specs.Standard.Productions.Tokens.{Said, ◌⊳◌, IsId, IsNatural, IsIndex, u32, bytes}
 use Rattle.wc_drafts.specs.Standard.Productions.Kept.{IsSpoken}
 use Rattle.wc_drafts.specs.Stored.TypeUses.{index_as}
@@ -27,9 +27,9 @@ use Rattle.wc_fields.specs.declared.locals_draft.LocalsDraft.{LocalsDraft}
 use Rattle.wc_fields.specs.declared.contents.Contents.{Contents}
 use Rattle.wc_fields.specs.declared.code_draft.CodeDraft.{CodeDraft}
 use Rattle.wc_fields.specs.declared.field_draft.FieldDraft.{FieldDraft}
-use Rattle.wc_fields.specs.Standard.Fields.{name_of, with_export, with_inline_export, described, with_local, with_min}
-use Rattle.wc_fields.specs.Standard.Fields.{with_max, with_value_type, first_limits, first_global}
-use Rattle.wc_fields.specs.Standard.Following.{Takes}
+use Rattle.wc_fields.specs.Drafting.Fields.{name_of, with_export, with_inline_export, described, with_local, with_min}
+use Rattle.wc_fields.specs.Drafting.Fields.{with_max, with_value_type, first_limits, first_global}
+use Rattle.wc_fields.specs.Drafting.Following.{Takes}
 use Rattle.wc_fields.specs.Standard.Productions.Parts.{IsKeyword, IsName, AreStrings, AreElements, AreExports}
 use Rattle.wc_fields.specs.Standard.Productions.Parts.{IsDeclared}
 use Rattle.wc_fields.specs.Standard.Productions.Parts.{IsImport, IsInlineImport, AreUnnamed, IsLocal, AreLocals}

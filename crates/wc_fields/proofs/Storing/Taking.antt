@@ -18,9 +18,9 @@ use Rattle.wc_fields.specs.declared.locals_draft.LocalsDraft.{LocalsDraft}
 use Rattle.wc_fields.specs.declared.contents.Contents.{Contents}
 use Rattle.wc_fields.specs.declared.code_draft.CodeDraft.{CodeDraft}
 use Rattle.wc_fields.specs.declared.field_draft.FieldDraft.{FieldDraft}
-use Rattle.wc_fields.specs.Standard.Fields.{started, begun, take_word, take_string}
-use Rattle.wc_fields.specs.Standard.Finished.{finished}
-use Rattle.wc_fields.specs.Standard.Following.{is_string, Takes}
+use Rattle.wc_fields.specs.Drafting.Fields.{started, begun, take_word, take_string}
+use Rattle.wc_fields.specs.Drafting.Finished.{finished}
+use Rattle.wc_fields.specs.Drafting.Following.{is_string, Takes}
 use Rattle.wc_fields.specs.Standard.Productions.Parts.{IsKeyword}
 use Rattle.wc_fields.proofs.OneValue.Parts.{same-string}
 

@@ -6,8 +6,8 @@ use Rattle.wc_syntax.specs.declared.role.Role.TheVariants as role
 use Rattle.wc_surface.specs.declared.field.Field.{Field}
 use Rattle.wc_drafts.specs.declared.word.Word.{Word}
 use Rattle.wc_text.specs.declared.text_draft.TextDraft.{TextDraft}
-use Rattle.wc_fields.specs.Standard.Fields.{started, begun, take_string, take_word}
-use Rattle.wc_fields.specs.Standard.Finished.{finished}
+use Rattle.wc_fields.specs.Drafting.Fields.{started, begun, take_string, take_word}
+use Rattle.wc_fields.specs.Drafting.Finished.{finished}
 
 -- a kept token: what it is to the value, the token, and what a string stands for (nothing, where it is no string)
 pub record Item : Type 0 where

@@ -1,5 +1,5 @@
 use Rattle.std.proofs.Common.{◌≡◌, ◌+◌, length}
-use Rattle.wc_drafts.specs.Standard.Ending.{all_closed}
+use Rattle.wc_drafts.specs.Drafting.Ending.{all_closed}
 use Rattle.wc_drafts.proofs.ending.close_all.Given as goal
 
 abbrev pub invariant-loop : goal.invariant-loop

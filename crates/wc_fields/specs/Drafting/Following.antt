@@ -6,7 +6,7 @@ use Rattle.wc_syntax.specs.declared.role.Role.TheVariants as role
 use Rattle.wc_drafts.specs.Standard.Tokens.{KeptToken}
 use Rattle.wc_drafts.specs.Standard.Productions.Tokens.{Said, ◌⊳◌}
 use Rattle.wc_fields.specs.declared.field_draft.FieldDraft.{FieldDraft}
-use Rattle.wc_fields.specs.Standard.Fields.{take_word, take_string}
+use Rattle.wc_fields.specs.Drafting.Fields.{take_word, take_string}
 
 -- the token is a string
 abbrev pub is_string : Role → Bool

@@ -16,10 +16,10 @@ use Rattle.wc_words.specs.declared.symbol.Value.TheVariants.{ValType}
 use Rattle.wc_surface.specs.declared.type_use.User.TheVariants as user
 use Rattle.wc_surface.specs.Standard.WrittenLocals.{local}
 use Rattle.wc_drafts.specs.declared.word.Word.{Word}
-use Rattle.wc_drafts.specs.Standard.Words.{identifier_of, index_of, number_in}
-use Rattle.wc_drafts.specs.Standard.Uses.{started_use, begun_use, take_use}
-use Rattle.wc_drafts.specs.Standard.Taking.{take}
-use Rattle.wc_drafts.specs.Standard.Ending.{nothing_said}
+use Rattle.wc_drafts.specs.Drafting.Words.{identifier_of, index_of, number_in}
+use Rattle.wc_drafts.specs.Drafting.Uses.{started_use, begun_use, take_use}
+use Rattle.wc_drafts.specs.Drafting.Taking.{take}
+use Rattle.wc_drafts.specs.Drafting.Ending.{nothing_said}
 use Rattle.wc_fields.specs.declared.names.Names.{Names}
 use Rattle.wc_fields.specs.declared.locals_draft.LocalsDraft.{LocalsDraft}
 use Rattle.wc_fields.specs.declared.contents.Contents.{Contents}

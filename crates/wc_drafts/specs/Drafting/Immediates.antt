@@ -9,10 +9,10 @@ use Rattle.wc_drafts.specs.declared.awaiting.Awaiting.{Awaiting}
 use Rattle.wc_drafts.specs.declared.awaiting.Awaiting.TheVariants as awaiting
 use Rattle.wc_drafts.specs.declared.body_draft.BodyDraft.{BodyDraft}
 use Rattle.wc_drafts.specs.declared.word.Word.{Word}
-use Rattle.wc_drafts.specs.Standard.Words.{identifier_of, operand_of, ids_with}
-use Rattle.wc_drafts.specs.Standard.Heads.{with_else_id, with_end_id}
-use Rattle.wc_drafts.specs.Standard.Saying.{complete, say}
-use Rattle.wc_drafts.specs.Standard.Opening.{await}
+use Rattle.wc_drafts.specs.Drafting.Words.{identifier_of, operand_of, ids_with}
+use Rattle.wc_drafts.specs.Drafting.Heads.{with_else_id, with_end_id}
+use Rattle.wc_drafts.specs.Drafting.Saying.{complete, say}
+use Rattle.wc_drafts.specs.Drafting.Opening.{await}
 
 -- the label of the block whose head is being written (6.5.2)
 abbrev pub label_by : Awaiting → Identifier → BodyDraft → BodyDraft

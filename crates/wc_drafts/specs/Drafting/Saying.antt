@@ -16,9 +16,9 @@ use Rattle.wc_drafts.specs.declared.awaiting.Awaiting.TheVariants as awaiting
 use Rattle.wc_drafts.specs.declared.held.Held.{Held}
 use Rattle.wc_drafts.specs.declared.held.Held.TheVariants as held
 use Rattle.wc_drafts.specs.declared.body_draft.BodyDraft.{BodyDraft}
-use Rattle.wc_drafts.specs.Standard.Words.{place_behind}
-use Rattle.wc_drafts.specs.Standard.Heads.{head_of}
-use Rattle.wc_drafts.specs.Standard.Uses.{started_use, use_of, short_type}
+use Rattle.wc_drafts.specs.Drafting.Words.{place_behind}
+use Rattle.wc_drafts.specs.Drafting.Heads.{head_of}
+use Rattle.wc_drafts.specs.Drafting.Uses.{started_use, use_of, short_type}
 
 -- nothing more may follow
 abbrev pub complete : BodyDraft → BodyDraft

@@ -6,8 +6,8 @@ use Rattle.wc_surface.specs.declared.head.TextBody.{TextBody}
 use Rattle.wc_surface.specs.declared.type_use.User.TheVariants as user
 use Rattle.wc_drafts.specs.declared.awaiting.Awaiting.TheVariants as awaiting
 use Rattle.wc_drafts.specs.declared.body_draft.BodyDraft.{BodyDraft}
-use Rattle.wc_drafts.specs.Standard.Uses.{started_use}
-use Rattle.wc_drafts.specs.Standard.Saying.{settled}
+use Rattle.wc_drafts.specs.Drafting.Uses.{started_use}
+use Rattle.wc_drafts.specs.Drafting.Saying.{settled}
 
 -- nothing is said yet
 abbrev pub nothing_said : BodyDraft

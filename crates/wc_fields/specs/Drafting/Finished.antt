@@ -33,8 +33,8 @@ use Rattle.wc_surface.specs.declared.field.GlobalDesc.{GlobalDesc}
 use Rattle.wc_surface.specs.declared.field.GlobalDesc.TheVariants as global
 use Rattle.wc_surface.specs.Standard.Keys.{func_type}
 use Rattle.wc_drafts.specs.declared.use_draft.UseDraft.{UseDraft}
-use Rattle.wc_drafts.specs.Standard.Uses.{use_of}
-use Rattle.wc_drafts.specs.Standard.Ending.{ended}
+use Rattle.wc_drafts.specs.Drafting.Uses.{use_of}
+use Rattle.wc_drafts.specs.Drafting.Ending.{ended}
 use Rattle.wc_fields.specs.declared.names.Names.{Names}
 use Rattle.wc_fields.specs.declared.locals_draft.LocalsDraft.{LocalsDraft}
 use Rattle.wc_fields.specs.declared.contents.Contents.{Contents}

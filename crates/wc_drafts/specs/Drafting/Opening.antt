@@ -14,9 +14,9 @@ use Rattle.wc_drafts.specs.declared.awaiting.Awaiting.{Awaiting}
 use Rattle.wc_drafts.specs.declared.awaiting.Awaiting.TheVariants as awaiting
 use Rattle.wc_drafts.specs.declared.held.Held.TheVariants as held
 use Rattle.wc_drafts.specs.declared.body_draft.BodyDraft.{BodyDraft}
-use Rattle.wc_drafts.specs.Standard.Words.{place_behind}
-use Rattle.wc_drafts.specs.Standard.Uses.{started_use}
-use Rattle.wc_drafts.specs.Standard.Saying.{say, begin_block}
+use Rattle.wc_drafts.specs.Drafting.Words.{place_behind}
+use Rattle.wc_drafts.specs.Drafting.Uses.{started_use}
+use Rattle.wc_drafts.specs.Drafting.Saying.{say, begin_block}
 
 -- immediates may follow
 abbrev pub await : Awaiting → BodyDraft → BodyDraft

@@ -5,7 +5,7 @@ use Rattle.wc_drafts.specs.declared.awaiting.Awaiting.{Awaiting}
 use Rattle.wc_drafts.specs.declared.awaiting.Awaiting.TheVariants as awaiting
 use Rattle.wc_drafts.specs.declared.use_draft.UseDraft.{UseDraft}
 use Rattle.wc_drafts.specs.declared.body_draft.BodyDraft.{BodyDraft}
-use Rattle.wc_drafts.specs.Standard.Uses.{use_of}
+use Rattle.wc_drafts.specs.Drafting.Uses.{use_of}
 
 -- the type use that is written, where the last name has one
 abbrev pub written_size : Awaiting → UseDraft → ℕ

@@ -13,7 +13,7 @@ use Rattle.wc_surface.specs.Standard.Identifiers.{Identifier}
 use Rattle.wc_surface.specs.Standard.Keys.{func_type}
 use Rattle.wc_drafts.specs.declared.use_draft.UseDraft.{UseDraft}
 use Rattle.wc_drafts.specs.declared.word.Word.{Word}
-use Rattle.wc_drafts.specs.Standard.Words.{place_behind, identifier_of, index_of}
+use Rattle.wc_drafts.specs.Drafting.Words.{place_behind, identifier_of, index_of}
 
 -- the use of this user at this token, of which nothing is written yet
 abbrev pub started_use : User → ℕ → UseDraft

@@ -5,11 +5,11 @@ use Rattle.wc_syntax.specs.declared.role.Role.{Role}
 use Rattle.wc_syntax.specs.declared.role.Role.TheVariants as role
 use Rattle.wc_drafts.specs.declared.body_draft.BodyDraft.{BodyDraft}
 use Rattle.wc_drafts.specs.declared.word.Word.{Word}
-use Rattle.wc_drafts.specs.Standard.Words.{identifier_of}
-use Rattle.wc_drafts.specs.Standard.Uses.{take_use}
-use Rattle.wc_drafts.specs.Standard.Saying.{settled, release}
-use Rattle.wc_drafts.specs.Standard.Opening.{name_plain, begin_by, hold_if, turn_by, end_by}
-use Rattle.wc_drafts.specs.Standard.Immediates.{label_by, end_label_by, index_in, offset_by, align_by, literal_by}
+use Rattle.wc_drafts.specs.Drafting.Words.{identifier_of}
+use Rattle.wc_drafts.specs.Drafting.Uses.{take_use}
+use Rattle.wc_drafts.specs.Drafting.Saying.{settled, release}
+use Rattle.wc_drafts.specs.Drafting.Opening.{name_plain, begin_by, hold_if, turn_by, end_by}
+use Rattle.wc_drafts.specs.Drafting.Immediates.{label_by, end_label_by, index_in, offset_by, align_by, literal_by}
 
 -- a name, or what ends one (6.5.2 to 6.5.7)
 abbrev pub take_name : BodyDraft → Role → Word → BodyDraft
