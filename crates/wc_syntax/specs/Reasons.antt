@@ -55,8 +55,9 @@ abbrev pub ReasonAt : ℕ → List Kind → ℕ → List Kind → SynWhy → Typ
 ReasonAt d ks p [] r = r ≡ why.End
 ReasonAt d ks p (k ∷ _) r = Why (May d ks p) (wrong k) r
 
--- The fault is the first token such that no text, in which at most d instructions are nested, begins with the tokens
--- up to and including it. Where there is none and the tokens are no text, it is the number of tokens.
+-- The fault is the first token such that no text, however deep, begins with the tokens up to and including it, or that
+-- names a block or a folded instruction with which more than d are nested. The parenthesis before such a name is none:
+-- the mark may follow it. Where there is no such token and the tokens are no text, the fault is the number of tokens.
 pub record FirstFault (d : ℕ) (ks : List Kind) (p : ℕ) (r : SynWhy) : Type 0 where
   pub within : p ≤ length ks
   pub before : Begins (The (text d)) (take p (numbered 0 ks))

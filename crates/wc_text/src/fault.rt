@@ -9,7 +9,7 @@ use wc_syntax::{Refusal, SynWhy};
 /// Why tokens are no text.
 #[derive(Debug, Drop)]
 pub enum SynFault {
-    /// The first token that no text has there, or the number of tokens where one is missing.
+    /// The token of the first fault, or the number of tokens where one is missing.
     Bad {
         /// The number of the token; the first one is 0.
         token: u64,

@@ -36,11 +36,11 @@ fn fields_or_fault<'a>(alloc: Global, tokens: &Tokens<'a>) -> Result<Surface<'a>
     ended(alloc, &reading, draft, at)
 }
 
-/// The fields of a text (Core 1.0, 6.6.13), or its first fault: the first token such that no text begins with the
-/// tokens up to and including it, or the number of tokens where one more has to follow.
+/// The fields of a text (Core 1.0, 6.6.13), in which at most `NESTING_LIMIT` blocks and folded instructions are nested
+/// in one another, or its first fault: the first token such that no text, however deep, begins with the tokens up to
+/// and including it, or that names one nested too deep; or the number of tokens where one more has to follow.
 ///
-/// At most `NESTING_LIMIT` blocks and folded instructions are nested in one another. `Memory` comes only where memory
-/// was refused.
+/// `Memory` comes only where memory was refused.
 pub fn parse<'a>(alloc: Global, tokens: &Tokens<'a>) -> Result<Surface<'a>, SynFault>
     ensures ok { IfOk result (λ surface. Syn tokens.now surface) }
     ensures fault { IfErr result (λ fault. IsFault tokens.now fault) }

@@ -10,7 +10,7 @@ pub enum TextRefusal {
     Lex(Stop),
     /// It has tokens, and this is the first fault of its grammar (Core 1.0, 6.4 to 6.6).
     Syntax {
-        /// The first token that no text has there, or the number of tokens where one is missing.
+        /// Its token, or the number of tokens where one is missing.
         token: u64,
         /// The reason.
         why: SynWhy,

@@ -15,7 +15,7 @@ pub record SaysText (text : List ℕ) (fields : List Field) : Type 0 where
   pub lexes : Lexes text tokens
   pub says : Syn tokens fields
 
--- the text has tokens, of which this is the first one with which no text of the grammar goes on
+-- the text has tokens, and this is the first fault of its grammar
 pub record IsUngrammatical (text : List ℕ) (token : ℕ) (why : SynWhy) : Type 0 where
   pub tokens : List Lexeme
   pub lexes : Lexes text tokens
