@@ -1,4 +1,4 @@
--- The text `(module $m (memory 2))`, from its tokens to its field.
+-- The text `(module $m (memory 2))`, from its tokens to its field, and how this is stored.
 use Rattle.std.proofs.Common.{◌≡◌, ℕ, List, [], ◌∷◌, Some, None, refl, codes, lit<}
 use Rattle.wc_tokens.specs.declared.token.TokenKind.{TokenKind}
 use Rattle.wc_tokens.specs.declared.token.TokenKind.TheVariants as token
@@ -17,6 +17,8 @@ use Rattle.wc_words.specs.Symbols.{valued, bare}
 use Rattle.wc_words.specs.Numbers.{NaturalIs}
 use Rattle.wc_words.specs.Names.{keyword, KeywordIs, NameIs}
 use Rattle.wc_words.specs.Words.{Says, WordIs}
+use Rattle.wc_surface.specs.declared.field.Field.TheVariants as stored
+use Rattle.wc_surface.specs.declared.field.MemoryDesc.TheVariants as memory
 use Rattle.wc_surface.specs.Standard.Written.Fields.{Memory, Field, memory_field}
 use Rattle.wc_drafts.specs.Standard.Tokens.{KeptToken, kept_token}
 use Rattle.wc_drafts.specs.Standard.Productions.Tokens.{Said, ◌⊳◌, IsId}
@@ -24,6 +26,7 @@ use Rattle.wc_fields.specs.Standard.Productions.Parts.{AreExports, IsDeclared, A
 use Rattle.wc_fields.specs.Standard.Productions.Fields.{IsMemory, IsField, AreFields}
 use Rattle.wc_text.specs.Standard.Kinds.{Each, HasKind}
 use Rattle.wc_text.specs.Standard.Productions.{IsKept, SaysFields}
+use Rattle.wc_text.specs.Standard.Meaning.{Syn}
 
 -- the token of this form and text, from one place to another
 abbrev lexeme : TokenKind → List ℕ → ℕ → ℕ → Lexeme
@@ -136,3 +139,8 @@ module_says = record {
   says = AreFields.more end_of_field (IsField.memory_word refl (IsDeclared.both IsId.absent AreExports.none)
       (IsMemory.limits (AreLimits.least (record { kind_is = refl; value_is = refl })))) AreFields.none;
 }
+
+-- and this is the field as it is stored
+module_stored : Syn tokens
+    (stored.Memory (record { id = None; exports = []; desc = memory.Limits (record { min = 2; max = None }) }) ∷ [])
+module_stored = record { written = field ∷ []; says = module_says; stored = refl }
