@@ -8,7 +8,8 @@ use Rattle.wc_body.specs.declared.instr.BlockType.{BlockType}
 use Rattle.wc_body.specs.declared.instr.BlockType.TheVariants as block_types
 use Rattle.wc_body.specs.declared.instr.Instr.{Instr}
 use Rattle.wc_body.specs.declared.instr.Instr.TheVariants as instrs
-use Rattle.wc_body.specs.Standard.Nested.{Code, empty, op, region, choice, Mark, plain, begin, begin_if, otherwise, close}
+use Rattle.wc_body.specs.Standard.Nested.{Code, empty, op, region, choice, Mark, plain, begin, begin_if, otherwise}
+use Rattle.wc_body.specs.Standard.Nested.{close}
 use Rattle.wc_body.specs.Standard.Nested.{flatten}
 use Rattle.wc_syntax.specs.declared.role.Role.{Role}
 use Rattle.wc_syntax.specs.declared.role.Role.TheVariants as role
@@ -116,7 +117,8 @@ begun (choice t one two next) = true
 
 module _ (addresses : ℕ → ℕ × ℕ) (fs : List Field) (d : FieldDraft) where
   before : (r : Option Role) (n : ℕ) (s : Sign) (b : BodyDraft) (is : List Item) (later : List Said)
-      → ((b : BodyDraft) → take_items (state fs (coded d true b)) is ≡ state fs (coded d true (taken addresses b later)))
+      → ((b : BodyDraft) → take_items (state fs (coded d true b)) is
+      ≡ state fs (coded d true (taken addresses b later)))
       → part_of_code r ≡ true
       → take_items (state fs (coded d true b)) (item_before addresses r n s is)
       ≡ state fs (coded d true (taken addresses b (said_before r n s later)))

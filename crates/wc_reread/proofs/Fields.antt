@@ -22,8 +22,9 @@ use Rattle.wc_surface.specs.Standard.Keys.{func_type}
 use Rattle.wc_surface.specs.declared.type_use.User.TheVariants as user
 use Rattle.wc_printed.specs.Signs.{Sign, closes, ends, key, natural, string}
 use Rattle.wc_printed.specs.Instructions.{values_signs, code_signs, naturals}
-use Rattle.wc_printed.specs.Fields.{type_signs, max_signs, limits_signs, desc_signs, import_signs, export_signs, func_signs}
-use Rattle.wc_printed.specs.Fields.{global_signs, elem_signs, data_signs, table_signs, memory_signs, globaltype_signs, start_signs}
+use Rattle.wc_printed.specs.Fields.{type_signs, max_signs, limits_signs, desc_signs, import_signs, export_signs}
+use Rattle.wc_printed.specs.Fields.{func_signs, global_signs, elem_signs, data_signs, table_signs, memory_signs}
+use Rattle.wc_printed.specs.Fields.{globaltype_signs, start_signs}
 use Rattle.wc_printed.specs.Kept.{said_as, said_from}
 use Rattle.wc_printed.specs.Fitting.{FitsLimits, FitsOptional, FitsDesc, FitsImport, FitsExport, FitsFunc, FitsGlobal}
 use Rattle.wc_printed.specs.Fitting.{FitsElem, FitsData}
@@ -34,7 +35,8 @@ use Rattle.wc_fields.specs.declared.field_draft.FieldDraft.{FieldDraft}
 use Rattle.wc_fields.specs.Drafting.Fields.{started, unnamed, first_limits, name_of, with_min, with_max}
 use Rattle.wc_told.specs.Words.{word_of, taken}
 use Rattle.wc_told.proofs.Marks.{number}
-use Rattle.wc_reread.specs.Surface.{use_by, locals_along, indices_along, type_field, import_field, func_field, table_field}
+use Rattle.wc_reread.specs.Surface.{use_by, locals_along, indices_along, type_field, import_field, func_field}
+use Rattle.wc_reread.specs.Surface.{table_field}
 use Rattle.wc_reread.specs.Surface.{memory_field, global_field, export_field, start_field, elem_field, data_field}
 use Rattle.wc_reread.proofs.Coding.{coded, begun, body}
 use Rattle.wc_told.proofs.Finished.{told-body}
@@ -112,16 +114,19 @@ module _ (addresses : ℕ → ℕ × ℕ) where
   memories fs n l h =
       let d = started kind.MemoryWord (suc n) in
       let at = suc (suc n) in
-      on addresses (state fs d) (state fs (with_limits d l.min l.max)) at (limits_signs l) (ends ∷ []) (limits fs d at l h)
+      on addresses (state fs d) (state fs (with_limits d l.min l.max)) at (limits_signs l) (ends ∷ [])
+      (limits fs d at l h)
 
   pub starts : (fs : List Field) (n i : ℕ) → Fits32 i
       → read addresses (fresh fs) n (start_signs (Some i)) ≡ fresh (fs ++ start_field n i ∷ [])
   starts fs n i h =
       let w = word_of addresses (said_as role.Target (suc (suc n)) (natural role.Target i)) in
-      ap (λ (x : Option ℕ). fresh (fs ++ field.Start (record { token = suc n; index = index_by x w }) ∷ [])) (number i h)
+      ap (λ (x : Option ℕ). fresh (fs ++ field.Start (record { token = suc n; index = index_by x w }) ∷ []))
+      (number i h)
 
   global-type : (fs : List Field) (d : FieldDraft) (n : ℕ) (mutable : Bool) (t : ValType)
-      → read addresses (state fs (record d { global = record d.global { mutable = false } })) n (globaltype_signs mutable t)
+      → read addresses (state fs (record d { global = record d.global { mutable = false } })) n
+      (globaltype_signs mutable t)
       ≡ state fs (with_global d t mutable)
   global-type fs d n false t = refl
   global-type fs d n true t = refl
@@ -154,7 +159,8 @@ module _ (addresses : ℕ → ℕ × ℕ) where
       by-desc (descs.Table l) k =
           let d = record (imported (suc n) i.«module» i.name) { description = export_kinds.Table } in
           let at = suc (suc (suc (suc (suc (suc n))))) in
-          ap (read addresses (state fs d) at) (append_assoc (limits_signs l) (key kind.FuncrefWord ∷ []) (closes ∷ ends ∷ []))
+          ap (read addresses (state fs d) at)
+          (append_assoc (limits_signs l) (key kind.FuncrefWord ∷ []) (closes ∷ ends ∷ []))
           ∙ on addresses (state fs d) (state fs (with_limits d l.min l.max)) at (limits_signs l)
           (key kind.FuncrefWord ∷ closes ∷ ends ∷ []) (limits fs d at l k)
       by-desc (descs.Memory l) k =
@@ -172,7 +178,8 @@ module _ (addresses : ℕ → ℕ × ℕ) where
   imports fs n i h =
       let at = suc (suc (suc (suc (suc n)))) in
       let rest = desc_signs i.desc ++ (closes ∷ ends ∷ []) in
-      ap (λ (x : List ℕ). read addresses (state fs (imported (suc n) x (name_of i.name))) at rest) (name-is i.«module» h.0)
+      ap (λ (x : List ℕ). read addresses (state fs (imported (suc n) x (name_of i.name))) at rest)
+      (name-is i.«module» h.0)
       ∙ (ap (λ (x : List ℕ). read addresses (state fs (imported (suc n) i.«module» x)) at rest) (name-is i.name h.1)
       ∙ brings fs n i h)
 
@@ -184,7 +191,8 @@ module _ (addresses : ℕ → ℕ × ℕ) where
   named : (fs : List Field) (n : ℕ) (k : ExportKind) (i : ℕ) (bytes : List ℕ) → IsUtf8 bytes → Fits32 i
       → lent fs n k i (name_of bytes) (number_in (Number i)) ≡ lent fs n k i bytes (Some i)
   named fs n k i bytes u lt =
-      ap (λ (x : List ℕ). lent fs n k i x (number_in (Number i))) (name-is bytes u) ∙ ap (lent fs n k i bytes) (number i lt)
+      ap (λ (x : List ℕ). lent fs n k i x (number_in (Number i))) (name-is bytes u)
+      ∙ ap (lent fs n k i bytes) (number i lt)
 
   by-kind : (fs : List Field) (n : ℕ) (k : ExportKind) (i : ℕ) (bytes : List ℕ) → IsUtf8 bytes → Fits32 i
       → read addresses (fresh fs) n (export_signs (record { name = bytes; kind = k; index = i }))
@@ -207,8 +215,9 @@ module _ (addresses : ℕ → ℕ × ℕ) where
       let code = length ts + at in
       ap (read addresses (state fs d) at) (append_assoc ts cs (ends ∷ []))
       ∙ (on addresses (state fs d) (state fs e) at ts (cs ++ (ends ∷ [])) (global-type fs d at g.ty.mutable g.ty.ty)
-      ∙ (on addresses (state fs e) (state fs (coded e (begun g.init) (taken addresses nothing_said (said_from code cs)))) code cs
-      (ends ∷ []) (body addresses fs e code nothing_said g.init)
+      ∙ (on addresses (state fs e)
+      (state fs (coded e (begun g.init) (taken addresses nothing_said (said_from code cs)))) code cs (ends ∷ [])
+      (body addresses fs e code nothing_said g.init)
       ∙ ap (λ (b : TextBody). fresh (fs ++ field.Global (record {
         id = None;
         exports = [];
@@ -232,8 +241,9 @@ module _ (addresses : ℕ → ℕ × ℕ) where
       (number f.ty h.0)
       ∙ (ap (read addresses (state fs e) at) (append_assoc ls cs (ends ∷ []))
       ∙ (on addresses (state fs e) (state fs g) at ls (cs ++ (ends ∷ [])) (all-locals addresses fs e at f.locals)
-      ∙ (on addresses (state fs g) (state fs (coded g (begun f.body) (taken addresses nothing_said (said_from code cs)))) code cs
-      (ends ∷ []) (body addresses fs g code nothing_said f.body)
+      ∙ (on addresses (state fs g)
+      (state fs (coded g (begun f.body) (taken addresses nothing_said (said_from code cs)))) code cs (ends ∷ [])
+      (body addresses fs g code nothing_said f.body)
       ∙ ap (λ (b : TextBody). fresh (fs ++ field.Func (record {
         id = None;
         exports = [];
@@ -255,7 +265,8 @@ module _ (addresses : ℕ → ℕ × ℕ) where
       ap (λ (o : Option ℕ). read addresses (state fs (aimed d o w)) at
       ((cs ++ (closes ∷ [])) ++ (ns ++ (ends ∷ [])))) (number t.table h.0)
       ∙ (ap (read addresses (state fs e) at) (append_assoc cs (closes ∷ []) (ns ++ (ends ∷ [])))
-      ∙ (on addresses (state fs e) (state fs g) at cs (closes ∷ (ns ++ (ends ∷ []))) (body addresses fs e at nothing_said t.offset)
+      ∙ (on addresses (state fs e) (state fs g) at cs (closes ∷ (ns ++ (ends ∷ [])))
+      (body addresses fs e at nothing_said t.offset)
       ∙ (on addresses (state fs g) (state fs (with_elements g (indices_along after t.funcs))) after ns (ends ∷ [])
       (elements addresses fs g after [] t.funcs h.2)
       ∙ ap (λ (b : TextBody). fresh (fs ++ field.Elem (record {

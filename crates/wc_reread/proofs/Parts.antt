@@ -24,7 +24,10 @@ use Rattle.wc_reread.proofs.Reading.{state, read, on}
 -- the field's own use has these parameters and results
 abbrev pub typed : FieldDraft → List ValType → List ValType → FieldDraft
 typed d ps rs =
-    record d { code = record d.code { begun = false }; ty = record d.ty { params = ps; pending = None; names = []; results = rs } }
+    record d {
+      code = record d.code { begun = false };
+      ty = record d.ty { params = ps; pending = None; names = []; results = rs };
+    }
 
 -- these locals
 abbrev pub with_locals : FieldDraft → List Local → FieldDraft
@@ -35,14 +38,16 @@ with_elements d is = record d { contents = record d.contents { elements = is } }
 
 module _ (addresses : ℕ → ℕ × ℕ) (fs : List Field) (d : FieldDraft) where
   params : (n : ℕ) (ps rs ts : List ValType)
-      → read addresses (state fs (typed d ps rs)) n (map (type_sign role.ParamType) ts) ≡ state fs (typed d (ps ++ ts) rs)
+      → read addresses (state fs (typed d ps rs)) n (map (type_sign role.ParamType) ts)
+      ≡ state fs (typed d (ps ++ ts) rs)
   params n ps rs [] = ap (λ (x : List ValType). state fs (typed d x rs)) (sym (append-nil ps))
   params n ps rs (t ∷ ts) =
       params (suc n) (ps ++ t ∷ []) rs ts
       ∙ ap (λ (x : List ValType). state fs (typed d x rs)) (append_assoc ps (t ∷ []) ts)
 
   results : (n : ℕ) (ps rs ts : List ValType)
-      → read addresses (state fs (typed d ps rs)) n (map (type_sign role.ResultType) ts) ≡ state fs (typed d ps (rs ++ ts))
+      → read addresses (state fs (typed d ps rs)) n (map (type_sign role.ResultType) ts)
+      ≡ state fs (typed d ps (rs ++ ts))
   results n ps rs [] = ap (λ (x : List ValType). state fs (typed d ps x)) (sym (append-nil rs))
   results n ps rs (t ∷ ts) =
       results (suc n) ps (rs ++ t ∷ []) ts
@@ -54,17 +59,20 @@ module _ (addresses : ℕ → ℕ × ℕ) (fs : List Field) (d : FieldDraft) whe
   along-locals n ls [] = ap (λ (x : List Local). state fs (with_locals d x)) (sym (append-nil ls))
   along-locals n ls (t ∷ ts) =
       along-locals (suc n) (ls ++ local None t n ∷ []) ts
-      ∙ ap (λ (x : List Local). state fs (with_locals d x)) (append_assoc ls (local None t n ∷ []) (locals_along (suc n) ts))
+      ∙ ap (λ (x : List Local). state fs (with_locals d x))
+      (append_assoc ls (local None t n ∷ []) (locals_along (suc n) ts))
 
   pub all-params : (n : ℕ) (ts : List ValType)
-      → read addresses (state fs (typed d [] [])) n (values_signs kind.ParamWord role.ParamType ts) ≡ state fs (typed d ts [])
+      → read addresses (state fs (typed d [] [])) n (values_signs kind.ParamWord role.ParamType ts)
+      ≡ state fs (typed d ts [])
   all-params n [] = refl
   all-params n (t ∷ ts) =
       on addresses (state fs (typed d [] [])) (state fs (typed d (t ∷ ts) [])) (suc (suc n))
       (map (type_sign role.ParamType) (t ∷ ts)) (closes ∷ []) (params (suc (suc n)) [] [] (t ∷ ts))
 
   pub all-results : (n : ℕ) (ps ts : List ValType)
-      → read addresses (state fs (typed d ps [])) n (values_signs kind.ResultWord role.ResultType ts) ≡ state fs (typed d ps ts)
+      → read addresses (state fs (typed d ps [])) n (values_signs kind.ResultWord role.ResultType ts)
+      ≡ state fs (typed d ps ts)
   all-results n ps [] = refl
   all-results n ps (t ∷ ts) =
       on addresses (state fs (typed d ps [])) (state fs (typed d ps (t ∷ ts))) (suc (suc n))
@@ -75,8 +83,8 @@ module _ (addresses : ℕ → ℕ × ℕ) (fs : List Field) (d : FieldDraft) whe
       ≡ state fs (with_locals d (locals_along (suc (suc n)) ts))
   all-locals n [] = refl
   all-locals n (t ∷ ts) =
-      on addresses (state fs (with_locals d [])) (state fs (with_locals d (locals_along (suc (suc n)) (t ∷ ts)))) (suc (suc n))
-      (map (type_sign role.LocalType) (t ∷ ts)) (closes ∷ []) (along-locals (suc (suc n)) [] (t ∷ ts))
+      on addresses (state fs (with_locals d [])) (state fs (with_locals d (locals_along (suc (suc n)) (t ∷ ts))))
+      (suc (suc n)) (map (type_sign role.LocalType) (t ∷ ts)) (closes ∷ []) (along-locals (suc (suc n)) [] (t ∷ ts))
 
   pub elements : (n : ℕ) (is : List Index) (ns : List ℕ) → AllByRecursion Fits32 ns
       → read addresses (state fs (with_elements d is)) n (naturals role.Element ns)
@@ -86,5 +94,6 @@ module _ (addresses : ℕ → ℕ × ℕ) (fs : List Field) (d : FieldDraft) whe
       ap (λ (x : Option ℕ). read addresses (state fs (with_elements d
       (is ++ index_by x (word_of addresses (said_as role.Element n (natural role.Element i))) ∷ []))) (suc n)
       (naturals role.Element ns)) (number i h.0)
-      ∙ (elements (suc n) (is ++ index_by (Some i) (word_of addresses (said_as role.Element n (natural role.Element i))) ∷ []) ns h.1
+      ∙ (elements (suc n)
+      (is ++ index_by (Some i) (word_of addresses (said_as role.Element n (natural role.Element i))) ∷ []) ns h.1
       ∙ ap (λ (x : List Index). state fs (with_elements d x)) (append_assoc is _ (indices_along (suc n) ns)))

@@ -1,12 +1,14 @@
 -- The printed text says its fields.
-use Rattle.std.proofs.Common.{◌≡◌, ℕ, suc, ◌≤◌, List, [], ◌∷◌, map, drop, refl, sym, ap, subst, Option, Some, None, length, arith}
+use Rattle.std.proofs.Common.{◌≡◌, ℕ, suc, ◌≤◌, List, [], ◌∷◌, map, drop, refl, sym, ap, subst, Option, Some, None}
+use Rattle.std.proofs.Common.{length, arith}
 use Rattle.std.specs.List.{AllByRecursion}
 use Rattle.wc_ast.specs.declared.module.Module.{Module}
 use Rattle.wc_body.specs.Standard.Nested.{nesting_limit}
 use Rattle.wc_tokens.specs.Standard.Lexemes.{Lexeme, spanned, longest}
 use Rattle.wc_tokens.proofs.Lexing.SpanLaws.{InOrder-Lexed}
 use Rattle.wc_syntax.specs.declared.role.Role.{Role}
-use Rattle.wc_print.specs.Printed.{Printed, opening, closing, word, number, integer, part, quoted, kind_of, spelled, text}
+use Rattle.wc_print.specs.Printed.{Printed, opening, closing, word, number, integer, part, quoted, kind_of, spelled}
+use Rattle.wc_print.specs.Printed.{text}
 use Rattle.wc_print.specs.Printed.{Item as Place, token_of, lexemes_in, lexemes}
 use Rattle.wc_print.specs.Printable.{IsSpelled, AreSpelled, IsPrintable}
 use Rattle.wc_print.specs.Layout.{layout}
@@ -93,7 +95,8 @@ folds-of m h p =
       es = events m;
       text = means.derives 0;
       items = items nowhere m;
-      are_items = are-items nowhere (lexemes (layout m)) size 0 (layout m) (signs m) refl (same m).same means.says p.spelled;
+      are_items =
+          are-items nowhere (lexemes (layout m)) size 0 (layout m) (signs m) refl (same m).same means.says p.spelled;
       gives = sym (whole nowhere m h);
     }
 

@@ -36,7 +36,8 @@ module _ (addresses : ℕ → ℕ × ℕ) where
       → Follows addresses (start_signs s ++ rest) (λ n. start_along n s r)
   start None h rest r g fs n = g fs n
   start (Some i) h rest r g fs n =
-      on addresses (fresh fs) (fresh (fs ++ start_field n i ∷ [])) n (start_signs (Some i)) rest (starts addresses fs n i h)
+      on addresses (fresh fs) (fresh (fs ++ start_field n i ∷ [])) n (start_signs (Some i)) rest
+      (starts addresses fs n i h)
       ∙ (g (fs ++ start_field n i ∷ []) (length (start_signs (Some i)) + n)
       ∙ ap fresh (append_assoc fs (start_field n i ∷ []) (r (length (start_signs (Some i)) + n))))
 

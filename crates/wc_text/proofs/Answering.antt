@@ -24,9 +24,9 @@ use Rattle.wc_text.specs.declared.text_draft.TextDraft.{TextDraft}
 use Rattle.wc_text.specs.declared.fault.SynFault.{SynFault}
 use Rattle.wc_text.specs.declared.fault.SynFault.TheVariants.{Bad, Memory}
 use Rattle.wc_text.specs.Kept.Texts.{Item, said}
-use Rattle.wc_text.specs.Standard.Kinds.{Each, none, more, HasKind}
+use Rattle.wc_text.specs.Standard.Kinds.{Each, none, more}
 use Rattle.wc_text.specs.Standard.Meaning.{Syn}
-use Rattle.wc_text.specs.Kept.Folds.{StandsFor, IsItem}
+use Rattle.wc_text.specs.Kept.Folds.{IsItem}
 use Rattle.wc_text.specs.Standard.Faults.{FirstFault, IsFault}
 use Rattle.wc_text.specs.Kept.SaidSoFar.{IsAllSaid}
 use Rattle.wc_text.proofs.Forms.{some-kinds, one-kinds, few-tokens}

@@ -10,7 +10,6 @@ use Rattle.wc_tokens.specs.declared.token.TokenKind.TheVariants as token
 use Rattle.wc_tokens.specs.Standard.Lexemes.{Lexeme, HasForm, longest}
 use Rattle.wc_tokens.specs.Standard.Tokens.{InOrder, lexeme_of, lexemes_of}
 use Rattle.wc_syntax.specs.declared.kind.Kind.{Kind}
-use Rattle.wc_words.specs.declared.symbol.Symbol.{Symbol}
 use Rattle.wc_words.proofs.SomeSymbols.{some-symbol}
 use Rattle.wc_words.proofs.RangeLemmas.{TokenIs-same}
 use Rattle.wc_text.proofs.Pairs.{each-same}

@@ -34,7 +34,6 @@ use Rattle.wc_text.specs.Kept.Texts.{Item, take_by, take_items}
 use Rattle.wc_text.specs.Standard.Kinds.{Each, none, more}
 use Rattle.wc_text.specs.Standard.Meaning.{Syn}
 use Rattle.wc_text.specs.Kept.Folds.{StandsFor, IsItem, Folds}
-use Rattle.wc_text.specs.Standard.Productions.{SaysFields}
 use Rattle.wc_text.proofs.Pairs.{each-length}
 use Rattle.wc_text.proofs.Written.{said_by, items-kept, items-spoken, one-written, always-said}
 

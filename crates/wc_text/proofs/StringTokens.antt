@@ -8,7 +8,8 @@ use Rattle.wc_words.specs.Tokens.{StringIs, TokenIs}
 use Rattle.wc_text.specs.Kept.Folds.{StandsFor}
 
 -- a string is to the grammar what it is by its bytes
-pub string-token : (kind : TokenKind) (text : List ℕ) (s : Symbol) → kind ≡ token.Str → StringIs text s → TokenIs kind text s
+pub string-token : (kind : TokenKind) (text : List ℕ) (s : Symbol) → kind ≡ token.Str → StringIs text s
+    → TokenIs kind text s
 string-token token.Open text s e h = absurd cc
 string-token token.Close text s e h = absurd cc
 string-token token.Id text s e h = absurd cc

@@ -1,5 +1,5 @@
 -- What strings stand for.
-use Rattle.std.proofs.Common.{◌≡◌, ℕ, suc, ◌≤◌, List, [], ◌∷◌, ◌++◌, length, refl, sym, ◌∙◌, arith}
+use Rattle.std.proofs.Common.{ℕ, suc, ◌≤◌, List, [], ◌∷◌, length, refl, arith}
 use Rattle.std.proofs.Common.{length-append}
 use Rattle.std.specs.Prelude.{encode_utf8}
 use Rattle.std.proofs.lemmas.Str.{length-encode, len_utf8_bounds}
@@ -7,24 +7,10 @@ use Rattle.wc_tokens.specs.declared.token.TokenKind.{TokenKind}
 use Rattle.wc_tokens.specs.declared.token.TokenKind.TheVariants as token
 use Rattle.wc_tokens.specs.Standard.Strings.{Element, plain, escape, byte, unicode, Elements, none, more, IsString}
 use Rattle.wc_tokens.specs.Standard.Lexemes.{HasForm}
-use Rattle.wc_tokens.proofs.Escapes.ElementLaws.{Elements-same, read_element-quote}
 use Rattle.wc_words.specs.declared.symbol.Symbol.{Symbol}
 use Rattle.wc_words.specs.Tokens.{TokenIs, StringIs, name, no_name}
 use Rattle.wc_text.specs.Kept.Folds.{StandsFor}
 use Rattle.wc_text.proofs.Forms.{some-text}
-
-string-same : {text v w : List ℕ} → IsString text v → IsString text w → v ≡ w
-string-same {text} {v} {w} a b =
-    let e : 34 ∷ (a.body ++ 34 ∷ []) ≡ 34 ∷ (b.body ++ 34 ∷ []) = sym a.text_is ∙ b.text_is in
-    let f : a.body ++ 34 ∷ [] ≡ b.body ++ 34 ∷ [] = cc in
-    (Elements-same (34 ∷ []) (34 ∷ []) a.elements b.elements f (read_element-quote []) (read_element-quote [])).bytes_is
-
-pub stands-same : (k : TokenKind) (text v w : List ℕ) → StandsFor k text v → StandsFor k text w → v ≡ w
-stands-same token.Str text v w a b = string-same a b
-stands-same token.Open text v w a b = a ∙ sym b
-stands-same token.Close text v w a b = a ∙ sym b
-stands-same token.Id text v w a b = a ∙ sym b
-stands-same token.Word text v w a b = a ∙ sym b
 
 -- a token that is something to the grammar stands for something
 some-bytes : {text : List ℕ} {s : Symbol} → StringIs text s → (bytes : List ℕ) × IsString text bytes

@@ -105,7 +105,7 @@ pub string-text : (text bytes : List ℕ) (r : Bool) (s : Symbol) → IsString t
 string-text text bytes r s i u e is = rw is (no_name i (λ v. let t : r ≡ true = u.1 v in absurd cc))
 
 -- a string stands for one list of bytes
-IsString-same : {text v w : List ℕ} → IsString text v → IsString text w → v ≡ w
+pub IsString-same : {text v w : List ℕ} → IsString text v → IsString text w → v ≡ w
 IsString-same {text} {v} {w} a b =
     let e : 34 ∷ (a.body ++ 34 ∷ []) ≡ 34 ∷ (b.body ++ 34 ∷ []) = sym a.text_is ∙ b.text_is in
     let f : a.body ++ 34 ∷ [] ≡ b.body ++ 34 ∷ [] = cc in

@@ -1,7 +1,5 @@
 -- Each part of a field has one value.
 use Rattle.std.proofs.Common.{◌≡◌, ℕ, List, [], ◌∷◌, ◌++◌, true, false, Option, Some, None, refl, sym, ap, ◌∙◌}
-use Rattle.wc_tokens.specs.Standard.Strings.{IsString}
-use Rattle.wc_tokens.proofs.Escapes.ElementLaws.{Elements-same, read_element-quote}
 use Rattle.wc_ops.specs.declared.val_type.ValType.{ValType as ValueType}
 use Rattle.wc_ast.specs.declared.limits.Limits.{Limits}
 use Rattle.wc_ast.specs.declared.limits.GlobalType.{GlobalType}
@@ -12,6 +10,7 @@ use Rattle.wc_syntax.specs.declared.kind.Kind.TheVariants as kind
 use Rattle.wc_syntax.specs.declared.role.Role.{Role}
 use Rattle.wc_syntax.specs.declared.role.Role.TheVariants as role
 use Rattle.wc_words.specs.declared.symbol.Value.TheVariants.{Number}
+use Rattle.wc_words.proofs.StringLemmas.{IsString-same}
 use Rattle.wc_surface.specs.Standard.Identifiers.{Identifier, identifier}
 use Rattle.wc_surface.specs.Standard.Written.Indices.{Index}
 use Rattle.wc_surface.specs.Standard.Written.TypeUses.{Signature, TypeUse}
@@ -30,19 +29,12 @@ use Rattle.wc_fields.proofs.OneValue.Places.{id-at, exports-at, offset-part}
 
 -- ---- strings and names
 
-pub same-string : {text v w : List ℕ} → IsString text v → IsString text w → v ≡ w
-same-string {text} {v} {w} a b =
-    let e : 34 ∷ (a.body ++ 34 ∷ []) ≡ 34 ∷ (b.body ++ 34 ∷ []) = sym a.text_is ∙ b.text_is in
-    let f : a.body ++ 34 ∷ [] ≡ b.body ++ 34 ∷ [] = cc in
-    let q = read_element-quote [] in
-    (Elements-same (34 ∷ []) (34 ∷ []) a.elements b.elements f q q).bytes_is
-
 pub same-name : {w : KeptToken} {n m : List ℕ} → IsName w n → IsName w m → n ≡ m
-same-name a b = same-string a.string b.string
+same-name a b = IsString-same a.string b.string
 
 pub same-strings : {us : List Said} {v w : List ℕ} → AreStrings us v → AreStrings us w → v ≡ w
 same-strings AreStrings.none AreStrings.none = refl
-same-strings (AreStrings.more s a) (AreStrings.more t b) = cc (same-string s t, same-strings a b)
+same-strings (AreStrings.more s a) (AreStrings.more t b) = cc (IsString-same s t, same-strings a b)
 
 same-exports : {us : List Said} {ns ms : List (List ℕ)} → AreExports us ns → AreExports us ms → ns ≡ ms
 same-exports AreExports.none AreExports.none = refl

@@ -8,6 +8,7 @@ use Rattle.wc_ast.specs.declared.export.ExportKind.{ExportKind}
 use Rattle.wc_syntax.specs.declared.kind.Kind.{Kind}
 use Rattle.wc_syntax.specs.declared.kind.Kind.TheVariants.{OtherWord}
 use Rattle.wc_syntax.specs.declared.role.Role.{Role}
+use Rattle.wc_words.proofs.StringLemmas.{IsString-same}
 use Rattle.wc_surface.specs.declared.id.Index.{Index as StoredIndex}
 use Rattle.wc_surface.specs.Standard.Identifiers.{Identifier}
 use Rattle.wc_drafts.specs.declared.use_draft.UseDraft.{UseDraft}
@@ -22,7 +23,6 @@ use Rattle.wc_fields.specs.Drafting.Fields.{started, begun, take_word, take_stri
 use Rattle.wc_fields.specs.Drafting.Finished.{finished}
 use Rattle.wc_fields.specs.Drafting.Following.{is_string, Takes}
 use Rattle.wc_fields.specs.Standard.Productions.Parts.{IsKeyword}
-use Rattle.wc_fields.proofs.OneValue.Parts.{same-string}
 
 -- a draft of these parts
 abbrev pub draft : Kind → ℕ → Names → ExportKind → UseDraft → LocalsDraft → Limits → GlobalType → Contents → CodeDraft
@@ -62,7 +62,7 @@ pub one-string : {d e : FieldDraft} {r : Role} {w : KeptToken} {us : List Said} 
     → is_string r ≡ true → IsString w.text bytes → Takes d (r ⊳ w ∷ us) e → Takes (take_string d r bytes) us e
 one-string f s (Takes.word g t) = absurd (no (sym g ∙ f))
 one-string {d = d} {e = e} {r = r} {us = us} f s (Takes.string g i t) =
-    subst (λ (bytes : List ℕ). Takes (take_string d r bytes) us e) (same-string i s) t
+    subst (λ (bytes : List ℕ). Takes (take_string d r bytes) us e) (IsString-same i s) t
 
 -- the last part
 pub last : {d e : FieldDraft} {us : List Said} → Takes d us e → Takes d (us ++ []) e
