@@ -1,0 +1,15 @@
+mod Examples
+mod Lists
+mod Keys
+mod Repeated
+mod Typed
+mod Spaced
+mod Ordered
+mod Judged
+mod Bodies
+mod Functions
+mod Listed
+mod Joined
+mod Single
+mod Finding
+mod Placing
