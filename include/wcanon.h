@@ -2,7 +2,7 @@
  *
  * Every call reads and writes memory of the caller alone, keeps nothing, and may run in several threads at once. It takes
  * memory by malloc and gives all of it back before it returns. A pointer must not be null, also where its length is 0.
- * What a call writes, an answer's room and *needed, overlaps nothing else that it is handed; inputs may overlap.
+ * What a call writes, an answer's room and *needed, must overlap nothing else that it is handed; inputs may overlap.
  *
  * An input is a binary where its first byte is 00, and else a text, also where it has no byte. Every call takes both. */
 #ifndef WCANON_H
