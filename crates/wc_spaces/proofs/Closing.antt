@@ -1,6 +1,6 @@
 -- Labels of one less that is open.
 use Rattle.std.proofs.Common.{◌≡◌, ℕ, ◌+◌, Bool, true, false, cond, List, [], ◌∷◌, ◌++◌, length, map, Option, Some}
-use Rattle.std.proofs.Common.{None, is_some, refl, sym, ap, ◌∙◌, arith, length-append, subst}
+use Rattle.std.proofs.Common.{None, is_some, refl, sym, ap, ◌∙◌, arith, length-append, append-nil, subst}
 use Rattle.std.proofs.lemmas.List.{map-append}
 use Rattle.std.specs.Str.{bytes_eq}
 use Rattle.wc_spaces.specs.declared.labels.Open.{Open}
@@ -68,3 +68,13 @@ left d ds old new x w e h =
 
 pub none-left : (d : Option (List ℕ)) (ds : List (Option (List ℕ))) (old : Labels) → IsLabels (d ∷ ds) old → length old.open.items ≡ 0 → ⊥
 none-left d ds old w e = omega (arith, e, same-length (d ∷ ds) old w)
+
+-- where none is open, none ends
+pub none-ends : (old : Labels) (rest : List Open) (x : Open) → IsLabels [] old → old.open.items ≡ rest ++ x ∷ [] → ⊥
+none-ends old rest x w e =
+    let same : length old.open.items ≡ length (rest ++ x ∷ []) = ap (λ (z : List Open). length z) e in
+    omega (arith, same, length-append rest (x ∷ []), same-length [] old w)
+
+pub kept-none : (old : Labels) (rest : List Open) → IsLabels [] old → old.open.items ≡ rest ++ [] → map kept_of rest ≡ []
+kept-none old rest w e =
+    ap (λ (z : List Open). map kept_of z) (sym (e ∙ append-nil rest)) ∙ w.open_ones

@@ -91,6 +91,7 @@ impl<'a> Labels<'a> {
     pub fn leave(&mut self)
         ensures labels { (l : Option (List ℕ)) (ls : List (Option (List ℕ)))
             → IsLabels (l ∷ ls) self.old → IsLabels ls self.new }
+        ensures none { IsLabels [] self.old → IsLabels [] self.new }
         ensures depth { depth_of self.new ≡ depth_of self.old - 1 }
     {
         match self.open.pop() {

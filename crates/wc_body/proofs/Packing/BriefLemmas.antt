@@ -2,7 +2,7 @@
 use Rattle.std.specs.Prelude.{None, if◌then◌else◌}
 use Rattle.std.proofs.Common.{◌≡◌, ℕ, zero, suc, ◌+◌, ◌%◌, ◌<◌, ◌≤◌, ◌==◌, Bool, true, false, List, [], ◌∷◌, Some, inl, inr}
 use Rattle.std.proofs.Common.{length, get_or, drop, bit_and, bit_or, refl, ap, ◌∙◌, arith, add-zero, zero-add}
-use Rattle.std.proofs.lemmas.Bool.{cases_lt, lt-ltb, le-ltb}
+use Rattle.std.proofs.lemmas.Bool.{cases_lt, lt-ltb, le-ltb, true≢false}
 use Rattle.std.proofs.lemmas.Nat.{and_mask, or_comm, or_disjoint}
 use Rattle.wc_leb128.specs.Standard.OneByte.{signed_in_one}
 use Rattle.wc_leb128.proofs.Reading.OneByte.{unsigned_alone, signed_alone}
@@ -24,7 +24,7 @@ use Rattle.wc_body.specs.declared.instr.BlockType.TheVariants.{Empty}
 use Rattle.wc_body.specs.declared.entry.Kind.TheVariants.{Block, Loop, If}
 use Rattle.wc_body.specs.declared.entry.Entry.{Entry}
 use Rattle.wc_body.specs.declared.entry.Entry.TheVariants.{Plain, Begin, Else, End}
-use Rattle.wc_body.specs.Standard.Brief.{signed_byte, meant_entry}
+use Rattle.wc_body.specs.Standard.Brief.{signed_byte, meant_entry, has_integer}
 use Rattle.wc_body.specs.Reading.Briefly.{meant_shape, shape_at, BeginsWith}
 use Rattle.wc_body.specs.Reading.Fronts.{unsigned_front, signed_front, found, meant_front, entry_front}
 use Rattle.wc_body.proofs.Packing.Integers.{unsigned-found, signed-found}
@@ -97,11 +97,11 @@ IsLaid r y n =
     (r.least ≤ get_or y 0 128) × (get_or y 0 128 < r.second) × (get_or y 1 128 < r.third)
     × (n ≡ picked r (get_or y 0 128) (get_or y 1 128))
 
--- the entry of this opcode is found with this integer, by bytes that are there
+-- the entry of this opcode is found with this integer, by bytes that are there; where it has none, with zero
 abbrev Begins : OpByte → ℕ → List ℕ → ℕ → Type 0
 Begins m a y n =
     (e : Entry) × (meant_entry m a n ≡ Some e) × (meant_front m a y ≡ Some (e, drop (meant_shape m a).length (a ∷ y)))
-    × (n < 128) × ((meant_shape m a).length ≤ suc (length y))
+    × (n < 128) × ((meant_shape m a).length ≤ suc (length y)) × (has_integer e ≡ false → n ≡ 0)
 
 abbrev Laid : OpByte → Type 0
 Laid m = (a : ℕ) (y : List ℕ) (n : ℕ) → IsLaid (meant_shape m a) y n → Begins m a y n
@@ -110,13 +110,20 @@ simple-begins : (op : SimpleOp) → Laid (Known (ops.Simple op))
 simple-begins MemorySize a y n h = absurd (omega (arith, h.1))
 simple-begins MemoryGrow a y n h = absurd (omega (arith, h.1))
 simple-begins op a y n h =
-    (Plain (Simple op), refl, refl, omega (arith, neither (get_or y 0 128) (get_or y 1 128) n h.3), omega arith)
+    let none : n ≡ 0 = neither (get_or y 0 128) (get_or y 1 128) n h.3 in
+    (Plain (Simple op), refl, refl, omega (arith, none), omega arith, λ bare. none)
 
 index-begins : (op : IndexOp) → Laid (Known (ops.Index op))
 index-begins op a [] n h = absurd (omega (arith, h.1))
 index-begins op a (b ∷ z) n h =
-    let same : n ≡ b = second b (get_or z 0 128) n h.1 h.3 in
-    (Plain (Index op n), refl, rw (same, number-one b z h.1) refl, omega (arith, same, h.1), omega arith)
+    let same : n ≡ b = second b (get_or z 0 128) n h.1 h.3 in (
+      Plain (Index op n),
+      refl,
+      rw (same, number-one b z h.1) refl,
+      omega (arith, same, h.1),
+      omega arith,
+      λ bare. absurd (true≢false bare),
+    )
 
 -- no access is of more than 64 bits
 width : (op : MemOp) → (memory op).alignment ≤ 3
@@ -135,21 +142,34 @@ access-begins op a (b ∷ c ∷ z) n h =
       rw (same, align, number-one b (c ∷ z) low, number-one c z h.2) refl,
       omega (arith, same, h.2),
       omega arith,
+      λ bare. absurd (true≢false bare),
     )
 
 i32-begins : Laid (Known ops.I32Const)
 i32-begins a [] n h = absurd (omega (arith, h.1))
 i32-begins a (b ∷ z) n h =
     let same : n ≡ b = second b (get_or z 0 128) n h.1 h.3 in
-    let one : signed_front 32 (b ∷ z) ≡ Some (signed_byte b, z) = signed-one 32 b z (omega arith) h.1 in
-    (Plain (I32Const (signed_byte n)), refl, rw (same, one) refl, omega (arith, same, h.1), omega arith)
+    let one : signed_front 32 (b ∷ z) ≡ Some (signed_byte b, z) = signed-one 32 b z (omega arith) h.1 in (
+      Plain (I32Const (signed_byte n)),
+      refl,
+      rw (same, one) refl,
+      omega (arith, same, h.1),
+      omega arith,
+      λ bare. absurd (true≢false bare),
+    )
 
 i64-begins : Laid (Known ops.I64Const)
 i64-begins a [] n h = absurd (omega (arith, h.1))
 i64-begins a (b ∷ z) n h =
     let same : n ≡ b = second b (get_or z 0 128) n h.1 h.3 in
-    let one : signed_front 64 (b ∷ z) ≡ Some (signed_byte b, z) = signed-one 64 b z (omega arith) h.1 in
-    (Plain (I64Const (signed_byte n)), refl, rw (same, one) refl, omega (arith, same, h.1), omega arith)
+    let one : signed_front 64 (b ∷ z) ≡ Some (signed_byte b, z) = signed-one 64 b z (omega arith) h.1 in (
+      Plain (I64Const (signed_byte n)),
+      refl,
+      rw (same, one) refl,
+      omega (arith, same, h.1),
+      omega arith,
+      λ bare. absurd (true≢false bare),
+    )
 
 -- what begins a block, with the empty type behind it
 begin-type : (b : ℕ) → 0x40 ≤ b → b < 0x41 → b ≡ 0x40
@@ -158,17 +178,20 @@ begin-type b ge lt = omega (arith, ge, lt)
 block-begins : Laid (Known ops.Block)
 block-begins a [] n h = absurd (omega (arith, h.1))
 block-begins a (b ∷ z) n h =
-    (Begin Block Empty, refl, rw (begin-type b h.0 h.1) refl, omega (arith, neither b (get_or z 0 128) n h.3), omega arith)
+    let none : n ≡ 0 = neither b (get_or z 0 128) n h.3 in
+    (Begin Block Empty, refl, rw (begin-type b h.0 h.1) refl, omega (arith, none), omega arith, λ bare. none)
 
 loop-begins : Laid (Known ops.Loop)
 loop-begins a [] n h = absurd (omega (arith, h.1))
 loop-begins a (b ∷ z) n h =
-    (Begin Loop Empty, refl, rw (begin-type b h.0 h.1) refl, omega (arith, neither b (get_or z 0 128) n h.3), omega arith)
+    let none : n ≡ 0 = neither b (get_or z 0 128) n h.3 in
+    (Begin Loop Empty, refl, rw (begin-type b h.0 h.1) refl, omega (arith, none), omega arith, λ bare. none)
 
 if-begins : Laid (Known ops.If)
 if-begins a [] n h = absurd (omega (arith, h.1))
 if-begins a (b ∷ z) n h =
-    (Begin If Empty, refl, rw (begin-type b h.0 h.1) refl, omega (arith, neither b (get_or z 0 128) n h.3), omega arith)
+    let none : n ≡ 0 = neither b (get_or z 0 128) n h.3 in
+    (Begin If Empty, refl, rw (begin-type b h.0 h.1) refl, omega (arith, none), omega arith, λ bare. none)
 
 known-begins : (op : Op) → Laid (Known op)
 known-begins (ops.Simple op) = simple-begins op
@@ -190,11 +213,13 @@ mark-begins : (otherwise close : Bool) (a : ℕ) (y : List ℕ) (n : ℕ) → Is
     → (e : Entry) × ((if otherwise then Some Else else (if close then Some End else None)) ≡ Some e)
     × ((if otherwise then found Else y else (if close then found End y else None))
     ≡ Some (e, drop (mark_shape otherwise close).length (a ∷ y)))
-    × (n < 128) × ((mark_shape otherwise close).length ≤ suc (length y))
+    × (n < 128) × ((mark_shape otherwise close).length ≤ suc (length y)) × (has_integer e ≡ false → n ≡ 0)
 mark-begins true close a y n h =
-    (Else, refl, refl, omega (arith, neither (get_or y 0 128) (get_or y 1 128) n h.3), omega arith)
+    let none : n ≡ 0 = neither (get_or y 0 128) (get_or y 1 128) n h.3 in
+    (Else, refl, refl, omega (arith, none), omega arith, λ bare. none)
 mark-begins false true a y n h =
-    (End, refl, refl, omega (arith, neither (get_or y 0 128) (get_or y 1 128) n h.3), omega arith)
+    let none : n ≡ 0 = neither (get_or y 0 128) (get_or y 1 128) n h.3 in
+    (End, refl, refl, omega (arith, none), omega arith, λ bare. none)
 mark-begins false false a y n h = absurd (omega (arith, h.1))
 
 meant-begins : (m : OpByte) → Laid m
@@ -212,4 +237,5 @@ brief-begins (d ∷ y) r a b c some first second third row least under last =
     let shape : r ≡ shape_at d = rw first at row in
     let begun = meant-begins (meaning d) d y (picked (shape_at d) (get_or y 0 128) (get_or y 1 128))
     (rw (second, shape) at least, rw (second, shape) at under, rw (third, shape) at last, refl) in
-    rw (first, second, third, shape) (record { entry = begun.0; said = begun.1; front = begun.2; low = begun.3 }, begun.4)
+    rw (first, second, third, shape)
+    (record { entry = begun.0; said = begun.1; front = begun.2; low = begun.3; bare = begun.5 }, begun.4)

@@ -1,5 +1,5 @@
 -- Brief entries (Core 1.0, 5.4): which bytes are theirs, by their opcode.
-use Rattle.std.specs.Prelude.{ℕ, ◌≡◌, ◌<◌, ◌+◌, ◌==◌, List, Some, if◌then◌else◌}
+use Rattle.std.specs.Prelude.{ℕ, ◌≡◌, ◌<◌, ◌+◌, ◌==◌, false, List, Some, if◌then◌else◌}
 use Rattle.wc_ops.specs.declared.op.Op.{Op}
 use Rattle.wc_ops.specs.declared.op.Op.TheVariants as ops
 use Rattle.wc_ops.specs.declared.op.OpByte.{OpByte}
@@ -12,7 +12,7 @@ use Rattle.wc_body.specs.declared.brief.Brief.{Brief}
 use Rattle.wc_body.specs.declared.brief.Shape.{Shape}
 use Rattle.wc_body.specs.declared.brief.TheConstants.{OTHER, BARE, ONE, BEGIN, ACCESS_8}
 use Rattle.wc_body.specs.declared.entry.Entry.{Entry}
-use Rattle.wc_body.specs.Standard.Brief.{brief_entry}
+use Rattle.wc_body.specs.Standard.Brief.{brief_entry, has_integer}
 use Rattle.wc_body.specs.Reading.Fronts.{entry_front}
 
 -- no immediate, or the byte that the standard keeps for later
@@ -50,3 +50,4 @@ pub record BeginsWith (brief : Brief) (x rest : List ℕ) : Type 0 where
   pub said : brief_entry brief ≡ Some entry
   pub front : entry_front x ≡ Some (entry, rest)
   pub low : brief.operand < 128
+  pub bare : has_integer entry ≡ false → brief.operand ≡ 0

@@ -1,6 +1,6 @@
 -- Entries whose integers have one byte each, whose alignment is the natural one and whose block type is the empty one
 -- (Core 1.0, 5.4), by their opcode and that integer: an index, the byte of a constant, or an offset.
-use Rattle.std.specs.Prelude.{ℕ, ◌≡◌, ◌<◌, ◌==◌, nat_lt, ℤ, pos, ◌-ℤ◌, List, ◌∷◌, Option, Some, None, if◌then◌else◌}
+use Rattle.std.specs.Prelude.{ℕ, ◌≡◌, ◌<◌, ◌==◌, nat_lt, Bool, true, false, ℤ, pos, ◌-ℤ◌, List, ◌∷◌, Option, Some, None, if◌then◌else◌}
 use Rattle.wc_ops.specs.declared.op.Op.{Op}
 use Rattle.wc_ops.specs.declared.op.Op.TheVariants as ops
 use Rattle.wc_ops.specs.declared.op.OpByte.{OpByte}
@@ -45,9 +45,18 @@ meant_entry Unknown b n = if b == 0x05 then Some Else else (if b == 0x0B then So
 abbrev pub brief_entry : Brief → Option Entry
 brief_entry brief = meant_entry (meaning brief.opcode) brief.opcode brief.operand
 
+-- whether the entry has an integer
+abbrev pub has_integer : Entry → Bool
+has_integer (Plain (instrs.Simple op)) = false
+has_integer (Plain instr) = true
+has_integer (Begin kind type) = false
+has_integer Else = false
+has_integer End = false
+
 -- the first of the old marks is said so, and the new ones are behind it
 pub record SaysFirst (brief : Brief) (old new : List (Mark Instr BlockType)) : Type 0 where
   pub entry : Entry
   pub said : brief_entry brief ≡ Some entry
   pub first : old ≡ mark entry ∷ new
   pub low : brief.operand < 128
+  pub bare : has_integer entry ≡ false → brief.operand ≡ 0

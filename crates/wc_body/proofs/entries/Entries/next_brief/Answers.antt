@@ -12,4 +12,10 @@ pub returns-clause-some : goal.returns-clause-some
 returns-clause-some c =
     let begun = c.in_ok-brief.ensures in
     let next = front-first c.self.inside.bytes.now c.self.invariant begun.entry c.in_ok-brief.left.now begun.front in
-    record { entry = begun.entry; said = begun.said; first = sym c.self.view_is ∙ ap marks next.0; low = begun.low }
+    record {
+      entry = begun.entry;
+      said = begun.said;
+      first = sym c.self.view_is ∙ ap marks next.0;
+      low = begun.low;
+      bare = begun.bare;
+    }
