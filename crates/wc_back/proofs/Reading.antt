@@ -12,16 +12,18 @@ use Rattle.wc_reread.specs.Surface.{text_fields}
 use Rattle.wc_reread.proofs.Syntax.{syntax-of}
 use Rattle.wc_back.specs.Known.{HasFewLocals}
 use Rattle.wc_source.specs.Texts.{Txt}
+use Rattle.wc_source.proofs.Stages.{text-read}
 use Rattle.wc_back.proofs.Counting.{signs-few, bodies-few}
 use Rattle.wc_back.proofs.Checked.{names-known}
 use Rattle.wc_back.proofs.Naming.{named}
 
 pub text-of : (m : Module) → Fits m → HasFewLocals m → broken m ≡ [] → IsPrintable (layout m)
     → length (text (layout m)) ≤ longest → Txt (text (layout m)) m
-text-of m fits locals rules printable short = record {
-  tokens = lexemes (layout m);
-  fields = text_fields m;
-  lexes = Lexes-text (layout m) printable short;
-  says = syntax-of m fits printable short;
-  names = named m (names-known m rules locals (bodies-few m (signs-few m printable short)));
-}
+text-of m fits locals rules printable short =
+    text-read (text (layout m)) (text_fields m) m
+    (named m (names-known m rules locals (bodies-few m (signs-few m printable short))))
+    (record {
+      tokens = lexemes (layout m);
+      lexes = Lexes-text (layout m) printable short;
+      says = syntax-of m fits printable short;
+    })

@@ -9,7 +9,7 @@ mod Judged
 mod Bodies
 mod Functions
 mod Listed
-mod Joined
-mod Single
+pub mod Joined
+pub mod Single
 mod Finding
-mod Placing
+pub mod Placing

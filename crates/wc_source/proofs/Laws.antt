@@ -1,42 +1,46 @@
 -- A text denotes one module, or has one first fault.
-use Rattle.std.proofs.Common.{◌≡◌, ◌⊎◌, inl, inr, ℕ, List, refl, sym, subst, arith, ◌∙◌}
+use Rattle.std.proofs.Common.{◌≡◌, ◌⊎◌, inl, inr, ℕ, List, map, refl, subst}
 use Rattle.wc_ast.specs.declared.module.Module.{Module}
 use Rattle.wc_tokens.specs.declared.fault.LexWhy.{LexWhy}
 use Rattle.wc_tokens.specs.Standard.Lexemes.{Lexeme, Lexes}
-use Rattle.wc_tokens.specs.Standard.Tokens.{InOrder}
 use Rattle.wc_tokens.specs.Standard.Faults.{FirstFault as FirstLexFault}
 use Rattle.wc_tokens.proofs.Lexing.LexLaws.{Lexes-same, FirstFault-same, Lexes-FirstFault, always-judged}
-use Rattle.wc_tokens.proofs.Lexing.SpanLaws.{InOrder-Lexed}
 use Rattle.wc_syntax.specs.declared.why.SynWhy.{SynWhy}
-use Rattle.wc_surface.specs.declared.field.Field.{Field}
+use Rattle.wc_surface.specs.declared.field.Field.{Field as StoredField}
+use Rattle.wc_surface.specs.Standard.Written.Fields.{Field}
+use Rattle.wc_fields.specs.Stored.Fields.{field_as}
+use Rattle.wc_text.specs.Standard.Productions.{SaysFields}
 use Rattle.wc_text.specs.Standard.Meaning.{Syn}
 use Rattle.wc_text.specs.Standard.Faults.{FirstFault as FirstSyntaxFault}
+use Rattle.wc_text.proofs.Written.{one-written}
 use Rattle.wc_text.proofs.Answering as grammar
 use Rattle.wc_targets.specs.declared.why.NameWhy.{NameWhy}
-use Rattle.wc_names.specs.Standard.Denoted.{first_fault, FirstFault as FirstNameFault, Names as Denote}
-use Rattle.wc_names.proofs.Answering as names
+use Rattle.wc_meaning.specs.Standard.Denoted.{FirstFault as FirstNameFault, Means}
+use Rattle.wc_meaning.proofs.Single as names
 use Rattle.wc_source.specs.declared.fault.TextFault.{TextFault}
 use Rattle.wc_source.specs.declared.fault.TextFault.TheVariants.{Lex, Syntax, Names, Memory}
 use Rattle.wc_source.specs.Texts.{Txt}
 use Rattle.wc_source.specs.Faults.{byte_of, IsSyntaxFault, IsNameFault, FirstFault}
+use Rattle.wc_source.proofs.Stored.{in-order, as-stored}
 
 -- ---- each stage says one thing
 
 same-fields : (text : List ℕ) (ts us : List Lexeme) (fields others : List Field) → Lexes text ts → Lexes text us
-    → Syn ts fields → Syn us others → fields ≡ others
+    → SaysFields ts fields → SaysFields us others → fields ≡ others
 same-fields text ts us fields others p q s t =
-    grammar.one-list us fields others (subst (λ ts. Syn ts fields) (Lexes-same text ts us p q) s) t
+    one-written us fields others (subst (λ ts. SaysFields ts fields) (Lexes-same text ts us p q) s) t
 
 -- of tokens that say fields none is a fault of the grammar
 no-syntax : (text : List ℕ) (ts us : List Lexeme) (fields : List Field) (token : ℕ) (why : SynWhy) → Lexes text ts
-    → Lexes text us → Syn ts fields → FirstSyntaxFault us token why → ⊥
+    → Lexes text us → SaysFields ts fields → FirstSyntaxFault us token why → ⊥
 no-syntax text ts us fields token why p q s f =
-    grammar.never-both us fields token why (subst (λ ts. Syn ts fields) (Lexes-same text ts us p q) s) f
+    let said = subst (λ ts. SaysFields ts fields) (Lexes-same text ts us p q) s in
+    grammar.never-both us (map field_as fields) token why (as-stored us fields said) f
 
 pub one-module : (text : List ℕ) (m n : Module) → Txt text m → Txt text n → m ≡ n
 one-module text m n p q =
     let e = same-fields text p.tokens q.tokens p.fields q.fields p.lexes q.lexes p.says q.says in
-    (subst (λ fs. Denote fs m) e p.names).same ∙ sym q.names.same
+    names.one-module q.fields m n (subst (λ fs. Means fs m) e p.means) q.means
 
 -- ---- a module, or a fault
 
@@ -46,7 +50,7 @@ never-both text m (Syntax token at why) p q =
     no-syntax text p.tokens q.tokens p.fields token why p.lexes q.lexes p.says q.first
 never-both text m (Names token at why) p q =
     let e = same-fields text p.tokens q.tokens p.fields q.fields p.lexes q.lexes p.says q.says in
-    names.not-both q.fields m token why (subst (λ fs. Denote fs m) e p.names) q.first
+    names.never-both q.fields m token why (subst (λ fs. Means fs m) e p.means) q.first
 never-both text m Memory p q = q
 
 -- ---- one fault
@@ -70,7 +74,8 @@ one-syntax : (text : List ℕ) (token other at to : ℕ) (why reason : SynWhy) �
     → IsSyntaxFault text other to reason → Syntax token at why ≡ Syntax other to reason
 one-syntax text token other at to why reason p q =
     let e = Lexes-same text p.tokens q.tokens p.lexes q.lexes in
-    let same = grammar.one-fault q.tokens token other why reason (subst (λ ts. FirstSyntaxFault ts token why) e p.first) q.first in
+    let first = subst (λ ts. FirstSyntaxFault ts token why) e p.first in
+    let same = grammar.one-fault q.tokens token other why reason first q.first in
     same-syntax token other at to why reason same.0
     (same-byte text p.tokens q.tokens token other at to e same.0 p.place q.place) same.1
 
@@ -80,10 +85,9 @@ one-name text token other at to why reason p q =
     let e = Lexes-same text p.tokens q.tokens p.lexes q.lexes in
     let h = same-fields text p.tokens q.tokens p.fields q.fields p.lexes q.lexes p.says q.says in
     let first = subst (λ fs. FirstNameFault fs token why) h p.first in
-    let same = names.one-token (first_fault q.fields) token other why reason first q.first in
-    same-names token other at to why reason same
-    (same-byte text p.tokens q.tokens token other at to e same p.place q.place)
-    (names.one-reason (first_fault q.fields) token other why reason first q.first)
+    let same = names.one-fault q.fields token other why reason first q.first in
+    same-names token other at to why reason same.0
+    (same-byte text p.tokens q.tokens token other at to e same.0 p.place q.place) same.1
 
 -- the grammar finds no fault where the names have one
 syntax-or-names : (text : List ℕ) (token other at to : ℕ) (why : SynWhy) (reason : NameWhy)
@@ -109,29 +113,27 @@ one-fault text f Memory p q = absurd q
 
 -- ---- always one of them
 
-in-order : (text : List ℕ) (ts : List Lexeme) → Lexes text ts → InOrder 0 ts
-in-order text ts p = InOrder-Lexed p.lexed p.short (omega arith) 0 (omega arith)
-
-named-one : (text : List ℕ) (ts : List Lexeme) (fields : List Field) → Lexes text ts → Syn ts fields
-    → ((m : Module) × Denote fields m) ⊎ ((t : ℕ) × ((why : NameWhy) × FirstNameFault fields t why))
+named-one : (text : List ℕ) (ts : List Lexeme) (fields : List Field) → Lexes text ts → SaysFields ts fields
+    → names.Answered fields
     → ((m : Module) × Txt text m) ⊎ ((f : TextFault) × FirstFault text f)
 named-one text ts fields p s (inl n) =
-    inl (n.0, record { tokens = ts; fields = fields; lexes = p; says = s; names = n.1 })
+    inl (n.0, record { tokens = ts; fields = fields; lexes = p; says = s; means = n.1 })
 named-one text ts fields p s (inr q) = inr (
-  Names q.0 (byte_of text ts q.0) q.1.0,
-  record { tokens = ts; fields = fields; lexes = p; says = s; first = q.1.1; place = refl },
+  Names q.0 (byte_of text ts q.0) q.1,
+  record { tokens = ts; fields = fields; lexes = p; says = s; first = q.2; place = refl },
 )
 
 parsed-one : (text : List ℕ) (ts : List Lexeme) → Lexes text ts
-    → ((fields : List Field) × Syn ts fields) ⊎ ((at : ℕ) × (why : SynWhy) × FirstSyntaxFault ts at why)
+    → ((fields : List StoredField) × Syn ts fields) ⊎ ((at : ℕ) × (why : SynWhy) × FirstSyntaxFault ts at why)
     → ((m : Module) × Txt text m) ⊎ ((f : TextFault) × FirstFault text f)
-parsed-one text ts p (inl s) = named-one text ts s.0 p s.1 (names.always s.0)
+parsed-one text ts p (inl s) = let w = s.1 in named-one text ts w.written p w.says (names.always-one w.written)
 parsed-one text ts p (inr q) = inr (
   Syntax q.0 (byte_of text ts q.0) q.1,
   record { tokens = ts; lexes = p; first = q.2; place = refl },
 )
 
-lexed-one : (text : List ℕ) → ((ts : List Lexeme) × Lexes text ts) ⊎ ((at : ℕ) × (why : LexWhy) × FirstLexFault text at why)
+lexed-one : (text : List ℕ)
+    → ((ts : List Lexeme) × Lexes text ts) ⊎ ((at : ℕ) × (why : LexWhy) × FirstLexFault text at why)
     → ((m : Module) × Txt text m) ⊎ ((f : TextFault) × FirstFault text f)
 lexed-one text (inl p) = parsed-one text p.0 p.1 (grammar.always-one p.0 (in-order text p.0 p.1))
 lexed-one text (inr q) = inr (Lex q.0 q.1, q.2)

@@ -1,3 +1,4 @@
+pub mod Stored
 pub mod Laws
 pub mod Places
 pub mod Stages

@@ -1,5 +1,6 @@
 -- Where the tokens of a text begin.
-use Rattle.std.proofs.Common.{◌≡◌, ℕ, zero, suc, ◌+◌, ◌≤◌, List, [], ◌∷◌, length, drop, refl, sym, ap, subst, ◌∙◌, arith}
+use Rattle.std.proofs.Common.{◌≡◌, ℕ, zero, suc, ◌+◌, ◌≤◌, List, [], ◌∷◌, length, drop, refl, sym, ap, subst, ◌∙◌}
+use Rattle.std.proofs.Common.{arith}
 use Rattle.wc_tokens.specs.declared.fault.Stop.{Stop}
 use Rattle.wc_tokens.specs.Standard.Gaps.{Gaps}
 use Rattle.wc_tokens.specs.Standard.Lexemes.{Lexeme, Lexes}
@@ -21,7 +22,8 @@ at-start text u e = λ ts p.
     subst (λ (v : Unread). IsReading text ts 0 v) (sym e)
     (subst (λ (us : List Lexeme). IsReading text us 0 (unread text)) (Lexes-same text w.0 ts lexed p) w.1)
 
-pub at-token : {text : List ℕ} {at : ℕ} {u v : Unread} (t : Lexeme) → IsAt text at u → Gives u t v → IsAt text (at + 1) v
+pub at-token : {text : List ℕ} {at : ℕ} {u v : Unread} (t : Lexeme) → IsAt text at u → Gives u t v
+    → IsAt text (at + 1) v
 at-token t w g = λ ts p. (IsReading-token t (w ts p) g).reading
 
 -- the token that is read next begins there
@@ -44,7 +46,7 @@ at-end {text} {at} token w g l ts p =
     ap (start_or (length text)) (sym (drop-more at token ts l (IsReading-end (w ts p) g).all))
 
 -- a text that has tokens has no fault of its characters
-pub at-fault : {text : List ℕ} {at : ℕ} {u : Unread} (stop : Stop) → IsAt text at u → Stops u.size u.rest stop.at stop.why
-    → (ts : List Lexeme) → Lexes text ts → ⊥
+pub at-fault : {text : List ℕ} {at : ℕ} {u : Unread} (stop : Stop) → IsAt text at u
+    → Stops u.size u.rest stop.at stop.why → (ts : List Lexeme) → Lexes text ts → ⊥
 at-fault stop w s ts p =
     Lexes-FirstFault p (lexical p.short p.utf8 (IsReading-stop stop.at stop.why (w ts p) s))

@@ -6,31 +6,29 @@ use Rattle.wc_tokens.specs.Standard.Lexemes.{Lexeme, Lexes}
 use Rattle.wc_surface.specs.declared.field.Field.{Field}
 use Rattle.wc_text.specs.Standard.Wholes.{SaysText}
 use Rattle.wc_targets.specs.declared.why.NameWhy.{NameWhy}
-use Rattle.wc_names.specs.Standard.Denoted.{Names as Denote, FirstFault as FirstNameFault}
+use Rattle.wc_names.specs.Standard.Denoted.{Names as Denote, FirstFault as FirstStored}
 use Rattle.wc_source.specs.declared.fault.TextFault.{TextFault}
 use Rattle.wc_source.specs.declared.fault.TextFault.TheVariants.{Names, Memory}
 use Rattle.wc_source.specs.Texts.{Txt}
 use Rattle.wc_source.specs.Faults.{byte_of, FirstFault, IsFault}
+use Rattle.wc_source.proofs.Stored.{stored-text, stored-named}
 use Rattle.wc_source.proofs.Laws.{one-module, one-fault, never-both}
 
 -- the first fault of the names
-pub names-told : (text : List ℕ) (fields : List Field) (token at : ℕ) (why : NameWhy) → FirstNameFault fields token why
+pub names-told : (text : List ℕ) (fields : List Field) (token at : ℕ) (why : NameWhy) → FirstStored fields token why
     → ((ts : List Lexeme) → Lexes text ts → at ≡ byte_of text ts token) → SaysText text fields
     → IsFault text (Names token at why)
 names-told text fields token at why h p s =
-    inr (record {
-      tokens = s.tokens;
+    inr (stored-named text token at why (record {
       fields = fields;
-      lexes = s.lexes;
-      says = s.says;
+      says = s;
       first = h;
       place = p s.tokens s.lexes;
-    })
+    }))
 
 -- the module
 pub text-read : (text : List ℕ) (fields : List Field) (m : Module) → Denote fields m → SaysText text fields → Txt text m
-text-read text fields m h s =
-    record { tokens = s.tokens; fields = fields; lexes = s.lexes; says = s.says; names = h }
+text-read text fields m h s = stored-text text m (record { fields = fields; says = s; names = h })
 
 -- ---- the only answer
 

@@ -3,11 +3,11 @@ use Rattle.std.specs.Prelude.{◌≡◌, ◌⊎◌, ℕ, List, [], ◌∷◌, le
 use Rattle.wc_tokens.specs.Standard.Lexemes.{Lexeme, Lexes}
 use Rattle.wc_tokens.specs.Standard.Faults.{FirstFault as FirstLexFault}
 use Rattle.wc_syntax.specs.declared.why.SynWhy.{SynWhy}
-use Rattle.wc_surface.specs.declared.field.Field.{Field}
-use Rattle.wc_text.specs.Standard.Meaning.{Syn}
+use Rattle.wc_surface.specs.Standard.Written.Fields.{Field}
+use Rattle.wc_text.specs.Standard.Productions.{SaysFields}
 use Rattle.wc_text.specs.Standard.Faults.{FirstFault as FirstSyntaxFault}
 use Rattle.wc_targets.specs.declared.why.NameWhy.{NameWhy}
-use Rattle.wc_names.specs.Standard.Denoted.{FirstFault as FirstNameFault}
+use Rattle.wc_meaning.specs.Standard.Denoted.{FirstFault as FirstNameFault}
 use Rattle.wc_source.specs.declared.fault.TextFault.{TextFault}
 use Rattle.wc_source.specs.declared.fault.TextFault.TheVariants.{Lex, Syntax, Names, Memory}
 
@@ -32,7 +32,7 @@ pub record IsNameFault (text : List ℕ) (token at : ℕ) (why : NameWhy) : Type
   pub tokens : List Lexeme
   pub fields : List Field
   pub lexes : Lexes text tokens
-  pub says : Syn tokens fields
+  pub says : SaysFields tokens fields
   pub first : FirstNameFault fields token why
   pub place : at ≡ byte_of text tokens token
 

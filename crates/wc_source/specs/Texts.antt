@@ -2,14 +2,14 @@
 use Rattle.std.specs.Prelude.{ℕ, List}
 use Rattle.wc_ast.specs.declared.module.Module.{Module}
 use Rattle.wc_tokens.specs.Standard.Lexemes.{Lexeme, Lexes}
-use Rattle.wc_surface.specs.declared.field.Field.{Field}
-use Rattle.wc_text.specs.Standard.Meaning.{Syn}
-use Rattle.wc_names.specs.Standard.Denoted.{Names}
+use Rattle.wc_surface.specs.Standard.Written.Fields.{Field}
+use Rattle.wc_text.specs.Standard.Productions.{SaysFields}
+use Rattle.wc_meaning.specs.Standard.Denoted.{Means}
 
 -- the text has tokens (6.3), which say fields (6.4 to 6.6), which denote the module (6.6.13)
 pub record Txt (text : List ℕ) (m : Module) : Type 0 where
   pub tokens : List Lexeme
   pub fields : List Field
   pub lexes : Lexes text tokens
-  pub says : Syn tokens fields
-  pub names : Names fields m
+  pub says : SaysFields tokens fields
+  pub means : Means fields m
