@@ -1,16 +1,18 @@
-//! A reader or writer with its count and its failure.
+//! A reader or writer with its counts and its failure.
 ghost use Rattle.std.specs.Prelude.{◌≡◌, None, false};
 ghost use Rattle.wc_device.specs.Device.{device_inner, failed_at, first_failure, has_failed, read_count};
-ghost use Rattle.wc_device.specs.Device.{was_asked_again, has_ended};
+ghost use Rattle.wc_device.specs.Device.{was_asked_again, has_ended, flush_count, is_unflushed};
 
 mod reading;
 mod writing;
 
 /// A reader or writer, the number of bytes that were read from it, and whether a call of it failed.
 ///
+/// Each call of a `Device` is one call of what is in it, as `Reader` and `Writer` say, or a row of such calls.
 /// A call has failed where it answers an error of any kind, and where a write takes none of some bytes.
 /// The first failure is kept, with the number of bytes that were read before it: later calls don't take it back. So is
-/// the end of the reader's bytes, and whether the reader was asked once more after either. Nothing here takes memory.
+/// the end of the reader's bytes, and whether it was asked once more after either; and how often it was flushed, and
+/// whether something was written since. Nothing here takes memory.
 #[derive(Drop)]
 pub struct Device<T> {
     inner: T,
@@ -18,10 +20,12 @@ pub struct Device<T> {
     ended: bool,
     asked_again: bool,
     count: u64,
+    flush_count: u64,
+    unflushed: bool,
 }
 
 impl<T> Device<T> {
-    /// A device that hands its calls on to `inner`. Nothing was read yet, and nothing failed.
+    /// A device that hands its calls on to `inner`. Nothing was read or written yet, and nothing failed.
     pub fn new(inner: T) -> Device<T>
         ensures inner { device_inner result ≡ inner }
         ensures failed { has_failed result ≡ false }
@@ -29,6 +33,8 @@ impl<T> Device<T> {
         ensures ended { has_ended result ≡ false }
         ensures again { was_asked_again result ≡ false }
         ensures count { read_count result ≡ 0 }
+        ensures flushes { flush_count result ≡ 0 }
+        ensures unflushed { is_unflushed result ≡ false }
     {
         Device {
             inner,
@@ -36,6 +42,8 @@ impl<T> Device<T> {
             ended: false,
             asked_again: false,
             count: 0,
+            flush_count: 0,
+            unflushed: false,
         }
     }
 
@@ -67,7 +75,7 @@ impl<T> Device<T> {
         self.ended
     }
 
-    /// Whether a read was asked for after a call had failed or a read had been told the end.
+    /// Whether a call was asked for after one had failed, or a read after one had been told the end.
     pub fn asked_again(&self) -> bool
         ensures { result ≡ was_asked_again self.now }
     {
@@ -81,6 +89,20 @@ impl<T> Device<T> {
         self.count
     }
 
+    /// How often a flush was asked for so far, modulo 2^64.
+    pub fn flush_count(&self) -> u64
+        ensures { result ≡ flush_count self.now }
+    {
+        self.flush_count
+    }
+
+    /// Whether a write was asked for so far, and no flush behind it.
+    pub fn unflushed(&self) -> bool
+        ensures { result ≡ is_unflushed self.now }
+    {
+        self.unflushed
+    }
+
     /// Keeps a failure, where it is the first.
     fn fail(&mut self)
         ensures inner { device_inner self.new ≡ device_inner self.old }
@@ -88,6 +110,8 @@ impl<T> Device<T> {
         ensures ended { has_ended self.new ≡ has_ended self.old }
         ensures again { was_asked_again self.new ≡ was_asked_again self.old }
         ensures count { read_count self.new ≡ read_count self.old }
+        ensures flushes { flush_count self.new ≡ flush_count self.old }
+        ensures unflushed { is_unflushed self.new ≡ is_unflushed self.old }
     {
         if self.failed_at.is_none() {
             self.failed_at = Some(self.count);

@@ -1,6 +1,8 @@
-//! A reader or writer that counts the bytes read and keeps whether a call failed.
+//! A reader or writer that counts what it was asked for and keeps whether a call failed.
 #![tactic(auto)]
 
+mod calls;
 mod io_device;
 
+pub use calls::{Reader, Writer};
 pub use io_device::Device;

@@ -1,4 +1,4 @@
-//! What no clause says: each call is handed on, and a device reports no failure of its own.
+//! A device over a reader and writer that counts its calls, call by call.
 use super::Device;
 use std::io;
 use std::io::{Error, ErrorKind, Read, Write};
@@ -288,6 +288,80 @@ fn all_is_sent_and_flushed_once(rt: HostRuntime) -> Result<(), Fail> {
             (calls, flushes)
         );
         assert_eq!(rt; device.failed(), told.is_err());
+        assert_eq!(rt;
+            (device.flush_count(), device.unflushed()),
+            (u64::from(flushes), told.is_err())
+        );
+        assert_eq!(rt; device.asked_again(), false);
+    }
+    Ok(())
+}
+
+#[test]
+fn flushes_are_counted(rt: HostRuntime) -> Result<(), Fail> {
+    let mut device = in_pieces(3, 0);
+    assert_eq!(rt; (device.flush_count(), device.unflushed()), (0, false));
+    assert_eq!(rt; device.write(b"")?, 0);
+    assert_eq!(rt; (device.flush_count(), device.unflushed()), (0, true));
+    device.flush()?;
+    assert_eq!(rt; (device.flush_count(), device.unflushed()), (1, false));
+    assert_eq!(rt; device.write_all(b""), Ok(()));
+    assert_eq!(rt; (device.flush_count(), device.unflushed()), (1, false));
+    assert_eq!(rt; device.write_all(b"abcd"), Ok(()));
+    assert_eq!(rt; (device.flush_count(), device.unflushed()), (1, true));
+    assert_eq!(rt; device.send(b""), Ok(()));
+    assert_eq!(rt; (device.flush_count(), device.unflushed()), (2, false));
+    assert_eq!(rt; (device.inner().calls, device.inner().flushes), (3, 2));
+    device.flush_count = u64::MAX;
+    device.flush()?;
+    assert_eq!(rt; device.flush_count(), 0);
+    Ok(())
+}
+
+/// What is asked of a device.
+#[derive(Clone, Copy)]
+enum Call {
+    Write,
+    Flush,
+    WriteAll,
+    WriteNone,
+    WriteBehind,
+    SendNone,
+}
+
+/// Whether a call was answered well.
+fn is_well(device: &mut Device<Pieces>, call: Call) -> bool {
+    match call {
+        Call::Write => device.write(b"ab").is_ok(),
+        Call::Flush => device.flush().is_ok(),
+        Call::WriteAll => device.write_all(b"ab").is_ok(),
+        Call::WriteNone => device.write_all(b"").is_ok(),
+        Call::WriteBehind => device.write_behind(u64::MAX, b"ab").is_ok(),
+        Call::SendNone => device.send(b"").is_ok(),
+    }
+}
+
+#[test]
+fn a_call_behind_a_failure_is_told(rt: HostRuntime) -> Result<(), Fail> {
+    // what is asked for behind a failed write, whether it is well and asks the writer again, its calls and flushes then
+    let rows: [(Call, [bool; 2], u32, u32); 6] = [
+        (Call::Write, [true, true], 2, 0),
+        (Call::Flush, [false, true], 1, 1),
+        (Call::WriteAll, [true, true], 2, 0),
+        (Call::WriteNone, [true, false], 1, 0),
+        (Call::WriteBehind, [false, false], 1, 0),
+        (Call::SendNone, [false, true], 1, 1),
+    ];
+    for (call, [well, again], calls, flushes) in rows {
+        let mut device = in_pieces(9, 1);
+        assert_eq!(rt; device.write_all(b"abc"), Err(0));
+        assert_eq!(rt; device.asked_again(), false);
+        assert_eq!(rt; is_well(&mut device, call), well);
+        assert_eq!(rt; device.asked_again(), again);
+        assert_eq!(rt;
+            (device.inner().calls, device.inner().flushes),
+            (calls, flushes)
+        );
     }
     Ok(())
 }
