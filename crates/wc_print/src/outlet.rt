@@ -1,8 +1,9 @@
 //! A text on its way to a writer.
 
-ghost use Rattle.std.specs.Prelude.{◌≡◌, ◌≤◌, [], ℕ, List, Option, is_err, false};
-ghost use Rattle.wc_device.specs.Device.{device_inner, has_failed};
-ghost use Rattle.wc_print.specs.Inner.Flows.{FlowsUnless};
+ghost use Rattle.std.specs.Prelude.{◌≡◌, ◌≤◌, [], ℕ, List, Option, length, is_err, OnOk, IfErr, false};
+ghost use Rattle.wc_device.specs.Device.{device_inner, has_failed, was_asked_again, FlushedOnce, FlushedBehindAll};
+ghost use Rattle.wc_device.specs.declared.io_device.Device.{Device};
+ghost use Rattle.wc_print.specs.Inner.Flows.{FlowsUnless, OnlyWrites};
 ghost use Rattle.wc_print.specs.Printed.{text};
 ghost use Rattle.wc_print.specs.Sending.{Sends};
 ghost use Rattle.wc_print.specs.Printable.{IsPrintable};
@@ -49,9 +50,10 @@ impl Waiting {
 
 /// Sends bytes behind so many that went out, unless the writer failed, and tells how many went out then.
 fn send_behind<W: Write>(device: &mut Device<W>, sent: u64, bytes: &[u8]) -> u64
-    ensures { (first : Option (List ℕ)) (said : List ℕ)
+    ensures flows { (first : Option (List ℕ)) (said : List ℕ)
         → FlowsUnless (has_failed device.old) first (W.contents (device_inner device.old)) sent bytes.now said
         → FlowsUnless (has_failed device.new) first (W.contents (device_inner device.new)) result [] said }
+    ensures calls { (first : Device W) → OnlyWrites first device.old sent → OnlyWrites first device.new result }
 {
     if device.failed() {
         return sent;
@@ -72,8 +74,8 @@ pub struct Outlet<'a, W> {
 }
 
 impl<W: Write> Outlet<'_, W> {
-    ghost use Rattle.std.specs.Prelude.{◌≡◌, ℕ, List, [], is_err};
-    ghost use Rattle.wc_device.specs.Device.{device_inner, has_failed};
+    ghost use Rattle.std.specs.Prelude.{◌≡◌, ℕ, List, [], length, is_err, OnOk, IfErr};
+    ghost use Rattle.wc_device.specs.Device.{device_inner, has_failed, was_asked_again, FlushedOnce, FlushedBehindAll};
     ghost use Rattle.wc_print.specs.declared.outlet.Outlet.{Outlet};
     ghost use Rattle.wc_print.specs.Going.{Says};
     ghost use Rattle.wc_print.specs.Sending.{Sends};
@@ -107,6 +109,12 @@ impl<W: Write> Outlet<'_, W> {
         ensures sent { (first : Outlet W) (said : List ℕ) → HasSent W.contents first self.old said
             → Sends (W.contents (device_inner first.device.now)) (W.contents (device_inner self.new.device.now))
             said result }
+        ensures again { (first : Outlet W) (said : List ℕ) → HasSent W.contents first self.old said
+            → was_asked_again self.new.device.now ≡ was_asked_again first.device.now }
+        ensures flushed { (first : Outlet W) (said : List ℕ) → HasSent W.contents first self.old said
+            → OnOk result (FlushedOnce first.device.now self.new.device.now) }
+        ensures flushed_behind_all { (first : Outlet W) (said : List ℕ) → HasSent W.contents first self.old said
+            → IfErr result (λ n. FlushedBehindAll n (length said) first.device.now self.new.device.now) }
         ensures failed { is_err result ≡ has_failed self.new.device.now }
         ensures same { self.new.device.ghost_name ≡ self.old.device.ghost_name }
     {
@@ -139,12 +147,17 @@ impl<W: Write> Sink for Outlet<'_, W> {
 /// Writes the text of a module, as `print` gives it, and flushes once. It takes no memory.
 ///
 /// # Errors
-/// How many bytes of the text went out before a write failed, or all of them where the flush did. Nothing is tried again.
+/// How many bytes of the text went out before a write failed, or all of them where the flush did. Nothing is tried
+/// again.
 pub fn print_to<W: Write>(w: &mut Device<W>, module: &Module) -> Result<u64, u64>
     requires { has_failed w.old ≡ false }
     ensures sends { Sends (W.contents (device_inner w.old)) (W.contents (device_inner w.new))
         (text (layout «module».now)) result }
     ensures failed { is_err result ≡ has_failed w.new }
+    ensures again { was_asked_again w.new ≡ was_asked_again w.old }
+    ensures flushed { OnOk result (FlushedOnce w.old w.new) }
+    ensures flushed_behind_all { IfErr result
+        (λ n. FlushedBehindAll n (length (text (layout «module».now))) w.old w.new) }
     ensures printable { IsPrintable (layout «module».now) }
 {
     let mut out = Outlet {

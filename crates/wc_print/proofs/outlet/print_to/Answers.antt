@@ -16,3 +16,24 @@ returns-clause-failed g c =
     let has = c.put_module.ensures.layout.all _ [] (begun g.W.Write.contents _ c.requires refl refl) in
     let same = c.finish.ensures.same ∙ has.same in
     search rules
+
+pub returns-clause-again : goal.returns-clause-again
+returns-clause-again g c =
+    let has = c.put_module.ensures.layout.all _ [] (begun g.W.Write.contents _ c.requires refl refl) in
+    let again = c.finish.ensures.again _ (text (layout c.args.module.now)) has in
+    let same = c.finish.ensures.same ∙ has.same in
+    search rules
+
+pub returns-clause-flushed : goal.returns-clause-flushed
+returns-clause-flushed g c =
+    let has = c.put_module.ensures.layout.all _ [] (begun g.W.Write.contents _ c.requires refl refl) in
+    let flushed = c.finish.ensures.flushed _ (text (layout c.args.module.now)) has in
+    let same = c.finish.ensures.same ∙ has.same in
+    search rules
+
+pub returns-clause-flushed_behind_all : goal.returns-clause-flushed_behind_all
+returns-clause-flushed_behind_all g c =
+    let has = c.put_module.ensures.layout.all _ [] (begun g.W.Write.contents _ c.requires refl refl) in
+    let flushed_behind_all = c.finish.ensures.flushed_behind_all _ (text (layout c.args.module.now)) has in
+    let same = c.finish.ensures.same ∙ has.same in
+    search rules
