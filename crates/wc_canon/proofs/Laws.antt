@@ -111,13 +111,17 @@ pub means-kept : (x : List ℕ) (m : Module) → Means x m → KeepsRules m
 unfolding Means
 means-kept x m p = p.1
 
-means-canon : (x : List ℕ) (m : Module) → Means x m → (b : List ℕ) × Canon b m
+pub means-canon : (x : List ℕ) (m : Module) → Means x m → (b : List ℕ) × Canon b m
 unfolding Means
 means-canon x m p = p.2
 
 pub has-answer : (x b : List ℕ) (m : Module) → Denotes x m → KeepsRules m → Canon b m → HasAnswer x b
 unfolding HasAnswer
 has-answer x b m p k q = (m, denoted-means x b m p k q, q)
+
+pub means-answered : (x : List ℕ) (m : Module) → Means x m → (b : List ℕ) × HasAnswer x b
+unfolding HasAnswer
+means-answered x m p = let c = means-canon x m p in (c.0, (m, p, c.1))
 
 -- a binary whose module breaks no rule has canonical bytes
 pub binary-answered : (x : List ℕ) (m : Module) → is_binary x ≡ true → Denotes x m → KeepsRules m

@@ -1,6 +1,8 @@
 pub mod Sizes
 pub mod Laws
 pub mod Judged
+pub mod Fitted
+pub mod Spelled
 pub mod Again
 pub mod Streams
 pub mod FailedReads

@@ -25,7 +25,8 @@ abbrev pub Compares : List ℕ → List ℕ → Comparison → Type 0
 Compares x y Same = IsSame x y
 Compares x y Different = IsDifferent x y
 
--- x is refused so; or x is accepted, and y is refused so
+-- x is refused so; or x is accepted, and y is refused so. Want of memory at y may be told of either: a clause sees no
+-- memory, and to the same inputs it may be refused at x. (Of two readers GoesOver says which side it is.)
 abbrev pub IsSideRefused : List ℕ → List ℕ → Side → Refusal → Type 0
 IsSideRefused x y A f = IsRefused x f
 IsSideRefused x y B f = IsAccepted x × IsRefused y f

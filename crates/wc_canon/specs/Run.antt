@@ -2,6 +2,9 @@
 use Rattle.std.specs.Prelude.{◌≡◌, ℕ, ◌+◌, ◌≤◌, List, length, take, Bool, true, false, Option, Some, None}
 use Rattle.std.specs.Prelude.{IfSome, Result, Ok, Err, ⊤}
 use Rattle.std.specs.Io.KnownBytes.{Keeps, Appends}
+use Rattle.wc_device.specs.declared.io_device.Device.{Device}
+use Rattle.wc_device.specs.Device.{device_inner, FlushedOnce, FlushedBehindAll}
+use Rattle.wc_tokens.specs.Standard.Lexemes.{longest}
 use Rattle.wc_binary.specs.Standard.Phrase.{halt}
 use Rattle.wc_binary.specs.Standard.Module.{StopB}
 use Rattle.wc_binary.specs.Standard.Decoding.{IsCutShort}
@@ -38,6 +41,10 @@ IsOutputOf j (Some x) b = HasOutput j x b
 abbrev pub IsAnswerOf : Option (List ℕ) → List ℕ → Type 0
 IsAnswerOf input b = IsOutputOf job.Binary input b
 
+-- the text has the answer to the input, where the bytes of this are known, and else the answer to some input
+abbrev pub HasSameAnswer : Option (List ℕ) → List ℕ → Type 0
+HasSameAnswer input t = (b : List ℕ) × IsAnswerOf input b × HasAnswer t b
+
 -- what holds of the value that is answered to the input; or f is its fault, where its bytes are known
 abbrev pub Judges : {V : Type 0} → Option (List ℕ) → (V → Type 0) → Result V RunFault → Type 0
 Judges input P (Ok v) = P v
@@ -55,6 +62,34 @@ Answers j input old new (Err (Read at)) = ⊤
 Answers j input old new (Err (Write n)) =
     (b : List ℕ) × IsOutputOf j input b × (n ≤ length b) × Appends old new (take n b)
 Answers j input old new (Err Memory) = ⊤
+
+-- a text of the input went out, n bytes, and it has the same answer, where it isn't longer than a text may be
+abbrev pub SendsAlike : Option (List ℕ) → Option (List ℕ) → Option (List ℕ) → ℕ → Type 0
+SendsAlike input old new n =
+    n ≤ longest
+    → (t : List ℕ) × IsOutputOf job.Text input t × (n ≡ length t) × Appends old new t × HasSameAnswer input t
+
+-- how a writer was flushed that was sent so many bytes: once behind all of them; or it failed in that flush; or in a
+-- write before it, and then there was none
+abbrev pub FlushesBehind : {W : Type 0} → ℕ → Device W → Device W → Result ℕ RunFault → Type 0
+FlushesBehind all old new (Ok n) = FlushedOnce old new
+FlushesBehind all old new (Err (Refused f)) = ⊥
+FlushesBehind all old new (Err (Read at)) = ⊥
+FlushesBehind all old new (Err (Write n)) = FlushedBehindAll n all old new
+FlushesBehind all old new (Err Memory) = ⊥
+
+-- the whole output of the job for the input went out, and then one flush; or exactly its first n bytes, and then one
+-- flush, which failed, if these are all, and else none; or there is no answer, and nothing of the writer was asked.
+-- contents are the bytes that a writer holds
+abbrev pub FlushesOnce : {W : Type 0} → (W → Option (List ℕ)) → Job → Option (List ℕ) → Device W → Device W
+    → Result ℕ RunFault → Type 0
+FlushesOnce contents j input old new (Ok n) = FlushedOnce old new
+FlushesOnce contents j input old new (Err (Refused f)) = new ≡ old
+FlushesOnce contents j input old new (Err (Read at)) = new ≡ old
+FlushesOnce contents j input old new (Err (Write n)) =
+    (b : List ℕ) × IsOutputOf j input b × (n ≤ length b)
+    × Appends (contents (device_inner old)) (contents (device_inner new)) (take n b) × FlushedBehindAll n (length b) old new
+FlushesOnce contents j input old new (Err Memory) = new ≡ old
 
 -- nothing went out without an answer
 abbrev pub IsQuiet : Option (List ℕ) → Option (List ℕ) → Result ℕ RunFault → Type 0

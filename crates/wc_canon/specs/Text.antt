@@ -1,6 +1,7 @@
--- The texts of refusals.
+-- The texts of refusals, and of faults of a run.
 use Rattle.std.specs.Prelude.{ℕ, List, ◌++◌, codes}
 use Rattle.std.specs.Fmt.{decimal}
+use Rattle.std.specs.List.{flat_map}
 use Rattle.wc_binary.specs.declared.fault.BinWhy.{BinWhy}
 use Rattle.wc_binary.specs.declared.fault.BinWhy.TheVariants as bin
 use Rattle.wc_tokens.specs.declared.fault.LexWhy.{LexWhy}
@@ -16,6 +17,10 @@ use Rattle.wc_check.specs.declared.fault.CheckWhy.{CheckWhy}
 use Rattle.wc_check.specs.declared.fault.CheckWhy.TheVariants as rule
 use Rattle.wc_canon.specs.declared.fault.Refusal.{Refusal}
 use Rattle.wc_canon.specs.declared.fault.Refusal.TheVariants as refusal
+use Rattle.wc_canon.specs.declared.rendering.Piece.{Piece}
+use Rattle.wc_canon.specs.declared.rendering.Piece.TheVariants.{Words, Number}
+use Rattle.wc_canon.specs.declared.fault.RunFault.{RunFault}
+use Rattle.wc_canon.specs.declared.fault.RunFault.TheVariants as run_fault
 
 -- why bytes are no binary
 abbrev pub reason_text : BinWhy → List ℕ
@@ -87,11 +92,15 @@ rule_text rule.StartType = codes "start function has parameters or results"
 abbrev pub numbered : List ℕ → ℕ → List ℕ → List ℕ
 numbered word n text = word ++ (decimal n ++ (codes ": " ++ text))
 
+-- an instruction by its function and its number, and a text behind them
+abbrev pub at_instruction : ℕ → ℕ → List ℕ → List ℕ
+at_instruction func number text = codes "func " ++ (decimal func ++ numbered (codes " instruction ") number text)
+
 -- an item that breaks a rule, and the text of the rule
 abbrev pub broken_text : Item → List ℕ → List ℕ
 broken_text (Import n) text = numbered (codes "import ") n text
 broken_text (Func n) text = numbered (codes "func ") n text
-broken_text (Instr func number) text = codes "func " ++ (decimal func ++ numbered (codes " instruction ") number text)
+broken_text (Instr func number) text = at_instruction func number text
 broken_text (Table n) text = numbered (codes "table ") n text
 broken_text (Memory n) text = numbered (codes "memory ") n text
 broken_text (Global n) text = numbered (codes "global ") n text
@@ -117,3 +126,19 @@ refusal_text (refusal.Names token at why) = at_token token at (name_text why)
 refusal_text (refusal.Check item why) = broken_text item (rule_text why)
 refusal_text refusal.Oversize = codes "module too large"
 refusal_text refusal.Memory = codes "out of memory"
+
+-- a piece of a text: words as they are, and a number in decimal digits
+abbrev pub piece_text : Piece → List ℕ
+piece_text (Words words) = words.now
+piece_text (Number n) = decimal n
+
+-- pieces behind one another
+abbrev pub pieces_text : List Piece → List ℕ
+pieces_text pieces = flat_map piece_text pieces
+
+-- why a run gave no answer, in short
+abbrev pub fault_text : RunFault → List ℕ
+fault_text (run_fault.Refused f) = codes "input refused"
+fault_text (run_fault.Read at) = codes "read failed"
+fault_text (run_fault.Write written) = codes "write failed"
+fault_text run_fault.Memory = codes "out of memory"

@@ -1,6 +1,7 @@
 //! Why an input is refused, and why a run gave no answer.
 
 use std::alloc::AllocError;
+use std::fmt;
 use thiserror::Error;
 use wc_binary::{BinFault, BinWhy, EncFault};
 use wc_check::{CheckFault, CheckWhy, Item};
@@ -9,7 +10,7 @@ use wc_syntax::SynWhy;
 use wc_targets::NameWhy;
 use wc_tokens::LexWhy;
 
-/// Why an input has no canonical bytes. [`render`](crate::render) gives the text.
+/// Why an input has no canonical bytes. It is displayed by its text, which [`render`](crate::render) gives by value.
 #[derive(Debug, Drop)]
 pub enum Refusal {
     /// The input begins with the byte 00 and is no binary (WebAssembly Core Specification 1.0, chapter 5). `at` is the
@@ -33,22 +34,34 @@ pub enum Refusal {
     Memory,
 }
 
-/// Why a run ended without the whole answer.
+/// Why a run ended without the whole answer. It is displayed in two or three words, without a place.
 #[derive(Debug, Drop, Error)]
 pub enum RunFault {
     /// The input is refused, never by want of memory. Nothing was written.
-    #[error("input refused")]
     Refused(Refusal),
     /// The reader failed, after it had given `at` bytes. Nothing was written.
-    #[error("read failed")]
     Read { at: u64 },
     /// The writer failed: exactly the first `written` bytes of the answer went out. Where its flush failed, these are
     /// all of them.
-    #[error("write failed")]
     Write { written: u64 },
     /// A growth of memory was refused. Nothing was written.
-    #[error("out of memory")]
     Memory,
+}
+
+impl fmt::Display for RunFault {
+    ghost use Rattle.std.specs.Prelude.{Some};
+    ghost use Rattle.wc_canon.specs.Text.{fault_text};
+
+    ghost output = { λ fault. Some (fault_text fault) };
+
+    fn fmt<W: fmt::Write>(&self, f: &mut fmt::Formatter<W>) -> fmt::Result {
+        f.write_str(match self {
+            RunFault::Refused(_) => "input refused",
+            RunFault::Read { .. } => "read failed",
+            RunFault::Write { .. } => "write failed",
+            RunFault::Memory => "out of memory",
+        })
+    }
 }
 
 impl From<AllocError> for Refusal {

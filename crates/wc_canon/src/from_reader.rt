@@ -37,15 +37,20 @@ pub(crate) struct Found {
     pub(crate) memory: Vec<u8>,
 }
 
-/// The front, and then the reader's bytes to its end.
-fn read_rest<R: Read>(alloc: Global, front: &[u8], r: &mut Device<R>) -> Result<Vec<u8>, RunFault>
+/// The front, and then the reader's bytes to its end. They are put behind one another in memory that has none, each
+/// piece before the next read.
+fn read_rest<R: Read>(front: &[u8], r: &mut Device<R>, bytes: &mut Vec<u8>) -> Result<(), RunFault>
     requires well { has_failed r.old ≡ false }
     requires counted { length front.now ≡ read_count r.old }
+    requires none { bytes.old.items ≡ [] }
     ensures all { OnOk result (IsAtEnd (R.remaining (device_inner r.new))) }
-    ensures whole { IfOk result (λ bytes. (x : Maybe (List ℕ))
+    ensures whole { OnOk result ((x : Maybe (List ℕ))
         → Consumes x (R.remaining (device_inner r.old)) front.now
-        → Consumes x (R.remaining (device_inner r.new)) bytes.items) }
-    ensures count { IfOk result (λ bytes. length bytes.items ≡ read_count r.new) }
+        → Consumes x (R.remaining (device_inner r.new)) bytes.new.items) }
+    ensures count { OnOk result (length bytes.new.items ≡ read_count r.new) }
+
+    // Where a read failed, all that was read before is there: none is made once memory was refused.
+    ensures held { IfErr result (λ e. (at : ℕ) → e ≡ RunFault.Read at → length bytes.new.items ≡ at) }
     ensures read { is_read_fault result ≡ has_failed r.new }
     ensures read_at { IfErr result (λ e. (at : ℕ) → e ≡ RunFault.Read at → at ≡ read_count r.new) }
     ensures first_failure { IfErr result (λ e. (at : ℕ) → e ≡ RunFault.Read at → failed_at r.new ≡ Some at) }
@@ -55,7 +60,6 @@ fn read_rest<R: Read>(alloc: Global, front: &[u8], r: &mut Device<R>) -> Result<
     ensures unwritten { is_write_fault result ≡ false }
     ensures unjudged { (f : Refusal) → ¬ (IsErrOf result (RunFault.Refused f)) }
 {
-    let mut bytes = Vec::new(alloc);
     bytes.extend_from_slice(front)?;
     let mut piece = [0u8; TEXT_PIECE];
     loop {
@@ -64,7 +68,7 @@ fn read_rest<R: Read>(alloc: Global, front: &[u8], r: &mut Device<R>) -> Result<
             Err(_) => return Err(RunFault::Read { at: r.count() }),
         };
         if given == 0 {
-            return Ok(bytes);
+            return Ok(());
         }
         bytes.extend_from_slice(&piece[..given])?;
     }
@@ -90,7 +94,8 @@ fn read_text<R: Read>(alloc: Global, front: &[u8], r: &mut Device<R>) -> Result<
     ensures unwritten { is_write_fault result ≡ false }
     ensures memory { ¬ (IsErrOf result (RunFault.Refused refusals.Memory)) }
 {
-    let text = read_rest(alloc, front, r)?;
+    let mut text = Vec::new(alloc);
+    read_rest(front, r, &mut text)?;
     let module = read(alloc, &text)?;
     Ok(Found {
         module,
@@ -142,8 +147,8 @@ fn read_nothing(alloc: Global) -> Result<Found, RunFault>
     })
 }
 
-/// The module that the reader's bytes denote, to the reader's end, or else their first fault. One piece is read, and its first byte tells a binary, which is read no further than its fault shows; a text
-/// is read to its end.
+/// The module that the reader's bytes denote, to the reader's end, or else their first fault. One piece is read, and its
+/// first byte tells a binary, which is read no further than its fault shows; a text is read to its end.
 pub(crate) fn read_module<R: Read>(alloc: Global, r: &mut Device<R>) -> Result<Found, RunFault>
     requires well { has_failed r.old ≡ false }
     requires unread { read_count r.old ≡ 0 }

@@ -1,10 +1,12 @@
 //! Laws of answers and faults, each proved for all inputs and all modules.
 
-ghost use Rattle.std.specs.Prelude.{◌≡◌, ◌⊎◌, ◌↔◌, List, ℕ, true};
+ghost use Rattle.std.specs.Prelude.{◌≡◌, ◌⊎◌, ◌↔◌, ◌≤◌, List, ℕ, length, true};
 ghost use Rattle.wc_ast.specs.declared.module.Module.{Module};
 ghost use Rattle.wc_binary.specs.Standard.Module.{Bin};
+ghost use Rattle.wc_tokens.specs.Standard.Lexemes.{longest};
 ghost use Rattle.wc_canon.specs.declared.fault.Refusal.{Refusal};
 ghost use Rattle.wc_canon.specs.Input.{is_binary, Means, HasAnswer, HasFault};
+ghost use Rattle.wc_canon.specs.Printing.{HasText};
 
 /// An input denotes at most one module.
 pub fn one_meaning()
@@ -25,6 +27,11 @@ pub fn answers_spell()
 /// An answer is its own answer.
 pub fn answers_are_fixed()
     ensures { (x b : List ℕ) → HasAnswer x b → HasAnswer b b }
+{}
+
+/// The printed text of an input has the input's answer, where it isn't longer than a text may be (4,294,967,295 bytes).
+pub fn texts_keep_answers()
+    ensures { (x t b : List ℕ) → HasText x t → length t ≤ longest → HasAnswer x b → HasAnswer t b }
 {}
 
 /// An input has at most one answer.

@@ -25,11 +25,11 @@ pub use fault::{Refusal, RunFault};
 pub use fixed::is_canonical;
 pub use law::{
     always_judged, answers_are_fixed, answers_spell, never_both, never_oversize, one_answer,
-    one_fault, one_meaning, same_bytes_same_module,
+    one_fault, one_meaning, same_bytes_same_module, texts_keep_answers,
 };
 pub use normalising::normalise;
 pub use printing::to_text;
 pub use reading::{accept_from, normalise_from, text_from};
-pub use rendering::render;
+pub use rendering::{Piece, pieces, render};
 pub use running::{Job, run};
 pub use version::VERSION;

@@ -1,16 +1,17 @@
 //! What the bytes of a reader are answered.
 
-ghost use Rattle.std.specs.Prelude.{ℕ, ◌≡◌, IfErr, IfSome, IsErrOf, OnOk, Some, false};
+ghost use Rattle.std.specs.Prelude.{ℕ, ◌≡◌, ◌≤◌, length, IfOk, IfErr, IfSome, IsErrOf, OnOk, Some, false};
 ghost use Rattle.std.specs.Io.KnownBytes.{IsAtEnd};
 ghost use Rattle.wc_device.specs.Device.{device_inner, failed_at, has_failed, has_ended, was_asked_again, read_count};
 ghost use Rattle.wc_canon.specs.declared.fault.Refusal.TheVariants as refusals;
 ghost use Rattle.wc_canon.specs.Input.{KeepsRules, IsAccepted};
 ghost use Rattle.wc_canon.specs.declared.running.Job.{Job};
-ghost use Rattle.wc_canon.specs.Run.{Judges, IsAnswerOf, IsOutputOf, RefusesNear};
+ghost use Rattle.wc_canon.specs.Run.{Judges, IsAnswerOf, IsOutputOf, HasSameAnswer, RefusesNear};
 ghost use Rattle.wc_canon.specs.Run.{ReadsCut, is_read_fault, is_write_fault};
 ghost use Rattle.wc_canon.specs.Inner.Steps.{IsModuleFault, IsSized};
 ghost use Rattle.wc_print.specs.Layout.{layout};
 ghost use Rattle.wc_print.specs.Printed.{text};
+ghost use Rattle.wc_tokens.specs.Standard.Lexemes.{longest};
 ghost use Rattle.std.specs.String.{string_bytes};
 
 use crate::canonical::{canonical_bytes, judge_module, judge_spelled};
@@ -108,7 +109,8 @@ pub(crate) fn accepted_from<R: Read>(alloc: Global, r: &mut Device<R>) -> Result
     Ok(found.module)
 }
 
-/// The text of the module that the reader's bytes denote, to the reader's end, as `to_text` gives it.
+/// The text of the module that the reader's bytes denote, to the reader's end, as `to_text` gives it. It has the same
+/// answer again, where it isn't longer than a text may be.
 ///
 /// # Errors
 /// As those of `normalise_from`.
@@ -117,6 +119,8 @@ pub fn text_from<R: Read>(alloc: Global, r: &mut Device<R>) -> Result<String, Ru
     requires unread { read_count r.old ≡ 0 }
     ensures judges { Judges (R.remaining (device_inner r.old))
         (λ it. IsOutputOf Job.Text (R.remaining (device_inner r.old)) (string_bytes it)) result }
+    ensures back { IfOk result (λ it. length (string_bytes it) ≤ longest
+        → HasSameAnswer (R.remaining (device_inner r.old)) (string_bytes it)) }
     ensures near { IfErr result (λ e. IfSome (R.remaining (device_inner r.old)) (RefusesNear (read_count r.new) e)) }
     ensures read { is_read_fault result ≡ has_failed r.new }
     ensures read_at { IfErr result (λ e. (at : ℕ) → e ≡ RunFault.Read at → at ≡ read_count r.new) }

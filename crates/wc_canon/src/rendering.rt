@@ -1,11 +1,13 @@
 //! The texts of refusals.
 
-ghost use Rattle.std.specs.Prelude.{◌≡◌, IfOk, string_bytes};
+ghost use Rattle.std.specs.Prelude.{◌≡◌, ◌++◌, IfOk, Some, codes, string_bytes};
 ghost use Rattle.wc_canon.specs.Text.{reason_text, character_text, grammar_text, name_text, rule_text};
-ghost use Rattle.wc_canon.specs.Text.{broken_text, refusal_text};
+ghost use Rattle.wc_canon.specs.Text.{numbered, at_token, at_instruction, broken_text, refusal_text};
+ghost use Rattle.wc_canon.specs.Text.{piece_text, pieces_text};
 
 use crate::fault::Refusal;
 use std::alloc::{AllocError, Global};
+use std::fmt;
 use wc_binary::BinWhy;
 use wc_check::{CheckWhy, Item};
 use wc_syntax::SynWhy;
@@ -98,46 +100,154 @@ fn rule(why: CheckWhy) -> &'static str
     }
 }
 
+/// A piece of a text.
+#[derive(Clone, Copy, Debug)]
+pub enum Piece<'a> {
+    /// These words.
+    Words(&'a str),
+    /// This number, in decimal digits.
+    Number(u64),
+}
+
+impl fmt::Display for Piece<'_> {
+    ghost output = { λ piece. Some (piece_text piece) };
+
+    fn fmt<W: fmt::Write>(&self, f: &mut fmt::Formatter<W>) -> fmt::Result {
+        match self {
+            Piece::Words(words) => f.write_str(*words),
+            Piece::Number(n) => write!(f, "{n}"),
+        }
+    }
+}
+
+/// A piece without a character, where a text has fewer than there is room for.
+const NOTHING: Piece<'static> = Piece::Words("");
+
+/// Words alone.
+fn words(text: &'static str) -> [Piece<'static>; 6]
+    ensures { pieces_text result ≡ text.now }
+{
+    [
+        NOTHING,
+        NOTHING,
+        NOTHING,
+        NOTHING,
+        NOTHING,
+        Piece::Words(text),
+    ]
+}
+
+/// Words with a number, and a text behind them.
+fn numbered(word: &'static str, n: u64, text: &'static str) -> [Piece<'static>; 6]
+    ensures { pieces_text result ≡ numbered word.now n text.now }
+{
+    [
+        NOTHING,
+        NOTHING,
+        Piece::Words(word),
+        Piece::Number(n),
+        Piece::Words(": "),
+        Piece::Words(text),
+    ]
+}
+
+/// A token by its number and its byte, and a text behind them.
+fn at_token(token: u64, at: u64, text: &'static str) -> [Piece<'static>; 6]
+    ensures { pieces_text result ≡ at_token token at text.now }
+{
+    [
+        Piece::Words("token "),
+        Piece::Number(token),
+        Piece::Words(" at byte "),
+        Piece::Number(at),
+        Piece::Words(": "),
+        Piece::Words(text),
+    ]
+}
+
+/// An instruction by its function and its number, and a text behind them.
+fn at_instruction(func: u64, number: u64, text: &'static str) -> [Piece<'static>; 6]
+    ensures { pieces_text result ≡ at_instruction func number text.now }
+{
+    [
+        Piece::Words("func "),
+        Piece::Number(func),
+        Piece::Words(" instruction "),
+        Piece::Number(number),
+        Piece::Words(": "),
+        Piece::Words(text),
+    ]
+}
+
+/// The start function, and a text behind it.
+fn at_start(text: &'static str) -> [Piece<'static>; 6]
+    ensures { pieces_text result ≡ codes "start: " ++ text.now }
+{
+    [
+        NOTHING,
+        NOTHING,
+        NOTHING,
+        NOTHING,
+        Piece::Words("start: "),
+        Piece::Words(text),
+    ]
+}
+
 /// An item, and the rule that it breaks.
-fn render_broken(alloc: Global, item: Item, rule: &str) -> Result<String, AllocError>
-    ensures { IfOk result (λ text. string_bytes text ≡ broken_text item rule.now) }
+fn broken(item: Item, rule: &'static str) -> [Piece<'static>; 6]
+    ensures { pieces_text result ≡ broken_text item rule.now }
 {
     match item {
-        Item::Import(n) => format!(in alloc; "import {n}: {rule}"),
-        Item::Func(n) => format!(in alloc; "func {n}: {rule}"),
-        Item::Instr { func, number } => {
-            format!(in alloc; "func {func} instruction {number}: {rule}")
+        Item::Import(n) => numbered("import ", n as u64, rule),
+        Item::Func(n) => numbered("func ", n as u64, rule),
+        Item::Instr { func, number } => at_instruction(func as u64, number as u64, rule),
+        Item::Table(n) => numbered("table ", n as u64, rule),
+        Item::Memory(n) => numbered("memory ", n as u64, rule),
+        Item::Global(n) => numbered("global ", n as u64, rule),
+        Item::Export(n) => numbered("export ", n as u64, rule),
+        Item::Start => at_start(rule),
+        Item::Elem(n) => numbered("elem ", n as u64, rule),
+        Item::Data(n) => numbered("data ", n as u64, rule),
+    }
+}
+
+/// The text that [`render`] gives, in pieces behind one another, of which some may be empty. It takes no memory and
+/// can't fail, so a caller gets the whole text into any writer.
+pub fn pieces(refusal: &Refusal) -> [Piece<'static>; 6]
+    ensures { pieces_text result ≡ refusal_text refusal.now }
+{
+    match refusal {
+        Refusal::Binary { at, why } => numbered("byte ", *at, reason(*why)),
+        Refusal::Lex { at, why } => numbered("byte ", *at, character(*why)),
+        Refusal::Syntax { token, at, why } => at_token(*token, *at, grammar(*why)),
+        Refusal::Names { token, at, why } => at_token(*token, *at, name(*why)),
+        Refusal::Check { item, why } => broken(*item, rule(*why)),
+        Refusal::Oversize => words("module too large"),
+        Refusal::Memory => words("out of memory"),
+    }
+}
+
+/// Writes the text that [`render`] gives. It takes no memory, and fails only where its writer does.
+impl fmt::Display for Refusal {
+    ghost output = { λ refusal. Some (refusal_text refusal) };
+
+    fn fmt<W: fmt::Write>(&self, f: &mut fmt::Formatter<W>) -> fmt::Result {
+        for piece in &pieces(self) {
+            write!(f, "{piece}")?;
         }
-        Item::Table(n) => format!(in alloc; "table {n}: {rule}"),
-        Item::Memory(n) => format!(in alloc; "memory {n}: {rule}"),
-        Item::Global(n) => format!(in alloc; "global {n}: {rule}"),
-        Item::Export(n) => format!(in alloc; "export {n}: {rule}"),
-        Item::Start => format!(in alloc; "start: {rule}"),
-        Item::Elem(n) => format!(in alloc; "elem {n}: {rule}"),
-        Item::Data(n) => format!(in alloc; "data {n}: {rule}"),
+        Ok(())
     }
 }
 
 /// The text of a refusal, without a line end. Numbers are in decimal digits. `byte AT: TEXT` where the bytes of a
 /// binary or the characters of a text are wrong; `token N at byte AT: TEXT` where the grammar or the names of a text
-/// are; `ITEM: TEXT` where a rule is broken, as in `func 0 instruction 1: label out of range`.
+/// are; `ITEM: TEXT` where a rule is broken, as in `func 0 instruction 1: label out of range`. A refusal is displayed
+/// so too, which wants no memory.
 ///
 /// # Errors
 /// A growth of memory was refused.
 pub fn render(alloc: Global, refusal: &Refusal) -> Result<String, AllocError>
     ensures { IfOk result (λ text. string_bytes text ≡ refusal_text refusal.now) }
 {
-    match refusal {
-        Refusal::Binary { at, why } => format!(in alloc; "byte {at}: {}", reason(*why)),
-        Refusal::Lex { at, why } => format!(in alloc; "byte {at}: {}", character(*why)),
-        Refusal::Syntax { token, at, why } => {
-            format!(in alloc; "token {token} at byte {at}: {}", grammar(*why))
-        }
-        Refusal::Names { token, at, why } => {
-            format!(in alloc; "token {token} at byte {at}: {}", name(*why))
-        }
-        Refusal::Check { item, why } => render_broken(alloc, *item, rule(*why)),
-        Refusal::Oversize => "module too large".to_string(alloc),
-        Refusal::Memory => "out of memory".to_string(alloc),
-    }
+    refusal.to_string(alloc)
 }

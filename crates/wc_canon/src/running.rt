@@ -1,12 +1,13 @@
 //! From a reader to a writer.
 
-ghost use Rattle.std.specs.Prelude.{ℕ, ◌≡◌, ◌≤◌, length, take, IfOk, IfErr, IfSome, IsErrOf, OnOk, Some, false};
+ghost use Rattle.std.specs.Prelude.{ℕ, ◌≡◌, ◌≤◌, length, take, IfOk, IfErr, IfSome, IsErrOf, OnOk, OnErr, Some, false};
 ghost use Rattle.std.specs.Io.KnownBytes.{Appends, IsAtEnd};
 ghost use Rattle.wc_device.specs.Device.{device_inner, failed_at, has_failed, has_ended, was_asked_again, read_count};
 ghost use Rattle.wc_print.specs.Layout.{layout};
 ghost use Rattle.wc_print.specs.Printed.{text};
 ghost use Rattle.wc_canon.specs.declared.fault.Refusal.TheVariants as refusals;
-ghost use Rattle.wc_canon.specs.Run.{Answers, RefusesNear, ReadsCut, IsQuiet, is_read_fault, is_write_fault};
+ghost use Rattle.wc_canon.specs.Run.{Answers, FlushesBehind, FlushesOnce, SendsAlike, RefusesNear, ReadsCut, IsQuiet};
+ghost use Rattle.wc_canon.specs.Run.{is_read_fault, is_write_fault};
 
 use crate::fault::RunFault;
 use crate::reading::{accepted_from, normalise_from};
@@ -25,7 +26,7 @@ pub enum Job {
     Text,
 }
 
-/// Writes all the bytes, and flushes once.
+/// Writes all the bytes, and then flushes once. Behind a failure the writer isn't asked.
 fn send<W: Write>(w: &mut Device<W>, bytes: &[u8]) -> Result<u64, RunFault>
     requires { has_failed w.old ≡ false }
     ensures ok { IfOk result (λ n. n ≡ length bytes.now) }
@@ -34,6 +35,8 @@ fn send<W: Write>(w: &mut Device<W>, bytes: &[u8]) -> Result<u64, RunFault>
     ensures wrote { IfErr result (λ e. (n : ℕ) × (e ≡ RunFault.Write n) × (n ≤ length bytes.now)
         × Appends (W.contents (device_inner w.old)) (W.contents (device_inner w.new)) (take n bytes.now)) }
     ensures write { is_write_fault result ≡ has_failed w.new }
+    ensures flushes { FlushesBehind (length bytes.now) w.old w.new result }
+    ensures again { was_asked_again w.new ≡ was_asked_again w.old }
 {
     match w.send(bytes) {
         Ok(()) => Ok(bytes.len() as u64),
@@ -41,7 +44,8 @@ fn send<W: Write>(w: &mut Device<W>, bytes: &[u8]) -> Result<u64, RunFault>
     }
 }
 
-/// Writes the text of a module, and flushes once. It takes no memory, so that nothing but the writer can fail.
+/// Writes the text of a module, and then flushes once. It takes no memory, so that nothing but the writer can fail.
+/// Behind a failure the writer isn't asked.
 fn send_text<W: Write>(w: &mut Device<W>, module: Module) -> Result<u64, RunFault>
     requires { has_failed w.old ≡ false }
     ensures ok { IfOk result (λ n. n ≡ length (text (layout «module»))) }
@@ -51,6 +55,8 @@ fn send_text<W: Write>(w: &mut Device<W>, module: Module) -> Result<u64, RunFaul
         × Appends (W.contents (device_inner w.old)) (W.contents (device_inner w.new))
         (take n (text (layout «module»)))) }
     ensures write { is_write_fault result ≡ has_failed w.new }
+    ensures flushes { FlushesBehind (length (text (layout «module»))) w.old w.new result }
+    ensures again { was_asked_again w.new ≡ was_asked_again w.old }
 {
     match print_to(w, &module) {
         Ok(n) => Ok(n),
@@ -58,7 +64,8 @@ fn send_text<W: Write>(w: &mut Device<W>, module: Module) -> Result<u64, RunFaul
     }
 }
 
-/// Reads an input, writes the answer to it and nothing else, flushes once, and answers how many bytes it wrote.
+/// Reads an input, writes the answer to it and nothing else, then flushes once, and answers how many bytes it wrote.
+/// Where the answer isn't written whole, nothing is flushed.
 ///
 /// Nothing is written before the whole answer stands; a text stands with its module, and goes out in pieces as it is
 /// printed, which wants no memory. Where a binary is refused before its end, the rest isn't read: at
@@ -95,9 +102,16 @@ pub fn run<R: Read, W: Write>(
     ensures cut { IfErr result (λ e. IfSome (R.remaining (device_inner r.old)) (ReadsCut e)) }
 
     ensures quiet { IsQuiet (W.contents (device_inner w.old)) (W.contents (device_inner w.new)) result }
+    ensures unasked { is_write_fault result ≡ false → OnErr result (w.new ≡ w.old) }
     ensures answers { Answers job (R.remaining (device_inner r.old)) (W.contents (device_inner w.old))
         (W.contents (device_inner w.new)) result }
+    ensures back { job ≡ Job.Text → IfOk result (SendsAlike (R.remaining (device_inner r.old))
+        (W.contents (device_inner w.old)) (W.contents (device_inner w.new))) }
     ensures near { IfErr result (λ e. IfSome (R.remaining (device_inner r.old)) (RefusesNear (read_count r.new) e)) }
+
+    // The writer is flushed once, behind the whole answer, and isn't asked for anything behind a failure of its own.
+    ensures flushes { FlushesOnce W.contents job (R.remaining (device_inner r.old)) w.old w.new result }
+    ensures writer_again { was_asked_again w.new ≡ was_asked_again w.old }
 {
     match job {
         Job::Binary => send(w, &normalise_from(alloc, r)?),

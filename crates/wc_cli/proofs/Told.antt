@@ -1,5 +1,6 @@
 -- What an exit status says of the inputs.
 use Rattle.std.proofs.Common.{◌≡◌, ℕ, List, Bool, Option, Some, None, Result, Ok, Err, inl, inr}
+use Rattle.wc_device.specs.declared.io_device.Device.{Device}
 use Rattle.wc_canon.specs.declared.fault.Refusal.{Refusal}
 use Rattle.wc_canon.specs.Input.{IsAccepted}
 use Rattle.wc_canon.specs.Printing.{HasText}
@@ -75,15 +76,15 @@ refusal-tells (Compare a b) (Some u) (Some v) path f status (inl p) e =
 refusal-tells (Compare a b) (Some u) (Some v) path f status (inr p) e =
     (λ h. absurd (cc), λ h. inr (f, inr p.2))
 
-module _ (line : Line) (x y : Option (List ℕ)) (a b failed : Bool) (old new : Option (List ℕ)) where
-  pub ended-tells : (r : Result ℕ Failure) (status : ℕ) (dropped : Bool) (before after : Option (List ℕ))
-      → Ends line x y a b failed old new r → IsTold r status dropped before after → TellsLine line status x y
-  ended-tells (Ok s) status dropped before after p q = answer-tells line x y p.2.0 s status p.2.1 q.0
-  ended-tells (Err (Refused path f)) status dropped before after p q =
-      refusal-tells line x y path.now f status p.3 q.0
-  ended-tells (Err (CannotRead path)) status dropped before after p q = two-tells line x y status q.0
-  ended-tells (Err (CannotWrite path)) status dropped before after p q = two-tells line x y status q.0
-  ended-tells (Err NotText) status dropped before after p q = absurd p
-  ended-tells (Err NoSubcommand) status dropped before after p q = absurd p
-  ended-tells (Err Terminal) status dropped before after p q = absurd p
-  ended-tells (Err OutOfMemory) status dropped before after p q = two-tells line x y status q.0
+module _ {W E : Type 0} (held : W → Option (List ℕ)) (told : E → Option (List ℕ)) (line : Line)
+    (x y : Option (List ℕ)) (a b : Bool) (w w' : Device W) where
+  pub ended-tells : (r : Result ℕ Failure) (status : ℕ) (e e' : Device E) → Ends held line x y a b w w' r
+      → IsTold told r status e e' → TellsLine line status x y
+  ended-tells (Ok s) status e e' p q = answer-tells line x y p.2.0 s status p.2.1 q.0
+  ended-tells (Err (Refused path f)) status e e' p q = refusal-tells line x y path.now f status p.2 q.0
+  ended-tells (Err (CannotRead path)) status e e' p q = two-tells line x y status q.0
+  ended-tells (Err (CannotWrite path)) status e e' p q = two-tells line x y status q.0
+  ended-tells (Err NotText) status e e' p q = absurd p
+  ended-tells (Err NoSubcommand) status e e' p q = absurd p
+  ended-tells (Err Terminal) status e e' p q = absurd p
+  ended-tells (Err OutOfMemory) status e e' p q = two-tells line x y status q.0

@@ -1,9 +1,11 @@
 -- What carrying out a line comes to. x and y are the bytes of its inputs, where they are known; a and b say whether an
--- input couldn't be read; old and new are the bytes that the writer of answers holds, where they are known.
+-- input couldn't be read.
 use Rattle.std.specs.Prelude.{◌≡◌, ◌⊎◌, ℕ, ◌≤◌, List, length, take, codes, Bool, true, false}
 use Rattle.std.specs.Prelude.{Option, None, IfSome, Result, Ok, Err}
-use Rattle.std.specs.Io.KnownBytes.{Keeps, Appends}
+use Rattle.std.specs.Io.KnownBytes.{Appends}
 use denote.Ref.{Bor}
+use Rattle.wc_device.specs.declared.io_device.Device.{Device}
+use Rattle.wc_device.specs.Device.{device_inner, has_failed}
 use Rattle.wc_canon.specs.declared.fault.Refusal.{Refusal}
 use Rattle.wc_canon.specs.Input.{IsAccepted, HasFault}
 use Rattle.wc_canon.specs.Comparing.{IsSame, IsDifferent}
@@ -64,26 +66,27 @@ is_raw line = false
 
 -- ---- what came of it
 
--- the status once the whole answer went out, or the failure: failed says whether the writer of answers failed
-abbrev pub Ends : Line → Option (List ℕ) → Option (List ℕ) → Bool → Bool → Bool → Option (List ℕ) → Option (List ℕ)
-    → Result ℕ Failure → Type 0
-Ends line x y a b failed old new (Ok status) =
-    AreRead line a b × (failed ≡ false)
-    × ((text : List ℕ) × IsAnswer line x y text status × Appends old new text)
-Ends line x y a b failed old new (Err (Refused path f)) =
-    AreRead line a b × (failed ≡ false) × Keeps old new × IsRefusedAt line x y path.now f
-Ends line x y a b failed old new (Err (CannotRead path)) =
-    IsUnreadAt line a b path.now × (failed ≡ false) × Keeps old new
-Ends line x y a b failed old new (Err (CannotWrite path)) =
-    AreRead line a b × (failed ≡ true) × (path ≡ goes_to line)
+-- the status once the whole answer went out, or the failure: w is the writer of answers before, and w' behind it; held
+-- says which bytes it holds, where they are known. Where there is no answer, nothing of the writer was asked
+abbrev pub Ends : {W : Type 0} → (W → Option (List ℕ)) → Line → Option (List ℕ) → Option (List ℕ) → Bool → Bool
+    → Device W → Device W → Result ℕ Failure → Type 0
+Ends held line x y a b w w' (Ok status) =
+    AreRead line a b × (has_failed w' ≡ false)
+    × ((text : List ℕ) × IsAnswer line x y text status × Appends (held (device_inner w)) (held (device_inner w')) text)
+Ends held line x y a b w w' (Err (Refused path f)) =
+    AreRead line a b × (w' ≡ w) × IsRefusedAt line x y path.now f
+Ends held line x y a b w w' (Err (CannotRead path)) = IsUnreadAt line a b path.now × (w' ≡ w)
+Ends held line x y a b w w' (Err (CannotWrite path)) =
+    AreRead line a b × (has_failed w' ≡ true) × (path ≡ goes_to line)
     × ((text : List ℕ) × (status n : ℕ) × IsAnswer line x y text status × (n ≤ length text)
-    × Appends old new (take n text))
-Ends line x y a b failed old new (Err NotText) = ⊥
-Ends line x y a b failed old new (Err NoSubcommand) = ⊥
-Ends line x y a b failed old new (Err Terminal) = ⊥
-Ends line x y a b failed old new (Err OutOfMemory) = (failed ≡ false) × Keeps old new
+    × Appends (held (device_inner w)) (held (device_inner w')) (take n text))
+Ends held line x y a b w w' (Err NotText) = ⊥
+Ends held line x y a b w w' (Err NoSubcommand) = ⊥
+Ends held line x y a b w w' (Err Terminal) = ⊥
+Ends held line x y a b w w' (Err OutOfMemory) = AreRead line a b × (w' ≡ w)
 
--- the same is told: the status alone, or the failure by its status and its line
-abbrev pub IsTold : Result ℕ Failure → ℕ → Bool → Option (List ℕ) → Option (List ℕ) → Type 0
-IsTold (Ok s) status failed old new = (status ≡ s) × Keeps old new
-IsTold (Err f) status failed old new = Reports f status failed old new
+-- the same is told: the status alone, and nothing of the writer of faults is asked; or the failure by its status and
+-- its line. e is that writer before, and e' behind it
+abbrev pub IsTold : {E : Type 0} → (E → Option (List ℕ)) → Result ℕ Failure → ℕ → Device E → Device E → Type 0
+IsTold held (Ok s) status e e' = (status ≡ s) × (e' ≡ e)
+IsTold held (Err f) status e e' = Reports held f status e e'

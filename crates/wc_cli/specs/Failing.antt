@@ -1,21 +1,13 @@
 -- How a failure is told: its status and its line.
-use Rattle.std.specs.Prelude.{◌≡◌, ◌⊎◌, ℕ, List, [], ◌∷◌, ◌++◌, codes, Bool, false, Option, Some, None, ⊤}
+use Rattle.std.specs.Prelude.{◌≡◌, ℕ, ◌≤◌, List, [], ◌∷◌, ◌++◌, length, take, codes, true, false, Option, Some, None}
 use Rattle.std.specs.Io.KnownBytes.{Appends}
 use denote.Ref.{Bor}
+use Rattle.wc_device.specs.declared.io_device.Device.{Device}
+use Rattle.wc_device.specs.Device.{device_inner, has_failed}
 use Rattle.wc_canon.specs.Text.{refusal_text}
 use Rattle.wc_cli.specs.declared.failure.Failure.{Failure}
 use Rattle.wc_cli.specs.declared.failure.Failure.TheVariants.{Refused, CannotRead, CannotWrite, NotText}
 use Rattle.wc_cli.specs.declared.failure.Failure.TheVariants.{NoSubcommand, Terminal, OutOfMemory}
-
--- an input is refused
-abbrev pub IsRefusal : Failure → Type 0
-IsRefusal (Refused path f) = ⊤
-IsRefusal (CannotRead path) = ⊥
-IsRefusal (CannotWrite path) = ⊥
-IsRefusal NotText = ⊥
-IsRefusal NoSubcommand = ⊥
-IsRefusal Terminal = ⊥
-IsRefusal OutOfMemory = ⊥
 
 -- the exit status
 abbrev pub failure_status : Failure → ℕ
@@ -50,10 +42,15 @@ failure_line NoSubcommand = line_of (codes "no subcommand")
 failure_line Terminal = line_of (codes "standard output is a terminal; -o OUT names a file")
 failure_line OutOfMemory = line_of (codes "out of memory")
 
--- f is told: the failure, or want of memory, where there was none for the text of a refusal
-abbrev pub IsToldAs : Failure → Failure → Type 0
-IsToldAs failure f = (f ≡ failure) ⊎ (IsRefusal failure × (f ≡ OutOfMemory))
+-- from e to e' a text goes to a writer: held says which bytes it holds, where they are known
+pub record GoesOut {E : Type 0} (held : E → Option (List ℕ)) (text : List ℕ) (e e' : Device E) : Type 0 where
+  -- a writer that failed before isn't asked
+  pub unasked : has_failed e ≡ true → e' ≡ e
+  -- all of it goes out where the writer doesn't fail
+  pub whole : has_failed e' ≡ false → Appends (held (device_inner e)) (held (device_inner e')) text
+  -- and else its first bytes, and nothing behind them
+  pub front : (n : ℕ) × (n ≤ length text) × Appends (held (device_inner e)) (held (device_inner e')) (take n text)
 
--- f is told by its status, and by its line where the writer didn't fail: old and new are the bytes that it holds
-abbrev pub Reports : Failure → ℕ → Bool → Option (List ℕ) → Option (List ℕ) → Type 0
-Reports f status failed old new = (status ≡ failure_status f) × (failed ≡ false → Appends old new (failure_line f))
+-- f is told by its status and its line
+abbrev pub Reports : {E : Type 0} → (E → Option (List ℕ)) → Failure → ℕ → Device E → Device E → Type 0
+Reports held f status e e' = (status ≡ failure_status f) × GoesOut held (failure_line f) e e'

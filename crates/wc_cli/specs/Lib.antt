@@ -3,6 +3,8 @@ pub mod Asked
 pub mod Failing
 pub mod Telling
 pub mod Acting
+pub mod Looking
+pub mod Carrying
 pub mod Status
 pub mod Turns
 pub mod Inner

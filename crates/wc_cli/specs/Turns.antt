@@ -1,33 +1,48 @@
--- What carrying out lines one after the other comes to.
-use Rattle.std.specs.Prelude.{◌≡◌, ℕ, max, List, [], ◌∷◌, ◌++◌, Bool, false, Option, Result}
+-- What carrying out lines one after the other comes to. gives says what an opener answers to a path, and takes what
+-- comes of an input that it is given back: o is the opener before, and o' behind it.
+use Rattle.std.specs.Prelude.{◌≡◌, ℕ, max, List, [], ◌∷◌, ◌++◌, false, Option, None, ⊤}
 use Rattle.wc_device.specs.declared.io_device.Device.{Device}
-use Rattle.wc_device.specs.Device.{device_inner, has_failed}
+use Rattle.wc_device.specs.Device.{has_failed}
 use Rattle.wc_cli.specs.declared.command_line.Line.{Line}
 use Rattle.wc_cli.specs.declared.command_line.Line.TheVariants.{Make, Tell, Compare}
-use Rattle.wc_cli.specs.declared.failure.Failure.{Failure}
-use Rattle.wc_cli.specs.Acting.{Ends, IsTold}
+use Rattle.wc_cli.specs.Inputs.{IsNewInput}
+use Rattle.wc_cli.specs.Carrying.{Acts}
 
--- x and y are the bytes of the inputs of a line, where these could be read: bytes_at tells them by their paths
-abbrev pub HasInputs : (List ℕ → Option (List ℕ)) → Line → Option (List ℕ) → Option (List ℕ) → Bool → Bool → Type 0
-HasInputs bytes_at (Make job input output) x y a b = a ≡ false → x ≡ bytes_at input.now
-HasInputs bytes_at (Tell ask input named) x y a b = a ≡ false → x ≡ bytes_at input.now
-HasInputs bytes_at (Compare p q) x y a b = (a ≡ false → x ≡ bytes_at p.now) × (b ≡ false → y ≡ bytes_at q.now)
+-- the inputs of a line are opened at their paths, each once and A first
+abbrev pub OpensInputs : {O R : Type 0} → (O → List ℕ → Option (Device R) → O → Type 0) → Line → O → Option (Device R)
+    → Option (Device R) → O → Type 0
+OpensInputs gives (Make job input output) o a b o' = gives o input.now a o' × (b ≡ None)
+OpensInputs gives (Tell ask input named) o a b o' = gives o input.now a o' × (b ≡ None)
+OpensInputs {O} gives (Compare p q) o a b o' = (o1 : O) × gives o p.now a o1 × gives o1 q.now b o'
 
--- a line was carried out with the status: failed, old and new are the writer of answers, dropped, before and after
--- that of faults
-abbrev pub Acts : (List ℕ → Option (List ℕ)) → Line → ℕ → Bool → Option (List ℕ) → Option (List ℕ) → Bool
-    → Option (List ℕ) → Option (List ℕ) → Type 0
-Acts bytes_at line status failed old new dropped before after =
-    (x y : Option (List ℕ)) × (a b : Bool) × (ending : Result ℕ Failure) × HasInputs bytes_at line x y a b
-    × Ends line x y a b failed old new ending × IsTold ending status dropped before after
+-- both are given back, A first
+abbrev pub ClosesInputs : {O R : Type 0} → (O → Option (Device R) → O → Type 0) → O → Option (Device R)
+    → Option (Device R) → O → Type 0
+ClosesInputs {O} takes o a b o' = (o1 : O) × takes o a o1 × takes o1 b o'
 
--- lines were carried out in turn, each while the writer of answers w hadn't failed, and the status is the highest of
--- theirs: e is the writer of faults
-pub data ActsEach {W E : Type 0} (bytes_at : List ℕ → Option (List ℕ)) (held : W → Option (List ℕ))
-    (told : E → Option (List ℕ)) (w : Device W) (e : Device E) : List Line → ℕ → Device W → Device E → Type 0 where
-  none : ActsEach bytes_at held told w e [] 0 w e
-  next : (lines : List Line) (line : Line) (s t : ℕ) (w1 w2 : Device W) (e1 e2 : Device E)
-      → ActsEach bytes_at held told w e lines s w1 e1 → has_failed w1 ≡ false
-      → Acts bytes_at line t (has_failed w2) (held (device_inner w1)) (held (device_inner w2)) (has_failed e2)
-      (told (device_inner e1)) (told (device_inner e2))
-      → ActsEach bytes_at held told w e (lines ++ (line ∷ [])) (max s t) w2 e2
+-- a line may follow these: there are none, or the writer didn't fail
+abbrev pub GoesOn : {W : Type 0} → List Line → Device W → Type 0
+GoesOn [] w = ⊤
+GoesOn (line ∷ lines) w = has_failed w ≡ false
+
+module _ {O R W E : Type 0} (gives : O → List ℕ → Option (Device R) → O → Type 0)
+    (takes : O → Option (Device R) → O → Type 0) (remaining : R → Option (List ℕ)) (held : W → Option (List ℕ))
+    (told : E → Option (List ℕ)) where
+  -- the inputs of a line are opened, it is carried out with the status on just these, and as it leaves them they are
+  -- given back
+  abbrev pub TakesTurn : Line → ℕ → O → O → Device W → Device W → Device E → Device E → Type 0
+  TakesTurn line status o o' w w' e e' =
+      (a a' b b' : Option (Device R)) × (o1 : O) × OpensInputs gives line o a b o1 × IsNewInput a × IsNewInput b
+      × Acts remaining remaining held told line status a a' b b' w w' e e' × ClosesInputs takes o1 a' b' o'
+
+-- lines took their turns in order, each but the first while the writer of answers hadn't failed, and the status is the
+-- highest of theirs
+pub data ActsEach {O R W E : Type 0} (gives : O → List ℕ → Option (Device R) → O → Type 0)
+    (takes : O → Option (Device R) → O → Type 0) (remaining : R → Option (List ℕ)) (held : W → Option (List ℕ))
+    (told : E → Option (List ℕ)) (o : O) (w : Device W) (e : Device E) : List Line → ℕ → O → Device W → Device E
+    → Type 0 where
+  none : ActsEach gives takes remaining held told o w e [] 0 o w e
+  next : (lines : List Line) (line : Line) (s t : ℕ) (o1 o2 : O) (w1 w2 : Device W) (e1 e2 : Device E)
+      → ActsEach gives takes remaining held told o w e lines s o1 w1 e1 → GoesOn lines w1
+      → TakesTurn gives takes remaining held told line t o1 o2 w1 w2 e1 e2
+      → ActsEach gives takes remaining held told o w e (lines ++ (line ∷ [])) (max s t) o2 w2 e2

@@ -1,15 +1,15 @@
 //! Why the words of a command line came to nothing, and how that is told.
 
-ghost use Rattle.std.specs.Prelude.{◌≡◌, OnOk, OnErr, true};
-ghost use Rattle.std.specs.Io.KnownBytes.{Appends};
-ghost use Rattle.wc_device.specs.Device.{device_inner, has_failed};
+ghost use Rattle.std.specs.Prelude.{◌≡◌};
+ghost use Rattle.wc_canon.specs.Text.{pieces_text};
 ghost use Rattle.wc_cli.specs.declared.failure.Failure.{Failure};
 ghost use Rattle.wc_cli.specs.Inner.Reading.{refusal_failure, run_failure};
-ghost use Rattle.wc_cli.specs.Failing.{line_of, line_about, place_text, IsToldAs, Reports};
+ghost use Rattle.wc_cli.specs.Failing.{failure_status, failure_line, line_of, line_about, place_text};
+ghost use Rattle.wc_cli.specs.Failing.{GoesOut, Reports};
 
-use std::alloc::Global;
+use crate::writing::put_pieces;
 use std::io::Write;
-use wc_canon::{Refusal, RunFault, render};
+use wc_canon::{Piece, Refusal, RunFault, pieces};
 use wc_device::Device;
 
 /// The status where all went well.
@@ -20,6 +20,9 @@ pub(crate) const REFUSED: u8 = 1;
 
 /// The status of a fault of usage, of a file or of memory.
 const FAILED: u8 = 2;
+
+/// What each line begins with.
+const NAME: &str = "wcanon: ";
 
 /// What is told where bytes would go to a terminal.
 const ON_TERMINAL: &str = "standard output is a terminal; -o OUT names a file";
@@ -65,30 +68,6 @@ pub(crate) fn ended<'a>(path: &'a str, output: Option<&'a str>, fault: RunFault)
     }
 }
 
-/// Writes the program's name and a text in one line, up to a failure of the writer.
-fn write_line<E: Write>(e: &mut Device<E>, text: &str) -> Result<(), u64>
-    ensures line { OnOk result
-        (Appends (E.contents (device_inner e.old)) (E.contents (device_inner e.new)) (line_of text.now)) }
-    ensures fails { OnErr result (has_failed e.new ≡ true) }
-{
-    e.write_all(b"wcanon: ")?;
-    e.write_all(text.as_bytes())?;
-    e.write_all(b"\n")
-}
-
-/// The same with a path before the text.
-fn write_line_about<E: Write>(e: &mut Device<E>, path: &str, text: &str) -> Result<(), u64>
-    ensures line { OnOk result
-        (Appends (E.contents (device_inner e.old)) (E.contents (device_inner e.new)) (line_about path.now text.now)) }
-    ensures fails { OnErr result (has_failed e.new ≡ true) }
-{
-    e.write_all(b"wcanon: ")?;
-    e.write_all(path.as_bytes())?;
-    e.write_all(b": ")?;
-    e.write_all(text.as_bytes())?;
-    e.write_all(b"\n")
-}
-
 /// How the place of an answer is named.
 fn place<'a>(path: Option<&'a str>) -> &'a str
     ensures { result.now ≡ place_text path.entry }
@@ -99,27 +78,61 @@ fn place<'a>(path: Option<&'a str>) -> &'a str
     }
 }
 
-/// Writes the one line of a failure, and answers the exit status: 1 for a refusal, else 2. Where there is no memory for
-/// the text of a refusal, that is told. A failure of the writer is dropped.
-pub fn report<E: Write>(alloc: Global, failure: &Failure<'_>, e: &mut Device<E>) -> u8
-    ensures { (f : Failure) × IsToldAs failure.now f
-        × Reports f result (has_failed e.new) (E.contents (device_inner e.old)) (E.contents (device_inner e.new)) }
+/// Writes the line of a text.
+fn write_line<E: Write>(e: &mut Device<E>, text: &str)
+    ensures { GoesOut E.contents (line_of text.now) e.old e.new }
 {
-    let (written, status) = match failure {
-        Failure::Refused { path, refusal } => match render(alloc, refusal) {
-            Ok(text) => (write_line_about(e, path, &text), REFUSED),
-            Err(_) => (write_line(e, "out of memory"), FAILED),
-        },
-        Failure::CannotRead { path } => (write_line_about(e, path, "cannot read"), FAILED),
-        Failure::CannotWrite { path } => (
-            write_line_about(e, place(*path), "cannot write"),
-            FAILED,
-        ),
-        Failure::NotText => (write_line(e, "an argument is not text"), FAILED),
-        Failure::NoSubcommand => (write_line(e, "no subcommand"), FAILED),
-        Failure::Terminal => (write_line(e, ON_TERMINAL), FAILED),
-        Failure::OutOfMemory => (write_line(e, "out of memory"), FAILED),
-    };
-    let _ = written;
-    status
+    put_pieces(
+        e,
+        &[Piece::Words(NAME), Piece::Words(text), Piece::Words("\n")],
+    );
+}
+
+/// The same with a path before the text.
+fn write_line_about<E: Write>(e: &mut Device<E>, path: &str, text: &[Piece<'_>])
+    ensures { GoesOut E.contents (line_about path.now (pieces_text text.now)) e.old e.new }
+{
+    put_pieces(
+        e,
+        &[Piece::Words(NAME), Piece::Words(path), Piece::Words(": ")],
+    );
+    put_pieces(e, text);
+    put_pieces(e, &[Piece::Words("\n")]);
+}
+
+/// The exit status of a failure: 1 for a refusal, else 2.
+fn status(failure: &Failure<'_>) -> u8
+    ensures { result ≡ failure_status failure.now }
+{
+    match failure {
+        Failure::Refused { .. } => REFUSED,
+        _ => FAILED,
+    }
+}
+
+/// Writes the one line of a failure.
+fn write_failure<E: Write>(e: &mut Device<E>, failure: &Failure<'_>)
+    ensures { GoesOut E.contents (failure_line failure.now) e.old e.new }
+{
+    match failure {
+        Failure::Refused { path, refusal } => write_line_about(e, path, &pieces(refusal)),
+        Failure::CannotRead { path } => write_line_about(e, path, &[Piece::Words("cannot read")]),
+        Failure::CannotWrite { path } => {
+            write_line_about(e, place(*path), &[Piece::Words("cannot write")])
+        }
+        Failure::NotText => write_line(e, "an argument is not text"),
+        Failure::NoSubcommand => write_line(e, "no subcommand"),
+        Failure::Terminal => write_line(e, ON_TERMINAL),
+        Failure::OutOfMemory => write_line(e, "out of memory"),
+    }
+}
+
+/// Writes the one line of a failure, and answers the exit status: 1 for a refusal, else 2. It takes no memory.
+///
+/// A failure of the writer is dropped: nothing is written behind it, and nothing at all where the writer failed before.
+pub fn report<E: Write>(failure: &Failure<'_>, e: &mut Device<E>) -> u8
+    ensures { Reports E.contents failure.now result e.old e.new }
+{
+    write_failure(e, failure);
+    status(failure)
 }

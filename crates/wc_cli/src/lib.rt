@@ -9,6 +9,7 @@ mod parsing;
 mod reading;
 mod telling;
 mod turns;
+mod writing;
 
 pub use acting::act;
 pub use command_line::{Ask, Line};

@@ -2,6 +2,7 @@
 
 ghost use Rattle.std.specs.Prelude.{◌≡◌, ◌≢◌, [], ◌∷◌, IfOk, IfErr, true, map, option_map};
 ghost use Rattle.clap.specs.Words.{rows_of, found_of, first_of, all_of, subcommand_of, takes, kind_of};
+ghost use Rattle.clap.specs.Words.{FailsBy, fault_of};
 ghost use Rattle.wc_cli.specs.Program.{program};
 ghost use Rattle.wc_cli.specs.Asked.{asked_by, asked_in, asked_at, asked_of, told_of};
 ghost use Rattle.wc_cli.specs.Asked.{make_of, each_of, compare_of};
@@ -134,6 +135,9 @@ pub fn lines<'a>(alloc: Global, words: &'a [&'a str]) -> Result<Option<Vec<Line<
     // Words that the program takes fail for memory alone.
     ensures err { IfErr result (λ e. takes program (map (λ s. s.now) words.entry.now) ≡ true
         → kind_of e ≡ ErrorKind.OutOfMemory) }
+
+    // Else the kind is one that the words give cause for: that of help or of the version only where they ask for it.
+    ensures kinds { FailsBy (fault_of program (map (λ s. s.now) words.entry.now)) result }
 {
     match wcanon(alloc)?.try_get_matches_from(words) {
         Ok(matches) => match matches.subcommand() {

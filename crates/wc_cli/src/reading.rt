@@ -1,26 +1,50 @@
 //! A whole input.
 
-ghost use Rattle.std.specs.Prelude.{◌≡◌, ◌↔◌, IfOk, IfSome, false, true};
-ghost use Rattle.wc_device.specs.Device.{device_inner, has_failed, read_count};
+ghost use Rattle.std.specs.Prelude.{◌≡◌, IfOk, IfSome, OnOk, Some, false, true, not};
+ghost use Rattle.std.specs.Io.KnownBytes.{IsAtEnd};
+ghost use Rattle.wc_device.specs.Device.{device_inner, has_failed, has_ended, was_asked_again, read_count};
 ghost use Rattle.wc_cli.specs.Inner.Reading.{Reads};
-ghost use Rattle.wc_cli.specs.Inputs.{IsNewInput};
+ghost use Rattle.wc_cli.specs.Inputs.{is_new_input};
+ghost use Rattle.wc_cli.specs.Looking.{IsCutOff, IsLookedAt};
 
 use crate::failure::Failure;
 use std::alloc::Global;
 use std::io::Read;
+use wc_canon::accept_from;
 use wc_device::Device;
 
 /// How many bytes a read is offered.
 const PIECE: usize = 4096;
 
-/// Whether nothing was read of an input yet, where it is there, and no call of it failed.
+/// Whether nothing was read of an input yet, not even its end, where it is there, and no call of it failed.
 pub(crate) fn is_new<R: Read>(input: &Option<Device<R>>) -> bool
-    ensures { (result ≡ true) ↔ IsNewInput input.now }
+    ensures { result ≡ is_new_input input.now }
 {
     match input {
-        Some(r) => !r.failed() && r.count() == 0,
+        Some(r) => !r.failed() && !r.ended() && r.count() == 0,
         None => true,
     }
+}
+
+/// Whether a reader can be read as far as its bytes are judged. Where memory was refused before anything was read, one
+/// byte is asked for.
+pub(crate) fn is_readable<R: Read>(alloc: Global, r: &mut Device<R>) -> bool
+    requires well { has_failed r.old ≡ false }
+    requires more { has_ended r.old ≡ false }
+    requires unread { read_count r.old ≡ 0 }
+    ensures fails { result ≡ not (has_failed r.new) }
+    ensures cut { result ≡ false → IsCutOff R.remaining (Some r.old) (Some r.new) }
+    ensures looks { result ≡ true → IsLookedAt (Some r.new) }
+    ensures again { was_asked_again r.new ≡ was_asked_again r.old }
+{
+    let _judged = accept_from(alloc, r);
+    if r.failed() {
+        return false;
+    }
+    if r.ended() || r.count() > 0 {
+        return true;
+    }
+    r.read(&mut [0u8; 1]).is_ok()
 }
 
 /// The reader's bytes to its end. An error of the reader of any kind ends it.
@@ -30,9 +54,12 @@ pub(crate) fn read_all<'a, R: Read>(
     r: &mut Device<R>,
 ) -> Result<Vec<u8>, Failure<'a>>
     requires well { has_failed r.old ≡ false }
+    requires more { has_ended r.old ≡ false }
     requires unread { read_count r.old ≡ 0 }
     ensures whole { IfOk result (λ v. IfSome (R.remaining (device_inner r.old)) (λ x. v.items ≡ x)) }
     ensures reads { Reads path.now (has_failed r.new) result }
+    ensures end { OnOk result (IsAtEnd (R.remaining (device_inner r.new))) }
+    ensures again { was_asked_again r.new ≡ was_asked_again r.old }
 {
     let mut bytes = Vec::new(alloc);
     let mut buffer = [0u8; PIECE];

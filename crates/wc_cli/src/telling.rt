@@ -1,11 +1,12 @@
 //! What is told of one input, in one line.
 
-ghost use Rattle.std.specs.Prelude.{◌≡◌, ◌++◌, Bool, IfOk, IfErr, OnOk, OnErr, false};
-ghost use Rattle.wc_device.specs.Device.{device_inner, has_failed, read_count};
+ghost use Rattle.std.specs.Prelude.{◌≡◌, ◌++◌, Bool, IfOk, IfErr, OnOk, OnErr, Some, false};
+ghost use Rattle.wc_device.specs.Device.{device_inner, has_failed, has_ended, was_asked_again, read_count};
 ghost use Rattle.sha2.specs.Sha256.{sha256};
 ghost use Rattle.hex.specs.Hex.{encode_lower};
 ghost use Rattle.wc_cli.specs.declared.failure.Failure.{Failure};
-ghost use Rattle.wc_cli.specs.Inputs.{input_bytes, is_unread, IsNewInput, StaysUnread};
+ghost use Rattle.wc_cli.specs.Inputs.{input_bytes, is_unread, IsNewInput, StaysThere};
+ghost use Rattle.wc_cli.specs.Looking.{ReadsOne, ReadsWhole, ReadsAsk};
 ghost use Rattle.wc_cli.specs.Telling.{told_line, escaped, escaped_byte, hash_line};
 ghost use Rattle.wc_cli.specs.Inner.Reading.{AnswersBytes, Finds};
 
@@ -64,8 +65,11 @@ fn check<'a, R: Read>(
     r: &mut Device<R>,
 ) -> Result<Answer, Failure<'a>>
     requires well { has_failed r.old ≡ false }
+    requires more { has_ended r.old ≡ false }
     requires unread { read_count r.old ≡ 0 }
-    ensures { Finds Ask.Check path.now named (R.remaining (device_inner r.old)) (has_failed r.new) result }
+    ensures finds { Finds Ask.Check path.now named (R.remaining (device_inner r.old)) (has_failed r.new) result }
+    ensures looks { ReadsOne R.remaining (Some r.old) (Some r.new) result }
+    ensures again { was_asked_again r.new ≡ was_asked_again r.old }
 {
     match accept_from(alloc, r) {
         Ok(()) => worded(alloc, path, named, "ok", DONE),
@@ -97,8 +101,11 @@ fn canonical<'a, R: Read>(
     r: &mut Device<R>,
 ) -> Result<Answer, Failure<'a>>
     requires well { has_failed r.old ≡ false }
+    requires more { has_ended r.old ≡ false }
     requires unread { read_count r.old ≡ 0 }
-    ensures { Finds Ask.Canonical path.now named (R.remaining (device_inner r.old)) (has_failed r.new) result }
+    ensures finds { Finds Ask.Canonical path.now named (R.remaining (device_inner r.old)) (has_failed r.new) result }
+    ensures looks { ReadsWhole R.remaining (Some r.new) result }
+    ensures again { was_asked_again r.new ≡ was_asked_again r.old }
 {
     let bytes = read_all(alloc, path, r)?;
     canonical_bytes(alloc, path, named, bytes.as_slice())
@@ -150,9 +157,12 @@ fn hash_line(alloc: Global, bytes: &[u8], path: &str) -> Result<Vec<u8>, AllocEr
 /// The hash of the canonical bytes of a reader's bytes.
 fn hash<'a, R: Read>(alloc: Global, path: &'a str, r: &mut Device<R>) -> Result<Answer, Failure<'a>>
     requires well { has_failed r.old ≡ false }
+    requires more { has_ended r.old ≡ false }
     requires unread { read_count r.old ≡ 0 }
-    ensures { (named : Bool) → Finds Ask.Hash path.now named (R.remaining (device_inner r.old)) (has_failed r.new)
-        result }
+    ensures finds { (named : Bool) → Finds Ask.Hash path.now named (R.remaining (device_inner r.old))
+        (has_failed r.new) result }
+    ensures looks { ReadsOne R.remaining (Some r.old) (Some r.new) result }
+    ensures again { was_asked_again r.new ≡ was_asked_again r.old }
 {
     let answer = match normalise_from(alloc, r) {
         Ok(answer) => answer,
@@ -174,7 +184,8 @@ pub(crate) fn find<'a, R: Read>(
 ) -> Result<Answer, Failure<'a>>
     requires { IsNewInput input.old }
     ensures finds { Finds ask path.now named (input_bytes R.remaining input.old) (is_unread input.new) result }
-    ensures stays { StaysUnread input.old input.new }
+    ensures looks { ReadsAsk ask R.remaining input.old input.new result }
+    ensures stays { StaysThere input.old input.new }
 {
     let Some(r) = input else {
         return Err(Failure::CannotRead { path });

@@ -1,9 +1,10 @@
 //! Lines that are carried out one after the other.
 
-ghost use Rattle.std.specs.Prelude.{◌≡◌, ◌<◌, ℕ, List, Option, max, length, take, true, false};
-ghost use Rattle.wc_device.specs.Device.{device_inner, has_failed};
-ghost use Rattle.wc_cli.specs.Inputs.{input_bytes, is_unread, IsNewInput};
-ghost use Rattle.wc_cli.specs.Turns.{HasInputs, Acts, ActsEach};
+ghost use Rattle.std.specs.Prelude.{◌≡◌, ◌<◌, ◌≤◌, ℕ, List, Option, max, length, take, true, ⊤};
+ghost use Rattle.wc_device.specs.declared.io_device.Device.{Device};
+ghost use Rattle.wc_device.specs.Device.{has_failed};
+ghost use Rattle.wc_cli.specs.Inputs.{IsNewInput};
+ghost use Rattle.wc_cli.specs.Turns.{OpensInputs, TakesTurn, ActsEach};
 
 use crate::acting::act;
 use crate::command_line::Line;
@@ -11,15 +12,22 @@ use std::alloc::Global;
 use std::io::{Read, Write};
 use wc_device::Device;
 
-/// Opens inputs by their paths.
+/// Opens inputs by their paths, and closes them.
 pub trait Opens<R: Read> {
-    // The bytes of the input at a path, where they are known.
-    ghost bytes_at: { Self → List ℕ → Option (List ℕ) };
+    // An opener, a path, the input that was opened at it, and the opener then: whatever an opener says of these.
+    ghost gives: { Self → List ℕ → Option (Device R) → Self → Type 0 } = { λ _ _ _ _. ⊤ };
+
+    // An opener, an input that was given back, and the opener then.
+    ghost takes: { Self → Option (Device R) → Self → Type 0 } = { λ _ _ _. ⊤ };
 
     /// The device of the input at a path, of which nothing was read; none where it can't be opened.
-    fn open(&self, path: &str) -> Option<Device<R>>
-        ensures fresh { IsNewInput result }
-        ensures bytes { is_unread result ≡ false → input_bytes R.remaining result ≡ bytes_at self.now path.now };
+    fn open(&mut self, path: &str) -> Option<Device<R>>
+        ensures new { IsNewInput result }
+        ensures given { gives self.old path.now result self.new };
+
+    /// Takes an input back, which nothing is asked of any more.
+    fn close(&mut self, input: Option<Device<R>>)
+        ensures { takes self.old input self.new };
 }
 
 /// The higher one of two statuses.
@@ -31,13 +39,12 @@ fn higher(a: u8, b: u8) -> u8
 
 /// The inputs of a line.
 fn open_inputs<R: Read, O: Opens<R>>(
-    opens: &O,
+    opens: &mut O,
     line: &Line<'_>,
 ) -> (Option<Device<R>>, Option<Device<R>>)
-    ensures fresh_a { IsNewInput result.0 }
-    ensures fresh_b { IsNewInput result.1 }
-    ensures bytes { HasInputs (O.bytes_at opens.now) line.now (input_bytes R.remaining result.0)
-        (input_bytes R.remaining result.1) (is_unread result.0) (is_unread result.1) }
+    ensures new_a { IsNewInput result.0 }
+    ensures new_b { IsNewInput result.1 }
+    ensures opens { OpensInputs O.gives line.now opens.old result.0 result.1 opens.new }
 {
     match line {
         Line::Make { input, .. } => (opens.open(*input), None),
@@ -46,44 +53,48 @@ fn open_inputs<R: Read, O: Opens<R>>(
     }
 }
 
-/// Opens the inputs of a line and carries it out.
-fn act_turn<R: Read + Drop, O: Opens<R>, W: Write, E: Write>(
+/// Opens the inputs of a line, carries it out, and closes them.
+fn act_turn<R: Read, O: Opens<R>, W: Write, E: Write>(
     alloc: Global,
     line: &Line<'_>,
-    opens: &O,
+    opens: &mut O,
     w: &mut Device<W>,
     e: &mut Device<E>,
 ) -> u8
-    requires { has_failed w.old ≡ false }
-    ensures { Acts (O.bytes_at opens.now) line.now result (has_failed w.new) (W.contents (device_inner w.old))
-        (W.contents (device_inner w.new)) (has_failed e.new) (E.contents (device_inner e.old))
-        (E.contents (device_inner e.new)) }
+    ensures { TakesTurn O.gives O.takes R.remaining W.contents E.contents line.now result opens.old opens.new
+        w.old w.new e.old e.new }
 {
     let (mut a, mut b) = open_inputs(opens, line);
-    act(alloc, line, &mut a, &mut b, w, e)
+    let status = act(alloc, line, &mut a, &mut b, w, e);
+    opens.close(a);
+    opens.close(b);
+    status
 }
 
 /// Carries lines out in order, as `act` does each, and answers the highest of their statuses. The inputs of a line are
-/// opened when its turn comes. An input that is refused or that can't be read doesn't end it; a failed write does.
-pub fn act_each<R: Read + Drop, O: Opens<R>, W: Write, E: Write>(
+/// opened when its turn comes, each once, and closed at its end. An input that is refused or that can't be read doesn't
+/// end it; a failed write does, and so does a writer that failed before, once the first line has told it.
+pub fn act_each<R: Read, O: Opens<R>, W: Write, E: Write>(
     alloc: Global,
     lines: &[Line<'_>],
-    opens: &O,
+    opens: &mut O,
     w: &mut Device<W>,
     e: &mut Device<E>,
 ) -> u8
-    // The first lines, up to one at which the writer failed, were carried out so; or else all of them.
+    // The first lines, up to one behind which the writer had failed, took their turns; or else all of them.
     ensures turns { (n : ℕ)
-        × ActsEach (O.bytes_at opens.now) W.contents E.contents w.old e.old (take n lines.now) result
-        w.new e.new × (n < length lines.now → has_failed w.new ≡ true) }
+        × ActsEach O.gives O.takes R.remaining W.contents E.contents opens.old w.old e.old (take n lines.now) result
+        opens.new w.new e.new
+        × (n ≤ length lines.now)
+        × (n < length lines.now → (0 < n) × (has_failed w.new ≡ true)) }
 {
     let mut status = 0;
     for line in lines {
+        let told = act_turn(alloc, line, opens, w, e);
+        status = higher(status, told);
         if w.failed() {
             return status;
         }
-        let told = act_turn(alloc, line, opens, w, e);
-        status = higher(status, told);
     }
     status
 }

@@ -1,5 +1,7 @@
 //! Inputs that are handed to the public calls, and what these answered.
 
+ghost use Rattle.std.specs.Prelude.{◌≡◌};
+
 use crate::devices::{Digest, Source};
 use std::alloc::Global;
 use wc_canon::{Comparison, Job, accept, compare, is_canonical, normalise, to_text};
@@ -14,16 +16,18 @@ struct Shelf<'a> {
 }
 
 impl<'a> Opens<Source<'a>> for Shelf<'a> {
-    ghost use Rattle.std.specs.Prelude.{None};
-
-    ghost bytes_at = { λ _ _. None };
-
-    fn open(&self, path: &str) -> Option<Device<Source<'a>>> {
+    fn open(&mut self, path: &str) -> Option<Device<Source<'a>>> {
         match path {
             "a" => Some(Device::new(Source::new(self.a))),
             "b" => Some(Device::new(Source::new(self.b))),
             _ => None,
         }
+    }
+
+    fn close(&mut self, input: Option<Device<Source<'a>>>)
+        ensures { self.new ≡ self.old }
+    {
+        drop(input);
     }
 }
 
@@ -57,10 +61,10 @@ impl Answers {
 
     /// Carries a line of a command line out.
     fn carry_out(&mut self, alloc: Global, line: Line<'static>, a: &[u8], b: &[u8]) {
-        let shelf = Shelf { a, b };
+        let mut shelf = Shelf { a, b };
         let mut w = Device::new(Digest::new());
         let mut e = Device::new(Digest::new());
-        let status = act_each(alloc, &[line], &shelf, &mut w, &mut e);
+        let status = act_each(alloc, &[line], &mut shelf, &mut w, &mut e);
         self.note(w.inner(), e.inner(), status);
     }
 

@@ -1,7 +1,7 @@
 //! The program `wcanon`: canonical bytes of WebAssembly modules, their check, their comparison and their hashes.
 #![tactic(auto)]
 
-ghost use Rattle.std.specs.Prelude.{None};
+ghost use Rattle.std.specs.Prelude.{◌≡◌};
 
 mod output;
 
@@ -24,7 +24,7 @@ fn words(rt: &HostRuntime) -> io::Result<Vec<String>> {
 /// Writes the line of a failure, and answers its status.
 #[inline(never)]
 fn failed(rt: &HostRuntime, failure: &Failure<'_>) -> u8 {
-    report(rt.alloc(), failure, &mut Device::new(rt.stderr()))
+    report(failure, &mut Device::new(rt.stderr()))
 }
 
 /// Prints help or a fault of usage where each belongs, and answers the status.
@@ -45,13 +45,17 @@ struct Files<'a> {
 }
 
 impl<'a> Opens<File> for Files<'a> {
-    ghost bytes_at = { λ _ _. None };
-
-    fn open(&self, path: &str) -> Option<Device<File>> {
+    fn open(&mut self, path: &str) -> Option<Device<File>> {
         match File::open(self.rt, path) {
             Ok(file) => Some(Device::new(file)),
             Err(_) => None,
         }
+    }
+
+    fn close(&mut self, input: Option<Device<File>>)
+        ensures { self.new ≡ self.old }
+    {
+        drop(input);
     }
 }
 
@@ -73,16 +77,16 @@ fn shows_bytes(rt: &HostRuntime, lines: &[Line<'_>]) -> bool {
 
 /// Carries lines out in order.
 fn carry_out(rt: &HostRuntime, lines: &[Line<'_>]) -> u8 {
-    let files = Files { rt };
+    let mut files = Files { rt };
     let mut errors = Device::new(rt.stderr());
     match output_path(lines) {
         Some(path) => {
             let mut w = Device::new(Output::new(rt, path));
-            act_each(rt.alloc(), lines, &files, &mut w, &mut errors)
+            act_each(rt.alloc(), lines, &mut files, &mut w, &mut errors)
         }
         None => {
             let mut w = Device::new(rt.stdout());
-            act_each(rt.alloc(), lines, &files, &mut w, &mut errors)
+            act_each(rt.alloc(), lines, &mut files, &mut w, &mut errors)
         }
     }
 }

@@ -3,6 +3,8 @@ use Rattle.std.specs.Prelude.{◌≡◌, ◌⊎◌, ℕ, ◌≤◌, List, length
 use Rattle.std.specs.Prelude.{Option, None, Some, IfSome, Result, Ok, Err, ⊤}
 use Rattle.std.specs.Io.KnownBytes.{Appends}
 use denote.Ref.{Bor}
+use Rattle.wc_device.specs.declared.io_device.Device.{Device}
+use Rattle.wc_device.specs.Device.{device_inner, has_failed}
 use Rattle.wc_canon.specs.declared.fault.Refusal.{Refusal}
 use Rattle.wc_canon.specs.declared.fault.Refusal.TheVariants.{Memory}
 use Rattle.wc_canon.specs.declared.fault.RunFault.{RunFault}
@@ -19,7 +21,7 @@ use Rattle.wc_cli.specs.declared.failure.Failure.TheVariants.{NoSubcommand, Term
 
 -- ---- what comes of them
 
--- an input was read to its end; or it couldn't be read, as unread says, or memory was refused
+-- an input was read to its end; or it couldn't be read, as unread says, or memory was refused before that was so
 abbrev pub Reads : {V : Type 0} → List ℕ → Bool → Result V Failure → Type 0
 Reads path unread (Ok v) = unread ≡ false
 Reads path unread (Err (Refused p f)) = ⊥
@@ -28,20 +30,22 @@ Reads path unread (Err (CannotWrite p)) = ⊥
 Reads path unread (Err NotText) = ⊥
 Reads path unread (Err NoSubcommand) = ⊥
 Reads path unread (Err Terminal) = ⊥
-Reads path unread (Err OutOfMemory) = ⊤
+Reads path unread (Err OutOfMemory) = unread ≡ false
 
--- a text went out to the standard output, or its first bytes: failed says whether the writer failed
-abbrev pub Says : {V : Type 0} → List ℕ → Bool → Option (List ℕ) → Option (List ℕ) → Result V Failure → Type 0
-Says text failed old new (Ok v) = (failed ≡ false) × Appends old new text
-Says text failed old new (Err (Refused p f)) = ⊥
-Says text failed old new (Err (CannotRead p)) = ⊥
-Says text failed old new (Err (CannotWrite (Some p))) = ⊥
-Says text failed old new (Err (CannotWrite None)) =
-    (failed ≡ true) × ((n : ℕ) × (n ≤ length text) × Appends old new (take n text))
-Says text failed old new (Err NotText) = ⊥
-Says text failed old new (Err NoSubcommand) = ⊥
-Says text failed old new (Err Terminal) = ⊥
-Says text failed old new (Err OutOfMemory) = ⊥
+-- a text went out to the standard output, or its first bytes: w is the writer before, and w' behind it
+abbrev pub Says : {V W : Type 0} → (W → Option (List ℕ)) → List ℕ → Device W → Device W → Result V Failure → Type 0
+Says held text w w' (Ok v) =
+    (has_failed w' ≡ false) × Appends (held (device_inner w)) (held (device_inner w')) text
+Says held text w w' (Err (Refused p f)) = ⊥
+Says held text w w' (Err (CannotRead p)) = ⊥
+Says held text w w' (Err (CannotWrite (Some p))) = ⊥
+Says held text w w' (Err (CannotWrite None)) =
+    (has_failed w' ≡ true)
+    × ((n : ℕ) × (n ≤ length text) × Appends (held (device_inner w)) (held (device_inner w')) (take n text))
+Says held text w w' (Err NotText) = ⊥
+Says held text w w' (Err NoSubcommand) = ⊥
+Says held text w w' (Err Terminal) = ⊥
+Says held text w w' (Err OutOfMemory) = ⊥
 
 -- the line that tells of an input with the bytes u, or its refusal, or want of memory
 abbrev pub AnswersBytes : Ask → List ℕ → Bool → List ℕ → Result Answer Failure → Type 0
@@ -65,7 +69,7 @@ Finds ask path named x unread (Err (CannotWrite p)) = ⊥
 Finds ask path named x unread (Err NotText) = ⊥
 Finds ask path named x unread (Err NoSubcommand) = ⊥
 Finds ask path named x unread (Err Terminal) = ⊥
-Finds ask path named x unread (Err OutOfMemory) = ⊤
+Finds ask path named x unread (Err OutOfMemory) = unread ≡ false
 
 -- the failure where the input at the path is refused so
 abbrev pub refusal_failure : Bor (List ℕ) → Refusal → Failure
@@ -93,4 +97,4 @@ ComparesInputs p q x y a b (Err (CannotWrite path)) = ⊥
 ComparesInputs p q x y a b (Err NotText) = ⊥
 ComparesInputs p q x y a b (Err NoSubcommand) = ⊥
 ComparesInputs p q x y a b (Err Terminal) = ⊥
-ComparesInputs p q x y a b (Err OutOfMemory) = ⊤
+ComparesInputs p q x y a b (Err OutOfMemory) = (a ≡ false) × (b ≡ false)

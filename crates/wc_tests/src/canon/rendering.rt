@@ -16,6 +16,7 @@ fn refusals_are_rendered(rt: HostRuntime) -> Result<(), Fail> {
         (Refusal::Memory, "out of memory"),
     ] {
         assert_eq!(rt; render(rt.alloc(), &refusal)?.as_str(), text);
+        assert_eq!(rt; refusal.to_string(rt.alloc())?.as_str(), text);
     }
     Ok(())
 }

@@ -68,6 +68,11 @@ fn device<R: Read>(input: Option<R>) -> Option<Device<R>> {
     }
 }
 
+/// No second input.
+fn no_input() -> Option<Device<Reader<'static>>> {
+    None
+}
+
 fn carried_out(
     alloc: Global,
     line: Line<'static>,
@@ -293,11 +298,12 @@ fn a_failing_line_of_a_fault_is_dropped(rt: HostRuntime) {
         rt.alloc(),
         &line,
         &mut device(Some(whole(LONGER))),
-        &mut None,
+        &mut no_input(),
         &mut Device::new(&mut w),
         &mut Device::new(&mut e),
     );
-    assert_eq!(rt; (told, w.calls), (1, 0));
+    // the line has more pieces, and none behind the one that failed is written
+    assert_eq!(rt; (told, w.calls, e.calls), (1, 0, 1));
 }
 
 /// A line of each kind that has an answer.
@@ -343,7 +349,7 @@ fn asked(alloc: Global, fails_at: u32) -> (u8, u32) {
         alloc,
         &line,
         &mut device(Some(&mut reader)),
-        &mut None,
+        &mut no_input(),
         &mut Device::new(&mut answer),
         &mut Device::new(&mut fault),
     );
@@ -362,7 +368,7 @@ fn used_devices_are_not_used_again(rt: HostRuntime) {
         rt.alloc(),
         &line,
         &mut input,
-        &mut None,
+        &mut no_input(),
         &mut answers,
         &mut faults,
     );
@@ -370,7 +376,7 @@ fn used_devices_are_not_used_again(rt: HostRuntime) {
         rt.alloc(),
         &line,
         &mut input,
-        &mut None,
+        &mut no_input(),
         &mut answers,
         &mut faults,
     );

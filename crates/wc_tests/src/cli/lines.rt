@@ -2,6 +2,7 @@
 
 use std::alloc::Global;
 use std::test::Fail;
+use wc_canon::VERSION;
 use wc_cli::{lines, status_of};
 
 /// What the words of a text ask for, or the status of its error.
@@ -131,7 +132,8 @@ fn shown(rt: &HostRuntime, text: &str) -> Result<String, Fail> {
 #[test]
 fn the_version_is_told(rt: HostRuntime) -> Result<(), Fail> {
     for text in ["wcanon --version", "wcanon -V"] {
-        assert_eq!(rt; shown(&rt, text)?.as_str(), "wcanon 0.1.0\n");
+        let wanted = format!(in rt.alloc(); "wcanon {VERSION}\n")?;
+        assert_eq!(rt; shown(&rt, text)?.as_str(), wanted.as_str());
     }
     Ok(())
 }

@@ -1,5 +1,7 @@
 //! Several lines, carried out in order.
 
+ghost use Rattle.std.specs.Prelude.{◌≡◌};
+
 use super::samples::{CUSTOM, EMPTY, FUNCTION, LONGER, TEXT, UNKNOWN};
 use crate::devices::{Reader, Writer};
 use std::alloc::Global;
@@ -11,11 +13,7 @@ use wc_device::Device;
 struct Shelf;
 
 impl Opens<Reader<'static>> for Shelf {
-    ghost use Rattle.std.specs.Prelude.{None};
-
-    ghost bytes_at = { λ _ _. None };
-
-    fn open(&self, path: &str) -> Option<Device<Reader<'static>>> {
+    fn open(&mut self, path: &str) -> Option<Device<Reader<'static>>> {
         let bytes = match path {
             "empty" => EMPTY,
             "custom" => CUSTOM,
@@ -26,6 +24,12 @@ impl Opens<Reader<'static>> for Shelf {
             _ => return None,
         };
         Some(Device::new(Reader::new(bytes, 4096, 0)))
+    }
+
+    fn close(&mut self, input: Option<Device<Reader<'static>>>)
+        ensures { self.new ≡ self.old }
+    {
+        drop(input);
     }
 }
 
@@ -121,7 +125,7 @@ fn carried_out(alloc: Global, lines: &[Line<'_>], w: &mut Writer, e: &mut Writer
     act_each(
         alloc,
         lines,
-        &Shelf,
+        &mut Shelf,
         &mut Device::new(w),
         &mut Device::new(e),
     )

@@ -27,8 +27,8 @@ pub returns-clause-only_fault : goal.returns-clause-only_fault
 returns-clause-only_fault c = λ g p. meant-or-fault _ _ g c.in_ok-module.ensures.ok p
 
 pub returns-clause-again : goal.returns-clause-again
-returns-clause-again c =
-    let e = c.in_ok-text_of.ensures in again _ _ _ c.in_ok-module.ensures.ok e.layout e.back
+returns-clause-again c = λ short b a.
+    again _ _ b (has-text _ _ _ c.in_ok-module.ensures.ok c.in_ok-text_of.ensures.layout) short a
 
 pub returns-in_err-text_of-clause-only : goal.returns-in_err-text_of-clause-only
 returns-in_err-text_of-clause-only c = λ m p. match-error _ _ _ _ c.from_residual-in_err-text_of.ensures.1 refl

@@ -5,6 +5,7 @@ use Rattle.wc_print.specs.Printed.{text}
 use Rattle.wc_canon.specs.declared.running.Job.TheVariants.{Text}
 use Rattle.wc_canon.specs.Run.{IsOutputOf}
 use Rattle.wc_canon.specs.declared.fault.Refusal.TheVariants.{Memory}
+use Rattle.wc_canon.proofs.Again.{told-alike}
 use Rattle.wc_canon.proofs.Streams.{judges-error, near-memory}
 use Rattle.wc_canon.proofs.FailedReads.{cut-refused, refused-fails-at, refused-reads-at}
 use Rattle.wc_canon.proofs.reading.text_from.Goals as goal
@@ -16,6 +17,10 @@ returns-in_err-module-clause-judges g c =
 
 pub returns-clause-judges : goal.returns-clause-judges
 returns-clause-judges g c = rw c.in_ok-text_of.ensures.layout c.in_ok-module.ensures.judges
+
+pub returns-clause-back : goal.returns-clause-back
+returns-clause-back g c = λ short.
+    told-alike _ _ _ c.in_ok-module.ensures.judges c.in_ok-text_of.ensures.layout short
 
 -- of the printing memory alone is told
 pub returns-in_err-text_of-clause-near : goal.returns-in_err-text_of-clause-near

@@ -1,6 +1,10 @@
-use Rattle.wc_cli.proofs.Endings.{ends-told}
+use Rattle.std.proofs.Common.{Err}
 use Rattle.wc_cli.proofs.acting.act_on.Goals as goal
 
-pub returns-in-Err-clause-ends : goal.returns-in-Err-clause-ends
-returns-in-Err-clause-ends g c =
-    ends-told _ _ _ _ _ _ _ _ _ _ _ _ _ (rw c.in-Err.is at c.carry_out.ensures.ends) c.report.ensures
+pub returns-in-Err-clause-carries_out : goal.returns-in-Err-clause-carries_out
+returns-in-Err-clause-carries_out g c = (
+  Err c.in-Err.failure,
+  rw c.in-Err.is at c.carry_out.ensures.ends,
+  rw c.in-Err.is at c.carry_out.ensures.looks,
+  c.report.ensures,
+)

@@ -1,5 +1,4 @@
 use Rattle.std.proofs.Common.{◌≡◌, IfSome, false, refl, inl, inr}
-use Rattle.wc_device.specs.Device.{device_inner, has_failed}
 use Rattle.wc_canon.specs.declared.comparing.Comparison.TheVariants.{Same, Different}
 use Rattle.wc_canon.specs.Comparing.{Compares}
 use Rattle.wc_cli.specs.declared.command_line.Line.TheVariants.{Compare}
@@ -10,27 +9,23 @@ use Rattle.wc_cli.proofs.acting.tell_apart.Goals as goal
 pub returns-in_err-say-in-Same-clause-ends : goal.returns-in_err-say-in-Same-clause-ends
 returns-in_err-say-in-Same-clause-ends g c =
     let x = input_bytes g.R.Read.remaining c.args.a.now in
-    let y = input_bytes g.R.Read.remaining c.args.b.now in
+    let y = input_bytes g.S.Read.remaining c.args.b.now in
     let a = is_unread c.compare_inputs.new.a in
     let b = is_unread c.compare_inputs.new.b in
-    let old = g.W.Write.contents (device_inner c.args.w.now) in
-    let new = g.W.Write.contents (device_inner c.say.new.w) in
     let p : (a ≡ false) × (b ≡ false) × IfSome x (λ u. IfSome y (λ v. Compares u v Same)) =
     rw c.in-Same.is at c.in_ok-compare_inputs.ensures.ends in
-    unsaid (Compare c.args.paths.0 c.args.paths.1) x y a b (has_failed c.say.new.w) old new _ 0 _ _
+    unsaid g.W.Write.contents (Compare c.args.paths.0 c.args.paths.1) x y a b c.args.w.now c.say.new.w _ 0 _ _
     (p.0, p.1) (inl (p.2, refl, refl)) refl c.in_err-say-in-Same.ensures
     c.from_residual-in_err-say-in-Same.ensures.1
 
 pub returns-in_err-say-in-Different-clause-ends : goal.returns-in_err-say-in-Different-clause-ends
 returns-in_err-say-in-Different-clause-ends g c =
     let x = input_bytes g.R.Read.remaining c.args.a.now in
-    let y = input_bytes g.R.Read.remaining c.args.b.now in
+    let y = input_bytes g.S.Read.remaining c.args.b.now in
     let a = is_unread c.compare_inputs.new.a in
     let b = is_unread c.compare_inputs.new.b in
-    let old = g.W.Write.contents (device_inner c.args.w.now) in
-    let new = g.W.Write.contents (device_inner c.say-in-Different.new.w) in
     let p : (a ≡ false) × (b ≡ false) × IfSome x (λ u. IfSome y (λ v. Compares u v Different)) =
     rw c.in-Different.is at c.in_ok-compare_inputs.ensures.ends in
-    unsaid (Compare c.args.paths.0 c.args.paths.1) x y a b (has_failed c.say-in-Different.new.w) old new _ 1 _ _
-    (p.0, p.1) (inr (p.2, refl, refl)) refl c.in_err-say-in-Different.ensures
+    unsaid g.W.Write.contents (Compare c.args.paths.0 c.args.paths.1) x y a b c.args.w.now c.say-in-Different.new.w
+    _ 1 _ _ (p.0, p.1) (inr (p.2, refl, refl)) refl c.in_err-say-in-Different.ensures
     c.from_residual-in_err-say-in-Different.ensures.1

@@ -1,8 +1,11 @@
-use Rattle.std.proofs.Common.{take}
+use Rattle.std.proofs.Common.{◌≡◌, ◌<◌, take, false}
+use Rattle.wc_device.specs.Device.{has_failed}
 use Rattle.wc_cli.specs.Turns.{ActsEach}
 use Rattle.wc_cli.proofs.turns.act_each.Given as goal
 
 abbrev pub invariant-loop-line : goal.invariant-loop-line
-invariant-loop-line g l =
-    ActsEach (g.O.Opens.bytes_at l.opens) g.W.Write.contents g.E.Write.contents l.fn.w l.fn.e
-    (take l.line-index l.lines) l.status l.w l.e
+invariant-loop-line g l = record {
+  turns : ActsEach g.O.Opens.gives g.O.Opens.takes g.R.Read.remaining g.W.Write.contents g.E.Write.contents l.fn.opens
+      l.fn.w l.fn.e (take l.line-index l.lines) l.status l.opens l.w l.e;
+  goes_on : 0 < l.line-index → has_failed l.w ≡ false;
+}
