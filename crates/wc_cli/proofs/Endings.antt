@@ -17,7 +17,7 @@ module _ {W : Type 0} (held : W → Option (List ℕ)) (line : Line) (x y : Opti
   unsaid text status e (Ok v) p q g s h = absurd h
   unsaid text status (CannotWrite None) (Err f) p q g s h =
       let P : Failure → Type 0 = λ k. Ends held line x y a b w w' (Err k) in
-      subst P (sym h) (p, s.0, sym g, (text, status, s.1.0, q, s.1.1, s.1.2))
+      subst P (sym h) (p, s.0, sym g, (text, status, s.1.0, q, s.1.1, s.1.2, s.1.3))
   unsaid text status (CannotWrite (Some path)) (Err f) p q g s h = absurd s
   unsaid text status (Refused path k) (Err f) p q g s h = absurd s
   unsaid text status (CannotRead path) (Err f) p q g s h = absurd s

@@ -56,6 +56,8 @@ module _ {E : Type 0} (held : E → Option (List ℕ)) where
     pub goes-on : GoesOut held (a ++ b) e e2
     goes-on = record {
       unasked = λ h. q.unasked (subst (λ (d : Device E). has_failed d ≡ true) (sym (p.unasked h)) h) ∙ p.unasked h;
+      again = q.again ∙ p.again;
+      unflushed = q.unflushed ∙ p.unflushed;
       whole = λ h. Appends-trans (held (device_inner e)) (held (device_inner e1)) (held (device_inner e2)) a b
           (p.whole (went h)) (q.whole h);
       front = decided (has_failed e1) _ cut more;

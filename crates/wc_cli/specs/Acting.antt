@@ -5,7 +5,7 @@ use Rattle.std.specs.Prelude.{Option, None, IfSome, Result, Ok, Err}
 use Rattle.std.specs.Io.KnownBytes.{Appends}
 use denote.Ref.{Bor}
 use Rattle.wc_device.specs.declared.io_device.Device.{Device}
-use Rattle.wc_device.specs.Device.{device_inner, has_failed}
+use Rattle.wc_device.specs.Device.{device_inner, has_failed, FlushedOnce, FlushedBehindAll}
 use Rattle.wc_canon.specs.declared.fault.Refusal.{Refusal}
 use Rattle.wc_canon.specs.Input.{IsAccepted, HasFault}
 use Rattle.wc_canon.specs.Comparing.{IsSame, IsDifferent}
@@ -66,20 +66,21 @@ is_raw line = false
 
 -- ---- what came of it
 
--- the status once the whole answer went out, or the failure: w is the writer of answers before, and w' behind it; held
--- says which bytes it holds, where they are known. Where there is no answer, nothing of the writer was asked
+-- the status once the whole answer went out, and then one flush, or the failure: w is the writer of answers before, and
+-- w' behind it; held says which bytes it holds, where they are known. Where there is no answer, nothing of it was asked
 abbrev pub Ends : {W : Type 0} → (W → Option (List ℕ)) → Line → Option (List ℕ) → Option (List ℕ) → Bool → Bool
     → Device W → Device W → Result ℕ Failure → Type 0
 Ends held line x y a b w w' (Ok status) =
     AreRead line a b × (has_failed w' ≡ false)
     × ((text : List ℕ) × IsAnswer line x y text status × Appends (held (device_inner w)) (held (device_inner w')) text)
+    × FlushedOnce w w'
 Ends held line x y a b w w' (Err (Refused path f)) =
     AreRead line a b × (w' ≡ w) × IsRefusedAt line x y path.now f
 Ends held line x y a b w w' (Err (CannotRead path)) = IsUnreadAt line a b path.now × (w' ≡ w)
 Ends held line x y a b w w' (Err (CannotWrite path)) =
     AreRead line a b × (has_failed w' ≡ true) × (path ≡ goes_to line)
     × ((text : List ℕ) × (status n : ℕ) × IsAnswer line x y text status × (n ≤ length text)
-    × Appends (held (device_inner w)) (held (device_inner w')) (take n text))
+    × Appends (held (device_inner w)) (held (device_inner w')) (take n text) × FlushedBehindAll n (length text) w w')
 Ends held line x y a b w w' (Err NotText) = ⊥
 Ends held line x y a b w w' (Err NoSubcommand) = ⊥
 Ends held line x y a b w w' (Err Terminal) = ⊥

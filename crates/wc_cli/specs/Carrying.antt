@@ -4,7 +4,7 @@
 use Rattle.std.specs.Prelude.{◌≡◌, ℕ, List, Bool, if◌then◌else◌, Option, None, Some, Result}
 use denote.Ref.{Bor}
 use Rattle.wc_device.specs.declared.io_device.Device.{Device}
-use Rattle.wc_device.specs.Device.{has_failed}
+use Rattle.wc_device.specs.Device.{has_failed, was_asked_again}
 use Rattle.wc_cli.specs.declared.command_line.Line.{Line}
 use Rattle.wc_cli.specs.declared.command_line.Line.TheVariants.{Make, Tell, Compare}
 use Rattle.wc_cli.specs.declared.failure.Failure.{Failure}
@@ -39,7 +39,7 @@ used_before (Compare p q) is_new_a is_new_b failed =
 module _ {R S W E : Type 0} (of_a : R → Option (List ℕ)) (of_b : S → Option (List ℕ)) (held : W → Option (List ℕ))
     (told : E → Option (List ℕ)) where
   -- the whole answer went out, or there is one failure, which the inputs, the readers and the writers decide but for
-  -- want of memory; and just that is told
+  -- want of memory; and just that is told. Nothing of w is asked behind its failure
   abbrev pub CarriesOut : Line → ℕ → Option (Device R) → Option (Device R) → Option (Device S) → Option (Device S)
       → Device W → Device W → Device E → Device E → Type 0
   CarriesOut line status a a' b b' w w' e e' =
@@ -47,6 +47,7 @@ module _ {R S W E : Type 0} (of_a : R → Option (List ℕ)) (of_b : S → Optio
       × Ends held line (input_bytes of_a a) (input_bytes of_b b) (is_unread a') (is_unread b') w w' ending
       × LooksAt of_a of_b line a a' b b' ending
       × IsTold told ending status e e'
+      × (was_asked_again w' ≡ was_asked_again w)
 
   -- of what was used before: the failure is told, and nothing else happens
   abbrev pub ComesTo : Option Failure → Line → ℕ → Option (Device R) → Option (Device R) → Option (Device S)

@@ -3,7 +3,7 @@ use Rattle.std.specs.Prelude.{◌≡◌, ℕ, ◌≤◌, List, [], ◌∷◌, �
 use Rattle.std.specs.Io.KnownBytes.{Appends}
 use denote.Ref.{Bor}
 use Rattle.wc_device.specs.declared.io_device.Device.{Device}
-use Rattle.wc_device.specs.Device.{device_inner, has_failed}
+use Rattle.wc_device.specs.Device.{device_inner, has_failed, was_asked_again, flush_count}
 use Rattle.wc_canon.specs.Text.{refusal_text}
 use Rattle.wc_cli.specs.declared.failure.Failure.{Failure}
 use Rattle.wc_cli.specs.declared.failure.Failure.TheVariants.{Refused, CannotRead, CannotWrite, NotText}
@@ -46,9 +46,12 @@ failure_line OutOfMemory = line_of (codes "out of memory")
 pub record GoesOut {E : Type 0} (held : E → Option (List ℕ)) (text : List ℕ) (e e' : Device E) : Type 0 where
   -- a writer that failed before isn't asked
   pub unasked : has_failed e ≡ true → e' ≡ e
+  -- nor is it behind its failure, and it isn't flushed
+  pub again : was_asked_again e' ≡ was_asked_again e
+  pub unflushed : flush_count e' ≡ flush_count e
   -- all of it goes out where the writer doesn't fail
   pub whole : has_failed e' ≡ false → Appends (held (device_inner e)) (held (device_inner e')) text
-  -- and else its first bytes, and nothing behind them
+  -- and else its first bytes
   pub front : (n : ℕ) × (n ≤ length text) × Appends (held (device_inner e)) (held (device_inner e')) (take n text)
 
 -- f is told by its status and its line

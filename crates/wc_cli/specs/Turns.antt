@@ -5,7 +5,7 @@ use Rattle.wc_device.specs.declared.io_device.Device.{Device}
 use Rattle.wc_device.specs.Device.{has_failed}
 use Rattle.wc_cli.specs.declared.command_line.Line.{Line}
 use Rattle.wc_cli.specs.declared.command_line.Line.TheVariants.{Make, Tell, Compare}
-use Rattle.wc_cli.specs.Inputs.{IsNewInput}
+use Rattle.wc_cli.specs.Inputs.{IsNewInput, StaysThere}
 use Rattle.wc_cli.specs.Carrying.{Acts}
 
 -- the inputs of a line are opened at their paths, each once and A first
@@ -28,12 +28,13 @@ GoesOn (line ∷ lines) w = has_failed w ≡ false
 module _ {O R W E : Type 0} (gives : O → List ℕ → Option (Device R) → O → Type 0)
     (takes : O → Option (Device R) → O → Type 0) (remaining : R → Option (List ℕ)) (held : W → Option (List ℕ))
     (told : E → Option (List ℕ)) where
-  -- the inputs of a line are opened, it is carried out with the status on just these, and as it leaves them they are
-  -- given back
+  -- the inputs of a line are opened, it is carried out with the status on just these, of which nothing is asked once a
+  -- read failed or was told the end, and as it leaves them they are given back
   abbrev pub TakesTurn : Line → ℕ → O → O → Device W → Device W → Device E → Device E → Type 0
   TakesTurn line status o o' w w' e e' =
       (a a' b b' : Option (Device R)) × (o1 : O) × OpensInputs gives line o a b o1 × IsNewInput a × IsNewInput b
-      × Acts remaining remaining held told line status a a' b b' w w' e e' × ClosesInputs takes o1 a' b' o'
+      × Acts remaining remaining held told line status a a' b b' w w' e e' × StaysThere a a' × StaysThere b b'
+      × ClosesInputs takes o1 a' b' o'
 
 -- lines took their turns in order, each but the first while the writer of answers hadn't failed, and the status is the
 -- highest of theirs

@@ -1,7 +1,7 @@
 //! A command line is carried out.
 
 ghost use Rattle.std.specs.Prelude.{◌≡◌, ◌≤◌, ℕ, List, Bool, Option, Result, Err, false, true};
-ghost use Rattle.wc_device.specs.Device.{has_failed};
+ghost use Rattle.wc_device.specs.Device.{has_failed, was_asked_again};
 ghost use Rattle.wc_cli.specs.Acting.{Ends};
 ghost use Rattle.wc_cli.specs.Carrying.{AreNew, CarriesOut, Acts, used_alone, used_before};
 ghost use Rattle.wc_cli.specs.Inputs.{input_bytes, is_unread, is_new_input, IsNewInput, StaysThere};
@@ -32,6 +32,7 @@ fn make<'a, R: Read, W: Write>(
     ensures ends { (y : Option (List ℕ)) (b : Bool) → Ends W.contents (Line.Make job path.entry output.entry)
         (input_bytes R.remaining input.old) y (is_unread input.new) b w.old w.new result }
     ensures looks { ReadsOne R.remaining input.old input.new result }
+    ensures again_w { was_asked_again w.new ≡ was_asked_again w.old }
     ensures stays { StaysThere input.old input.new }
 {
     let Some(r) = input else {
@@ -46,7 +47,8 @@ fn make<'a, R: Read, W: Write>(
 /// Writes a text to standard output.
 fn say<'a, W: Write>(w: &mut Device<W>, text: &[u8]) -> Result<(), Failure<'a>>
     requires { has_failed w.old ≡ false }
-    ensures { Says W.contents text.now w.old w.new result }
+    ensures says { Says W.contents text.now w.old w.new result }
+    ensures again { was_asked_again w.new ≡ was_asked_again w.old }
 {
     match w.send(text) {
         Ok(()) => Ok(()),
@@ -68,6 +70,7 @@ fn tell<'a, R: Read, W: Write>(
     ensures ends { (y : Option (List ℕ)) (b : Bool) → Ends W.contents (Line.Tell ask path.entry named)
         (input_bytes R.remaining input.old) y (is_unread input.new) b w.old w.new result }
     ensures looks { ReadsAsk ask R.remaining input.old input.new result }
+    ensures again_w { was_asked_again w.new ≡ was_asked_again w.old }
     ensures stays { StaysThere input.old input.new }
 {
     let told = find(alloc, ask, path, named, input)?;
@@ -122,6 +125,7 @@ fn tell_apart<'a, R: Read, S: Read, W: Write>(
         (input_bytes S.remaining b.old) (is_unread a.new) (is_unread b.new) w.old w.new result }
     ensures looks { ReadsBoth R.remaining S.remaining paths.entry.0.now paths.entry.1.now a.old a.new b.old b.new
         result }
+    ensures again_w { was_asked_again w.new ≡ was_asked_again w.old }
     ensures stays_a { StaysThere a.old a.new }
     ensures stays_b { StaysThere b.old b.new }
 {
@@ -150,6 +154,7 @@ fn carry_out<'a, R: Read, S: Read, W: Write>(
     ensures ends { Ends W.contents line.now (input_bytes R.remaining a.old) (input_bytes S.remaining b.old)
         (is_unread a.new) (is_unread b.new) w.old w.new result }
     ensures looks { LooksAt R.remaining S.remaining line.now a.old a.new b.old b.new result }
+    ensures again_w { was_asked_again w.new ≡ was_asked_again w.old }
     ensures stays_a { StaysThere a.old a.new }
     ensures stays_b { StaysThere b.old b.new }
 {
@@ -226,9 +231,10 @@ fn used_before<'a, R: Read, S: Read, W: Write>(
 /// file or of memory.
 ///
 /// `a` and `b` are the devices of the opened inputs, none where one can't be opened; `b` is that of `Compare`, and
-/// isn't looked at with other lines. `w` takes the answer, or one line that tells it, is flushed, and takes nothing
-/// before the whole answer stands; `e` takes one line where there is a failure, and nothing else. The line takes no
-/// memory, and a failure of `e` is dropped: nothing is written behind it, and nothing at all where `e` failed before.
+/// isn't looked at with other lines. `w` takes the answer, or one line that tells it, once the whole answer stands, and
+/// then one flush; where there is no answer, nothing of it is asked. `e` takes one line where there is a failure, and
+/// nothing else. The line takes no memory, and a failure of `e` is dropped. Neither writer is asked for anything behind a
+/// failure of its own, also of before.
 ///
 /// Failures are found in this order: reading the input or A, reading B, a refusal, writing; want of memory wherever it
 /// occurs while each input is there and can be read. An input from which something was read before, or its end, counts

@@ -4,7 +4,7 @@ use Rattle.std.specs.Prelude.{Option, None, Some, IfSome, Result, Ok, Err, ⊤}
 use Rattle.std.specs.Io.KnownBytes.{Appends}
 use denote.Ref.{Bor}
 use Rattle.wc_device.specs.declared.io_device.Device.{Device}
-use Rattle.wc_device.specs.Device.{device_inner, has_failed}
+use Rattle.wc_device.specs.Device.{device_inner, has_failed, FlushedOnce, FlushedBehindAll}
 use Rattle.wc_canon.specs.declared.fault.Refusal.{Refusal}
 use Rattle.wc_canon.specs.declared.fault.Refusal.TheVariants.{Memory}
 use Rattle.wc_canon.specs.declared.fault.RunFault.{RunFault}
@@ -32,16 +32,18 @@ Reads path unread (Err NoSubcommand) = ⊥
 Reads path unread (Err Terminal) = ⊥
 Reads path unread (Err OutOfMemory) = unread ≡ false
 
--- a text went out to the standard output, or its first bytes: w is the writer before, and w' behind it
+-- a text went out to the standard output, and then one flush, or its first bytes: w is the writer before, and w' behind
+-- it
 abbrev pub Says : {V W : Type 0} → (W → Option (List ℕ)) → List ℕ → Device W → Device W → Result V Failure → Type 0
 Says held text w w' (Ok v) =
-    (has_failed w' ≡ false) × Appends (held (device_inner w)) (held (device_inner w')) text
+    (has_failed w' ≡ false) × Appends (held (device_inner w)) (held (device_inner w')) text × FlushedOnce w w'
 Says held text w w' (Err (Refused p f)) = ⊥
 Says held text w w' (Err (CannotRead p)) = ⊥
 Says held text w w' (Err (CannotWrite (Some p))) = ⊥
 Says held text w w' (Err (CannotWrite None)) =
     (has_failed w' ≡ true)
-    × ((n : ℕ) × (n ≤ length text) × Appends (held (device_inner w)) (held (device_inner w')) (take n text))
+    × ((n : ℕ) × (n ≤ length text) × Appends (held (device_inner w)) (held (device_inner w')) (take n text)
+    × FlushedBehindAll n (length text) w w')
 Says held text w w' (Err NotText) = ⊥
 Says held text w w' (Err NoSubcommand) = ⊥
 Says held text w w' (Err Terminal) = ⊥

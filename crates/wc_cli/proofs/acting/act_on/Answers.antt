@@ -7,4 +7,5 @@ returns-in-Err-clause-carries_out g c = (
   rw c.in-Err.is at c.carry_out.ensures.ends,
   rw c.in-Err.is at c.carry_out.ensures.looks,
   c.report.ensures,
+  c.carry_out.ensures.again_w,
 )

@@ -15,7 +15,7 @@ returns-in_err-say-in-Same-clause-ends g c =
     let p : (a ≡ false) × (b ≡ false) × IfSome x (λ u. IfSome y (λ v. Compares u v Same)) =
     rw c.in-Same.is at c.in_ok-compare_inputs.ensures.ends in
     unsaid g.W.Write.contents (Compare c.args.paths.0 c.args.paths.1) x y a b c.args.w.now c.say.new.w _ 0 _ _
-    (p.0, p.1) (inl (p.2, refl, refl)) refl c.in_err-say-in-Same.ensures
+    (p.0, p.1) (inl (p.2, refl, refl)) refl c.in_err-say-in-Same.ensures.says
     c.from_residual-in_err-say-in-Same.ensures.1
 
 pub returns-in_err-say-in-Different-clause-ends : goal.returns-in_err-say-in-Different-clause-ends
@@ -27,5 +27,5 @@ returns-in_err-say-in-Different-clause-ends g c =
     let p : (a ≡ false) × (b ≡ false) × IfSome x (λ u. IfSome y (λ v. Compares u v Different)) =
     rw c.in-Different.is at c.in_ok-compare_inputs.ensures.ends in
     unsaid g.W.Write.contents (Compare c.args.paths.0 c.args.paths.1) x y a b c.args.w.now c.say-in-Different.new.w
-    _ 1 _ _ (p.0, p.1) (inr (p.2, refl, refl)) refl c.in_err-say-in-Different.ensures
+    _ 1 _ _ (p.0, p.1) (inr (p.2, refl, refl)) refl c.in_err-say-in-Different.ensures.says
     c.from_residual-in_err-say-in-Different.ensures.1
