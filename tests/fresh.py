@@ -1,5 +1,6 @@
 """Copies the repository to a fresh folder: each file that git doesn't ignore, as it stands in the working tree."""
 
+import filecmp
 import os
 import shutil
 import subprocess
@@ -26,11 +27,23 @@ def crates():
 
 
 def copy_to(folder):
-    """Copies the files."""
+    """Copies the files; in a folder that has a copy already, those that changed, and takes away what is gone."""
     listed = ["git", "ls-files", "-z", "--cached", "--others", "--exclude-standard"]
     names = subprocess.run(listed, cwd=ROOT, check=True, capture_output=True, text=True).stdout.split("\0")
-    for name in filter(None, names):
-        # a file that was deleted is still listed until that is committed
-        if os.path.isfile(f"{ROOT}/{name}"):
+    # a file that was deleted is still listed until that is committed
+    names = {name for name in names if name and os.path.isfile(f"{ROOT}/{name}")}
+    for name in copied(folder) - names:
+        os.remove(f"{folder}/{name}")
+    for name in names:
+        if not (os.path.isfile(f"{folder}/{name}") and filecmp.cmp(f"{ROOT}/{name}", f"{folder}/{name}", False)):
             os.makedirs(os.path.dirname(f"{folder}/{name}"), exist_ok=True)
             shutil.copy(f"{ROOT}/{name}", f"{folder}/{name}")
+
+
+def copied(folder):
+    """The files of a copy, but what the toolchain made there."""
+    found = set()
+    for top, folders, names in os.walk(folder):
+        folders[:] = [it for it in folders if it not in ("out", ".git")]
+        found.update(os.path.relpath(f"{top}/{name}", folder) for name in names)
+    return found

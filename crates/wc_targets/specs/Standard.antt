@@ -1,4 +1,4 @@
--- What a reviewer signs: the numbers that stand in place of identifiers, and the identifiers that nothing has.
+-- What contracts speak of: the numbers that stand in place of identifiers, and the identifiers that nothing has.
 pub mod Contexts
 pub mod Operands
 pub mod Instructions
