@@ -22,11 +22,11 @@ not-both b P p q = absurd (cc)
 module _ {E : Type 0} (held : E → Option (List ℕ)) where
   -- one text behind another
   module _ (a b : List ℕ) (e e1 e2 : Device E) (p : GoesOut held a e e1) (q : GoesOut held b e1 e2) where
-    kept : has_failed e1 ≡ true → has_failed e2 ≡ true
-    kept h = subst (λ (d : Device E). has_failed d ≡ true) (sym (q.unasked h)) h
+    stays : has_failed e1 ≡ true → has_failed e2 ≡ true
+    stays h = subst (λ (d : Device E). has_failed d ≡ true) (sym (q.unasked h)) h
 
     went : has_failed e2 ≡ false → has_failed e1 ≡ false
-    went h = decided (has_failed e1) (has_failed e1 ≡ false) (λ f. not-both (has_failed e2) _ (kept f) h) (λ g. g)
+    went h = decided (has_failed e1) (has_failed e1 ≡ false) (λ f. not-both (has_failed e2) _ (stays f) h) (λ g. g)
 
     cut : has_failed e1 ≡ true
         → (n : ℕ) × (n ≤ length (a ++ b)) × Appends (held (device_inner e)) (held (device_inner e2)) (take n (a ++ b))
@@ -58,6 +58,7 @@ module _ {E : Type 0} (held : E → Option (List ℕ)) where
       unasked = λ h. q.unasked (subst (λ (d : Device E). has_failed d ≡ true) (sym (p.unasked h)) h) ∙ p.unasked h;
       again = q.again ∙ p.again;
       unflushed = q.unflushed ∙ p.unflushed;
+      kept = q.kept ∙ p.kept;
       whole = λ h. Appends-trans (held (device_inner e)) (held (device_inner e1)) (held (device_inner e2)) a b
           (p.whole (went h)) (q.whole h);
       front = decided (has_failed e1) _ cut more;

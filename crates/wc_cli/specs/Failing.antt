@@ -3,7 +3,7 @@ use Rattle.std.specs.Prelude.{◌≡◌, ℕ, ◌≤◌, List, [], ◌∷◌, �
 use Rattle.std.specs.Io.KnownBytes.{Appends}
 use denote.Ref.{Bor}
 use Rattle.wc_device.specs.declared.io_device.Device.{Device}
-use Rattle.wc_device.specs.Device.{device_inner, has_failed, was_asked_again, flush_count}
+use Rattle.wc_device.specs.Device.{device_inner, has_failed, was_asked_again, flush_count, has_lost}
 use Rattle.wc_canon.specs.Text.{refusal_text}
 use Rattle.wc_cli.specs.declared.failure.Failure.{Failure}
 use Rattle.wc_cli.specs.declared.failure.Failure.TheVariants.{Refused, CannotRead, CannotWrite, NotText}
@@ -49,6 +49,8 @@ pub record GoesOut {E : Type 0} (held : E → Option (List ℕ)) (text : List �
   -- nor is it behind its failure, and it isn't flushed
   pub again : was_asked_again e' ≡ was_asked_again e
   pub unflushed : flush_count e' ≡ flush_count e
+  -- and none of it is lost where no write failed
+  pub kept : has_lost e' ≡ has_lost e
   -- all of it goes out where the writer doesn't fail
   pub whole : has_failed e' ≡ false → Appends (held (device_inner e)) (held (device_inner e')) text
   -- and else its first bytes

@@ -233,8 +233,8 @@ fn used_before<'a, R: Read, S: Read, W: Write>(
 /// `a` and `b` are the devices of the opened inputs, none where one can't be opened; `b` is that of `Compare`, and
 /// isn't looked at with other lines. `w` takes the answer, or one line that tells it, once the whole answer stands, and
 /// then one flush; where there is no answer, nothing of it is asked. `e` takes one line where there is a failure, and
-/// nothing else. The line takes no memory, and a failure of `e` is dropped. Neither writer is asked for anything behind a
-/// failure of its own, also of before.
+/// nothing else. The line takes no memory, and a failure of `e` is dropped. Neither writer is asked for anything behind
+/// a failure of its own, also of before.
 ///
 /// Failures are found in this order: reading the input or A, reading B, a refusal, writing; want of memory wherever it
 /// occurs while each input is there and can be read. An input from which something was read before, or its end, counts

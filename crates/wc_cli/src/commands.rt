@@ -1,6 +1,6 @@
 //! The subcommands, their arguments and their help.
 
-ghost use Rattle.std.specs.Prelude.{◌≡◌, IfOk, false, codes};
+ghost use Rattle.std.specs.Prelude.{◌≡◌, IfOk, IfSome, false, codes};
 ghost use Rattle.clap.specs.Words.{app_of, rule_of};
 ghost use Rattle.clap.specs.declared.Command.TheViews.{out-Command as fields_of};
 ghost use Rattle.wc_cli.specs.Program.{path_rule, paths_rule, output_rule, top_app, make_app};
@@ -109,7 +109,8 @@ fn compare<'a>(alloc: Global) -> Result<Command<'a>, AllocError>
 
 /// The program without its subcommands.
 fn top<'a>(alloc: Global) -> Command<'a>
-    ensures { app_of result ≡ top_app }
+    ensures app { app_of result ≡ top_app }
+    ensures version { IfSome (fields_of result).version (λ text. text.now ≡ VERSION.now) }
 {
     Command::new(alloc, "wcanon")
         .version(VERSION)

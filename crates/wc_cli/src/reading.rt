@@ -1,6 +1,6 @@
 //! A whole input.
 
-ghost use Rattle.std.specs.Prelude.{◌≡◌, IfOk, IfSome, OnOk, Some, false, true, not};
+ghost use Rattle.std.specs.Prelude.{◌≡◌, [], length, IfSome, OnOk, Some, false, true, not};
 ghost use Rattle.std.specs.Io.KnownBytes.{IsAtEnd};
 ghost use Rattle.wc_device.specs.Device.{device_inner, has_failed, has_ended, was_asked_again, read_count};
 ghost use Rattle.wc_cli.specs.Inner.Reading.{Reads};
@@ -47,21 +47,25 @@ pub(crate) fn is_readable<R: Read>(alloc: Global, r: &mut Device<R>) -> bool
     r.read(&mut [0u8; 1]).is_ok()
 }
 
-/// The reader's bytes to its end. An error of the reader of any kind ends it.
+/// The reader's bytes to its end, each piece put into memory that has none before the next read. An error of the reader
+/// of any kind ends it.
 pub(crate) fn read_all<'a, R: Read>(
-    alloc: Global,
     path: &'a str,
     r: &mut Device<R>,
-) -> Result<Vec<u8>, Failure<'a>>
+    bytes: &mut Vec<u8>,
+) -> Result<(), Failure<'a>>
     requires well { has_failed r.old ≡ false }
     requires more { has_ended r.old ≡ false }
     requires unread { read_count r.old ≡ 0 }
-    ensures whole { IfOk result (λ v. IfSome (R.remaining (device_inner r.old)) (λ x. v.items ≡ x)) }
+    requires none { bytes.old.items ≡ [] }
+    ensures whole { OnOk result (IfSome (R.remaining (device_inner r.old)) (λ x. bytes.new.items ≡ x)) }
+
+    // Where a read failed, all that was read before is there: none is made once memory was refused.
+    ensures held { has_failed r.new ≡ true → length bytes.new.items ≡ read_count r.new }
     ensures reads { Reads path.now (has_failed r.new) result }
     ensures end { OnOk result (IsAtEnd (R.remaining (device_inner r.new))) }
     ensures again { was_asked_again r.new ≡ was_asked_again r.old }
 {
-    let mut bytes = Vec::new(alloc);
     let mut buffer = [0u8; PIECE];
     loop {
         let given = match r.read(&mut buffer) {
@@ -69,7 +73,7 @@ pub(crate) fn read_all<'a, R: Read>(
             Err(_) => return Err(Failure::CannotRead { path }),
         };
         if given == 0 {
-            return Ok(bytes);
+            return Ok(());
         }
         if bytes.extend_from_slice(&buffer[..given]).is_err() {
             return Err(Failure::OutOfMemory);

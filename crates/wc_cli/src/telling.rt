@@ -107,7 +107,8 @@ fn canonical<'a, R: Read>(
     ensures looks { ReadsWhole R.remaining (Some r.new) result }
     ensures again { was_asked_again r.new ≡ was_asked_again r.old }
 {
-    let bytes = read_all(alloc, path, r)?;
+    let mut bytes = Vec::new(alloc);
+    read_all(path, r, &mut bytes)?;
     canonical_bytes(alloc, path, named, bytes.as_slice())
 }
 

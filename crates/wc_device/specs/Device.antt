@@ -1,5 +1,5 @@
 -- What a clause reads of a `Device`.
-use Rattle.std.specs.Prelude.{◌≡◌, ℕ, ◌+◌, ◌-◌, ◌^◌, ◌%◌, ◌<◌, min, Bool, true, false}
+use Rattle.std.specs.Prelude.{◌≡◌, ◌⊎◌, ℕ, ◌+◌, ◌-◌, ◌^◌, ◌%◌, ◌<◌, min, Bool, true, false}
 use Rattle.std.specs.Prelude.{Option, Some, None, is_some}
 use Rattle.wc_device.specs.declared.io_device.Device.{Device}
 
@@ -48,14 +48,24 @@ one_more count = (count + 1) % 2 ^ 64
 abbrev pub is_unflushed : {T : Type 0} → Device T → Bool
 is_unflushed d = d.unflushed
 
--- one flush was asked for from old to new, and no write behind it
+-- whether bytes were lost since no more can be counted: the one failure of a writer that no call of it told
+abbrev pub has_lost : {T : Type 0} → Device T → Bool
+has_lost d = d.lost
+
+-- one flush was asked for from old to new, and no write behind it; no bytes were lost
 abbrev pub FlushedOnce : {T : Type 0} → Device T → Device T → Type 0
-FlushedOnce old new = (flush_count new ≡ one_more (flush_count old)) × (is_unflushed new ≡ false)
+FlushedOnce old new =
+    (flush_count new ≡ one_more (flush_count old)) × (is_unflushed new ≡ false) × (has_lost new ≡ has_lost old)
 
 -- writes were asked for from old to new, and no flush
 abbrev pub Unflushed : {T : Type 0} → Device T → Device T → Type 0
 Unflushed old new = (flush_count new ≡ flush_count old) × (is_unflushed new ≡ true)
 
+-- bytes were lost from old to new only behind as many as can be counted
+abbrev pub LosesBehind : {T : Type 0} → ℕ → Device T → Device T → Type 0
+LosesBehind sent old new = (has_lost new ≡ has_lost old) ⊎ (sent ≡ 2 ^ 64 - 1)
+
 -- from old to new so many of all bytes went out, and then one flush behind all of them, or none behind fewer
 abbrev pub FlushedBehindAll : {T : Type 0} → ℕ → ℕ → Device T → Device T → Type 0
-FlushedBehindAll sent all old new = (sent ≡ all → FlushedOnce old new) × (sent < all → Unflushed old new)
+FlushedBehindAll sent all old new =
+    (sent ≡ all → FlushedOnce old new) × (sent < all → Unflushed old new × LosesBehind sent old new)

@@ -1,7 +1,7 @@
 //! A reader or writer with its counts and its failure.
 ghost use Rattle.std.specs.Prelude.{◌≡◌, None, false};
 ghost use Rattle.wc_device.specs.Device.{device_inner, failed_at, first_failure, has_failed, read_count};
-ghost use Rattle.wc_device.specs.Device.{was_asked_again, has_ended, flush_count, is_unflushed};
+ghost use Rattle.wc_device.specs.Device.{was_asked_again, has_ended, flush_count, is_unflushed, has_lost};
 
 mod reading;
 mod writing;
@@ -11,8 +11,8 @@ mod writing;
 /// Each call of a `Device` is one call of what is in it, as `Reader` and `Writer` say, or a row of such calls.
 /// A call has failed where it answers an error of any kind, and where a write takes none of some bytes.
 /// The first failure is kept, with the number of bytes that were read before it: later calls don't take it back. So is
-/// the end of the reader's bytes, and whether it was asked once more after either; and how often it was flushed, and
-/// whether something was written since. Nothing here takes memory.
+/// the end of the reader's bytes, and whether it was asked once more after either; how often it was flushed, and
+/// whether something was written since; and whether bytes were lost unasked. Nothing here takes memory.
 #[derive(Drop)]
 pub struct Device<T> {
     inner: T,
@@ -22,6 +22,7 @@ pub struct Device<T> {
     count: u64,
     flush_count: u64,
     unflushed: bool,
+    lost: bool,
 }
 
 impl<T> Device<T> {
@@ -35,6 +36,7 @@ impl<T> Device<T> {
         ensures count { read_count result ≡ 0 }
         ensures flushes { flush_count result ≡ 0 }
         ensures unflushed { is_unflushed result ≡ false }
+        ensures lost { has_lost result ≡ false }
     {
         Device {
             inner,
@@ -44,6 +46,7 @@ impl<T> Device<T> {
             count: 0,
             flush_count: 0,
             unflushed: false,
+            lost: false,
         }
     }
 
@@ -103,6 +106,14 @@ impl<T> Device<T> {
         self.unflushed
     }
 
+    /// Whether bytes were lost since no more than 2^64 - 1 can be counted: the one failure of a writer that no call of
+    /// it told.
+    pub fn lost(&self) -> bool
+        ensures { result ≡ has_lost self.now }
+    {
+        self.lost
+    }
+
     /// Keeps a failure, where it is the first.
     fn fail(&mut self)
         ensures inner { device_inner self.new ≡ device_inner self.old }
@@ -112,6 +123,7 @@ impl<T> Device<T> {
         ensures count { read_count self.new ≡ read_count self.old }
         ensures flushes { flush_count self.new ≡ flush_count self.old }
         ensures unflushed { is_unflushed self.new ≡ is_unflushed self.old }
+        ensures lost { has_lost self.new ≡ has_lost self.old }
     {
         if self.failed_at.is_none() {
             self.failed_at = Some(self.count);

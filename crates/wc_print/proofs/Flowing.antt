@@ -1,15 +1,15 @@
 -- How bytes go out to a writer one behind another.
-use Rattle.std.proofs.Common.{◌≡◌, ℕ, zero, suc, ◌+◌, ◌-◌, ◌<◌, ◌≤◌, nat_lt, Bool, true, false, ◌||◌, ◌&&◌}
-use Rattle.std.proofs.Common.{List, [], ◌++◌, length, take, Option, Ok, Err, refl, sym, ap, subst, lt-ltb}
+use Rattle.std.proofs.Common.{◌≡◌, ℕ, zero, suc, ◌+◌, ◌-◌, ◌<◌, ◌≤◌, nat_lt, Bool, true, false, ◌||◌, ◌&&◌, ◌^◌}
+use Rattle.std.proofs.Common.{List, [], ◌++◌, length, take, Option, Ok, Err, ◌⊎◌, inl, inr, refl, sym, ap, subst}
 use Rattle.std.proofs.lemmas.Bool.{false≢true}
-use Rattle.std.proofs.Common.{◌∙◌, append_assoc, arith}
+use Rattle.std.proofs.Common.{◌∙◌, append_assoc, arith, lt-ltb}
 use Rattle.std.proofs.lemmas.List.{append-nil, length-append, take-append-le, take_all}
 use Rattle.std.proofs.Math.Seq.{take-append-add}
 use Rattle.std.proofs.KnownBytes.{Appends-trans, Appends-nil, Appends-kept}
 use Rattle.std.specs.Io.KnownBytes.{Appends, Keeps}
 use Rattle.wc_print.specs.Sending.{Sends}
 use Rattle.wc_device.specs.Device.{device_inner, has_failed, countable, was_asked_again, flush_count, one_more}
-use Rattle.wc_device.specs.Device.{is_unflushed, FlushedBehindAll}
+use Rattle.wc_device.specs.Device.{is_unflushed, has_lost, LosesBehind, FlushedBehindAll}
 use Rattle.wc_device.specs.declared.io_device.Device.{Device}
 use Rattle.wc_print.specs.declared.outlet.Outlet.{Outlet}
 use Rattle.wc_print.specs.Inner.Flows.{Flows, FlowsUnless, OnlyWrites}
@@ -106,25 +106,36 @@ not-asked d sent f e = record {
   flushes = refl;
   some = λ lt. absurd (omega (arith, lt, e));
   failed = λ t. absurd cc;
+  kept = λ _. refl;
+  lost = inl refl;
 }
 
 pub asked-on : {W : Type 0} (first old new : Device W) (sent n more : ℕ) → has_failed old ≡ false
     → has_failed new ≡ has_failed old → n ≡ sent + more
     → was_asked_again new ≡ (was_asked_again old || (has_failed old && nat_lt 0 (countable more sent)))
     → flush_count new ≡ flush_count old → is_unflushed new ≡ (is_unflushed old || nat_lt 0 (countable more sent))
-    → OnlyWrites first old sent → OnlyWrites first new n
-asked-on first old new sent n more f g e again flushes unflushed h = record {
+    → has_lost new ≡ has_lost old → OnlyWrites first old sent → OnlyWrites first new n
+asked-on first old new sent n more f g e again flushes unflushed lost h = record {
   again = again ∙ not-again _ _ _ f ∙ h.again;
   flushes = flushes ∙ h.flushes;
   some = λ lt. unflushed ∙ some-asked (is_unflushed old) sent more h.some (omega (arith, lt, e));
   failed = λ t. absurd cc;
+  kept = λ _. lost ∙ h.kept f;
+  lost = inl (lost ∙ h.kept f);
 }
 
-pub asked-last : {W : Type 0} (first old new : Device W) (sent n more : ℕ) → has_failed old ≡ false → n < sent + more
+-- bytes were lost only behind as many as can be counted, also since before, where none were lost
+loses-since : {W : Type 0} (first old new : Device W) (n : ℕ) → has_lost old ≡ has_lost first → LosesBehind n old new
+    → LosesBehind n first new
+loses-since first old new n e (inl k) = inl (k ∙ e)
+loses-since first old new n e (inr k) = inr k
+
+pub asked-last : {W : Type 0} (first old new : Device W) (sent n more : ℕ) → has_failed old ≡ false
+    → has_failed new ≡ true → n < sent + more
     → was_asked_again new ≡ (was_asked_again old || (has_failed old && nat_lt 0 (countable more sent)))
     → flush_count new ≡ flush_count old → is_unflushed new ≡ (is_unflushed old || nat_lt 0 (countable more sent))
-    → OnlyWrites first old sent → OnlyWrites first new n
-asked-last first old new sent n more f lt again flushes unflushed h =
+    → LosesBehind n old new → OnlyWrites first old sent → OnlyWrites first new n
+asked-last first old new sent n more f g lt again flushes unflushed lost h =
     let some : is_unflushed new ≡ true =
     unflushed ∙ some-asked (is_unflushed old) sent more h.some (omega (arith, lt)) in
     record {
@@ -132,6 +143,8 @@ asked-last first old new sent n more f lt again flushes unflushed h =
       flushes = flushes ∙ h.flushes;
       some = λ _. some;
       failed = λ _. some;
+      kept = λ t. absurd cc;
+      lost = loses-since first old new n (h.kept f) lost;
     }
 
 -- ---- an outlet
@@ -189,15 +202,17 @@ unflushed-end true first old new sent said f h k = absurd cc
 
 -- ---- one flush behind all of it
 
--- of the writer behind the flush: whether it was asked again, how often it was flushed, and whether it is unflushed
+-- of the writer behind the flush: whether it was asked again, how often it was flushed, whether it is unflushed, and
+-- whether bytes were lost
 pub flushed-again : {W : Type 0} (first old : Device W) (sent : ℕ) (again : Bool) → has_failed old ≡ false
     → again ≡ (was_asked_again old || has_failed old) → OnlyWrites first old sent → again ≡ was_asked_again first
 flushed-again first old sent again f e h = e ∙ not-again-flushed _ _ f ∙ h.again
 
-pub flushed-once : {W : Type 0} (first old : Device W) (sent count : ℕ) (unflushed : Bool)
-    → (count ≡ one_more (flush_count old)) × (unflushed ≡ false) → OnlyWrites first old sent
-    → (count ≡ one_more (flush_count first)) × (unflushed ≡ false)
-flushed-once first old sent count unflushed k h = (k.0 ∙ ap one_more h.flushes, k.1)
+pub flushed-once : {W : Type 0} (first old : Device W) (sent count : ℕ) (unflushed lost : Bool)
+    → has_failed old ≡ false
+    → (count ≡ one_more (flush_count old)) × (unflushed ≡ false) × (lost ≡ has_lost old) → OnlyWrites first old sent
+    → (count ≡ one_more (flush_count first)) × (unflushed ≡ false) × (lost ≡ has_lost first)
+flushed-once first old sent count unflushed lost f (c, u, l) h = (c ∙ ap one_more h.flushes, u, l ∙ h.kept f)
 
 all-out : (was : Bool) (first old : Option (List ℕ)) (sent : ℕ) (said : List ℕ) → was ≡ false
     → FlowsUnless was first old sent [] said → sent ≡ length said
@@ -210,17 +225,19 @@ cut-short true first old sent said f h = h.0
 cut-short false first old sent said f h = absurd cc
 
 pub flushed-behind : {W : Type 0} (first old : Device W) (before here : Option (List ℕ)) (sent count : ℕ)
-    (unflushed : Bool) (said : List ℕ) → has_failed old ≡ false → FlowsUnless (has_failed old) before here sent [] said
-    → (count ≡ one_more (flush_count old)) × (unflushed ≡ false) → OnlyWrites first old sent
-    → (sent ≡ length said → (count ≡ one_more (flush_count first)) × (unflushed ≡ false))
-    × (sent < length said → (count ≡ flush_count first) × (unflushed ≡ true))
-flushed-behind first old before here sent count unflushed said f flows k h =
+    (unflushed lost : Bool) (said : List ℕ) → has_failed old ≡ false
+    → FlowsUnless (has_failed old) before here sent [] said
+    → (count ≡ one_more (flush_count old)) × (unflushed ≡ false) × (lost ≡ has_lost old) → OnlyWrites first old sent
+    → (sent ≡ length said → (count ≡ one_more (flush_count first)) × (unflushed ≡ false) × (lost ≡ has_lost first))
+    × (sent < length said → ((count ≡ flush_count first) × (unflushed ≡ true))
+    × ((lost ≡ has_lost first) ⊎ (sent ≡ 2 ^ 64 - 1)))
+flushed-behind first old before here sent count unflushed lost said f flows k h =
     let all : sent ≡ length said = all-out _ before here sent said f flows in
-    ((λ _. flushed-once first old sent count unflushed k h), λ lt. absurd (omega (arith, lt, all)))
+    ((λ _. flushed-once first old sent count unflushed lost f k h), λ lt. absurd (omega (arith, lt, all)))
 
 pub not-flushed : {W : Type 0} (first old : Device W) (before here : Option (List ℕ)) (sent : ℕ) (said : List ℕ)
     → has_failed old ≡ true → FlowsUnless (has_failed old) before here sent [] said → OnlyWrites first old sent
     → FlushedBehindAll sent (length said) first old
 not-flushed first old before here sent said f flows h =
     let fewer : sent < length said = cut-short _ before here sent said f flows in
-    ((λ e. absurd (omega (arith, e, fewer))), λ _. (h.flushes, h.failed f))
+    ((λ e. absurd (omega (arith, e, fewer))), λ _. ((h.flushes, h.failed f), h.lost))

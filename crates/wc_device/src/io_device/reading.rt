@@ -4,7 +4,7 @@ ghost use Rattle.std.specs.Io.{ReadsAtMost};
 ghost use Rattle.std.specs.Io.KnownBytes.{ReadConsumes};
 ghost use Rattle.std.specs.IoError.{error_kind};
 ghost use Rattle.wc_device.specs.Device.{device_inner, failed_at, first_failure, has_failed, read_count, countable};
-ghost use Rattle.wc_device.specs.Device.{was_asked_again, has_ended, flush_count, is_unflushed};
+ghost use Rattle.wc_device.specs.Device.{was_asked_again, has_ended, flush_count, is_unflushed, has_lost};
 
 use super::Device;
 use crate::calls::Reader;
@@ -56,6 +56,7 @@ impl<R: Reader> Device<R> {
 
         ensures flushes { flush_count self.new ≡ flush_count self.old }
         ensures unflushed { is_unflushed self.new ≡ is_unflushed self.old }
+        ensures lost { has_lost self.new ≡ has_lost self.old }
     {
         self.asked_again = self.asked_again || self.failed_at.is_some() || self.ended;
         let room = u64::MAX - self.count;

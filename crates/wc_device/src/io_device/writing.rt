@@ -4,8 +4,8 @@ ghost use Rattle.std.specs.Prelude.{IfOk, IfErr, OnOk, OnErr, true, false};
 ghost use Rattle.std.specs.Io.{WritesAtMost};
 ghost use Rattle.std.specs.Io.KnownBytes.{Appends, WriteAppends, Keeps};
 ghost use Rattle.wc_device.specs.Device.{device_inner, failed_at, first_failure, has_failed, read_count, countable};
-ghost use Rattle.wc_device.specs.Device.{was_asked_again, has_ended, flush_count, one_more, is_unflushed};
-ghost use Rattle.wc_device.specs.Device.{FlushedOnce, FlushedBehindAll};
+ghost use Rattle.wc_device.specs.Device.{was_asked_again, has_ended, flush_count, one_more, is_unflushed, has_lost};
+ghost use Rattle.wc_device.specs.Device.{FlushedOnce, FlushedBehindAll, LosesBehind};
 ghost use Rattle.wc_device.specs.WriteCalls.{WritesAll, WritesBehind, SendsAll};
 
 use super::Device;
@@ -22,6 +22,7 @@ impl<W: Writer> Device<W> {
         ensures ended { has_ended self.new ≡ has_ended self.old }
         ensures flushes { flush_count self.new ≡ flush_count self.old }
         ensures unflushed { is_unflushed self.new ≡ is_unflushed self.old }
+        ensures lost { has_lost self.new ≡ has_lost self.old }
     {
         self.asked_again = self.asked_again || self.failed_at.is_some();
     }
@@ -43,6 +44,7 @@ impl<W: Writer> Device<W> {
         ensures again { was_asked_again self.new ≡ (was_asked_again self.old || has_failed self.old) }
         ensures flushes { flush_count self.new ≡ flush_count self.old }
         ensures unflushed { is_unflushed self.new ≡ true }
+        ensures lost { has_lost self.new ≡ has_lost self.old }
 
         ensures fails { OnErr result (has_failed self.new ≡ true) }
         ensures takes_none { IfOk result (λ n. n ≡ 0 → 0 < length buf.now → has_failed self.new ≡ true) }
@@ -106,6 +108,7 @@ impl<W: Writer> Device<W> {
             ≡ (was_asked_again self.old || (has_failed self.old && nat_lt 0 (length bytes.now))) }
         ensures flushes { flush_count self.new ≡ flush_count self.old }
         ensures unflushed { is_unflushed self.new ≡ (is_unflushed self.old || nat_lt 0 (length bytes.now)) }
+        ensures lost { has_lost self.new ≡ has_lost self.old }
 
         ensures fails { OnErr result (has_failed self.new ≡ true) }
         ensures goes_on { OnOk result (has_failed self.new ≡ has_failed self.old) }
@@ -144,6 +147,10 @@ impl<W: Writer> Device<W> {
         ensures flushes { flush_count self.new ≡ flush_count self.old }
         ensures unflushed { is_unflushed self.new
             ≡ (is_unflushed self.old || nat_lt 0 (countable (length bytes.now) before)) }
+        // Bytes are lost just where the count is full.
+        ensures lost { OnOk result (has_lost self.new ≡ has_lost self.old) }
+        ensures lost_behind { IfErr result (λ n. LosesBehind n self.old self.new) }
+        ensures lost_some { IfErr result (λ n. n ≡ u64.MAX → has_lost self.new ≡ true) }
 
         ensures fails { OnErr result (has_failed self.new ≡ true) }
         ensures goes_on { OnOk result (has_failed self.new ≡ has_failed self.old) }
@@ -156,6 +163,7 @@ impl<W: Writer> Device<W> {
         }
         if most < bytes.len() {
             self.fail();
+            self.lost = true;
             return Err(u64::MAX);
         }
         Ok(before + most as u64)

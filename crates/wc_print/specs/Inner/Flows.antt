@@ -1,7 +1,7 @@
 -- What went out to a writer, and what waits for its turn.
 use Rattle.std.specs.Prelude.{◌≡◌, ℕ, ◌<◌, Bool, true, false, List, ◌++◌, length, take, Option}
 use Rattle.std.specs.Io.KnownBytes.{Appends}
-use Rattle.wc_device.specs.Device.{has_failed, was_asked_again, flush_count, is_unflushed}
+use Rattle.wc_device.specs.Device.{has_failed, was_asked_again, flush_count, is_unflushed, has_lost, LosesBehind}
 use Rattle.wc_device.specs.declared.io_device.Device.{Device}
 
 -- so many bytes went out, and with those that wait they are all that were put
@@ -16,10 +16,12 @@ abbrev pub FlowsUnless : Bool → Option (List ℕ) → Option (List ℕ) → �
 FlowsUnless false old new sent waiting said = Flows old new sent waiting said
 FlowsUnless true old new sent waiting said = (sent < length said) × Appends old new (take sent said)
 
--- from first to now a device was asked for writes alone, and for none behind a failure; it was asked for some where bytes
--- went out, and where it failed
+-- from first to now a device was asked for writes alone, and for none behind a failure; it was asked for some where
+-- bytes went out, and where it failed; and bytes were lost only where it failed, behind as many as can be counted
 pub record OnlyWrites {W : Type 0} (first now : Device W) (sent : ℕ) : Type 0 where
   pub again : was_asked_again now ≡ was_asked_again first
   pub flushes : flush_count now ≡ flush_count first
   pub some : 0 < sent → is_unflushed now ≡ true
   pub failed : has_failed now ≡ true → is_unflushed now ≡ true
+  pub kept : has_failed now ≡ false → has_lost now ≡ has_lost first
+  pub lost : LosesBehind sent first now

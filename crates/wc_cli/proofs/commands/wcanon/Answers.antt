@@ -10,7 +10,7 @@ pub returns : goal.returns
 returns c =
     let one =
     c.in_ok-subcommand.ensures.shape c.in_ok-binary.ensures.own
-    ∙ ap₂ with_subcommand c.top.ensures (ap top_of c.in_ok-binary.ensures.app) in
+    ∙ ap₂ with_subcommand c.top.ensures.app (ap top_of c.in_ok-binary.ensures.app) in
     let two =
     c.in_ok-subcommand-2.ensures.shape c.in_ok-text.ensures.own
     ∙ ap₂ with_subcommand one (ap top_of c.in_ok-text.ensures.app) in

@@ -20,9 +20,10 @@ pub returns-in-Ok-clause-calls : goal.returns-in-Ok-clause-calls
 returns-in-Ok-clause-calls g c = λ first h.
     let e = c.in-Ok.ensures in
     asked-on first _ _ _ _ _ (sym c.failed.ensures ∙ c.if-failed.false) e.goes_on e.total e.again e.flushes
-    e.unflushed h
+    e.unflushed e.lost h
 
 pub returns-in-Err-clause-calls : goal.returns-in-Err-clause-calls
 returns-in-Err-clause-calls g c = λ first h.
     let e = c.in-Err.ensures in
-    asked-last first _ _ _ _ _ (sym c.failed.ensures ∙ c.if-failed.false) e.short e.again e.flushes e.unflushed h
+    asked-last first _ _ _ _ _ (sym c.failed.ensures ∙ c.if-failed.false) e.fails e.short e.again e.flushes e.unflushed
+    e.lost_behind h

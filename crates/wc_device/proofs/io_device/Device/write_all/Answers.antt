@@ -13,6 +13,7 @@ loop-sent-init g c = record {
   again = search rules;
   flushes = search rules;
   unflushed = search rules;
+  lost = search rules;
   appended = search rules;
   taken = none;
 }
@@ -26,6 +27,7 @@ loop-sent-preserved g c = record {
   again = search rules;
   flushes = search rules;
   unflushed = search rules;
+  lost = search rules;
   appended = appends_more _ _ _ _ _ _ c.loop-sent.invariant.appended c.in-Ok.ensures.bytes;
   taken = taken_more _ _ _ _ _ _ _ c.loop-sent.invariant.taken (search rules) (search rules) c.in-Ok.ensures.call;
 }

@@ -35,12 +35,13 @@ returns-then-failed-clause-again g c = λ first said h. (c.empty.ensures.says.al
 
 pub returns-in-Ok-clause-flushed : goal.returns-in-Ok-clause-flushed
 returns-in-Ok-clause-flushed g c = λ first said h.
-    flushed-once first.device.now _ _ _ _ c.in-Ok.ensures.flushed (c.empty.ensures.says.all first said h).calls
+    flushed-once first.device.now _ _ _ _ _ (sym c.failed.ensures ∙ c.if-failed.false) c.in-Ok.ensures.flushed
+    (c.empty.ensures.says.all first said h).calls
 
 pub returns-in-Err-clause-flushed_behind_all : goal.returns-in-Err-clause-flushed_behind_all
 returns-in-Err-clause-flushed_behind_all g c = λ first said h.
     let has = c.empty.ensures.says.all first said h in
-    flushed-behind first.device.now _ _ _ _ _ _ said (sym c.failed.ensures ∙ c.if-failed.false)
+    flushed-behind first.device.now _ _ _ _ _ _ _ said (sym c.failed.ensures ∙ c.if-failed.false)
     (emptied _ first _ said c.empty.ensures.none has) c.in-Err.ensures.flushed has.calls
 
 pub returns-then-failed-clause-flushed_behind_all : goal.returns-then-failed-clause-flushed_behind_all
