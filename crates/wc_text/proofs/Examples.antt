@@ -1,2 +1,3 @@
 -- Examples of what tokens say by the productions.
 mod Texts
+mod Rows

@@ -39,19 +39,19 @@ undeclared = record { id = None; exports = [] }
 plainly : IsDeclared [] undeclared
 plainly = IsDeclared.both IsId.absent AreExports.none
 
--- `(param i32)`, with its type at token 5
-one_param : AreParams (role.ParamType ⊳ i32_at 5 ∷ []) (param None I32 ∷ [])
+-- `(param i32)`
+one_param : {token : ℕ} → AreParams (role.ParamType ⊳ i32_at token ∷ []) (param None I32 ∷ [])
 one_param = AreParams.more (IsParam.several (AreTypes.more refl AreTypes.none)) AreParams.none
 
--- `(param i64)`, with its type at token 17
-wide_param : AreParams (role.ParamType ⊳ i64_at 17 ∷ []) (param None I64 ∷ [])
+-- `(param i64)`, with its type at token 18
+wide_param : AreParams (role.ParamType ⊳ i64_at 18 ∷ []) (param None I64 ∷ [])
 wide_param = AreParams.more (IsParam.several (AreTypes.more refl AreTypes.none)) AreParams.none
 
 -- ---- types
 
 -- `(type $t (func (param i32)))`
 a_type : IsField (keyword kind.TypeWord (codes "type") 1)
-    (role.FieldId ⊳ id_at (codes "$t") 2 ∷ role.ParamType ⊳ i32_at 5 ∷ [])
+    (role.FieldId ⊳ id_at (codes "$t") 2 ∷ role.ParamType ⊳ i32_at 7 ∷ [])
     (type_field (Some (identifier 2 (codes "$t"))) (signature (param None I32 ∷ []) []))
 a_type = IsField.type_word refl (IsId.there (IsIdentifier.bytes refl)) (IsSignature.both one_param AreResults.none)
 
@@ -113,7 +113,7 @@ inline_import {token} {m} {n} = IsInlineImport.word (IsImport.names (name_m m) (
 imported_function : IsField (keyword kind.FuncWord (codes "func") 1)
     (role.FieldId ⊳ id_at (codes "$f") 2 ∷ role.ExportName ⊳ letter 97 5 ∷ role.ExportName ⊳ letter 98 9
     ∷ role.ImportWord ⊳ keyword kind.ImportWord (codes "import") 12 ∷ role.ModuleName ⊳ letter 109 13
-    ∷ role.ItemName ⊳ letter 110 14 ∷ role.ParamType ⊳ i64_at 17 ∷ [])
+    ∷ role.ItemName ⊳ letter 110 14 ∷ role.ParamType ⊳ i64_at 18 ∷ [])
     (func_field 1 (record { id = Some (identifier 2 (codes "$f")); exports = codes "a" ∷ codes "b" ∷ [] })
     (Function.imported (record { token = 12; «module» = codes "m"; item = codes "n" })
     (type_use None (signature (param None I64 ∷ []) []))))
@@ -122,17 +122,17 @@ imported_function = IsField.func_word refl
     (AreExports.more (name_a 5) (AreExports.more (name_b 9) AreExports.none)))
     (IsFunction.imported inline_import (IsTypeUse.inline (IsSignature.both wide_param AreResults.none)))
 
--- `(local i64)`, with its type at token 9
-one_local : AreLocals (role.LocalType ⊳ i64_at 9 ∷ []) (record { id = None; ty = I64; token = 9 } ∷ [])
+-- `(local i64)`, with its type at token 8
+one_local : AreLocals (role.LocalType ⊳ i64_at 8 ∷ []) (record { id = None; ty = I64; token = 8 } ∷ [])
 one_local = AreLocals.more (IsLocal.several (AreUnnamed.more refl AreUnnamed.none)) AreLocals.none
 
 -- `(func (param i32) (local i64) nop)`
 function : IsField (keyword kind.FuncWord (codes "func") 1)
-    (role.ParamType ⊳ i32_at 5 ∷ role.LocalType ⊳ i64_at 9
-    ∷ role.Plain ⊳ kept_token 11 (valued kind.Simple (Instruction (op.Simple Nop))) (codes "nop") ∷ [])
+    (role.ParamType ⊳ i32_at 4 ∷ role.LocalType ⊳ i64_at 8
+    ∷ role.Plain ⊳ kept_token 10 (valued kind.Simple (Instruction (op.Simple Nop))) (codes "nop") ∷ [])
     (func_field 1 undeclared
     (Function.code (type_use None (signature (param None I32 ∷ []) []))
-    (record { id = None; ty = I64; token = 9 } ∷ []) (Code.op (simple Nop) Code.empty)))
+    (record { id = None; ty = I64; token = 8 } ∷ []) (Code.op (simple Nop) Code.empty)))
 function = IsField.func_word refl plainly
     (IsFunction.code (IsTypeUse.inline (IsSignature.both one_param AreResults.none)) one_local
     (Says.more (Says.plain (IsPlain.simple_name refl)) Says.none))
