@@ -1,4 +1,4 @@
--- What a reviewer signs: the binary format (Core 1.0, chapter 5), its faults, and what decoding and encoding answer.
+-- What contracts speak of: the binary format (Core 1.0, chapter 5), its faults, and what decoding and encoding answer.
 pub mod Style
 pub mod Expression
 pub mod Phrase

@@ -67,7 +67,7 @@ fn compare_answers(alloc: Global, a: &[u8], b: &[u8]) -> Result<Comparison, (Sid
 ///
 /// # Errors
 /// The refusal of `Side::A` where the first input isn't accepted, else that of `Side::B` where the second one isn't.
-/// With `Refusal::Memory` the side is the input that was judged.
+/// With `Refusal::Memory` the side is the input that was judged, which no clause can say: it is tested.
 pub fn compare(alloc: Global, a: &[u8], b: &[u8]) -> Result<Comparison, (Side, Refusal)>
     ensures ok { IfOk result (Compares a.now b.now) }
     ensures err { IfErr result (λ e. IsSideRefused a.now b.now e.0 e.1) }

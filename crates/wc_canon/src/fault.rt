@@ -19,9 +19,10 @@ pub enum Refusal {
     /// Any other input: it isn't made of white space, comments and tokens (6.2 and 6.3). `at` is the byte of its first
     /// fault, and `why` says which byte that is.
     Lex { at: u64, why: LexWhy },
-    /// Its tokens are no text of the grammar (6.4 to 6.6). `token` is the number of the first one with which no text
-    /// goes on, counted from 0, or the number of all where one is missing, and `at` is its first byte, or the length of
-    /// the input.
+    /// Its tokens are no text of the grammar (6.4 to 6.6), or one with an instruction nested too deep. `token` is the
+    /// number, counted from 0, of the first token such that no text, however deep, begins with the tokens up to and
+    /// including it, or that names an instruction nested too deep; or the number of all where one is missing. `at` is
+    /// its first byte, or the length of the input.
     Syntax { token: u64, at: u64, why: SynWhy },
     /// Its names are wrong (6.6). `token` is the number of the token that `why` says, and `at` is its first byte.
     Names { token: u64, at: u64, why: NameWhy },

@@ -1,4 +1,4 @@
--- What contracts speak of: what a text declares, its types, and what is wrong with them, in the standard's terms.
+-- What contracts speak of: what fields declare as they are stored, their types, and what is wrong with both.
 pub mod Spaces
 pub mod Order
 pub mod Inner

@@ -78,8 +78,8 @@ pub fn always_a_value()
         → (c : Instrs) × Says Part.foldedinstr us c }
 {}
 
-/// The kept tokens of derived instructions, whose numbers 32 bits hold, add to a body just the instructions that they
-/// say, as they are stored.
+/// The kept tokens of derived instructions, nested no deeper than the limit and with numbers that 32 bits hold, add to
+/// a body just the instructions that they say, as they are stored.
 pub(crate) fn stored_as_said()
     ensures instrs { (depth n : ℕ) (kinds : List Kind) (es : List Event) (us : List Said) (c : Instrs)
         → depth ≤ nesting_limit → n + length kinds ≤ 2 ^ 32 → Derives (instrs depth) (numbered n kinds) es

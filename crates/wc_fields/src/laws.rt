@@ -30,8 +30,8 @@ pub fn one_list_of_fields()
         → fields ≡ others }
 {}
 
-/// The kept tokens of a derived field, whose numbers 32 bits hold, make a draft of just the field that they say, as it
-/// is stored.
+/// The kept tokens of a derived field, nested no deeper than the limit and with numbers that 32 bits hold, make a draft
+/// of just the field that they say, as it is stored.
 pub(crate) fn field_stored_as_said()
     ensures { (depth n : ℕ) (kinds : List Kind) (es : List Event) (w z : KeptToken) (us : List Said) (f : Field)
         → depth ≤ nesting_limit → n + length kinds ≤ 2 ^ 32 → Derives (The (modulefield depth)) (numbered n kinds) es

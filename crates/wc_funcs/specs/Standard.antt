@@ -1,4 +1,4 @@
--- What contracts speak of: the functions and the constant expressions of a text, in the standard's terms.
+-- What contracts speak of: the functions and the constant expressions that fields have as they are stored.
 pub mod Locals
 pub mod Contexts
 pub mod Constants

@@ -1,5 +1,5 @@
--- What a reviewer signs: the module that the written fields of a text denote, and the first fault of their names, in
--- the standard's terms alone.
+-- What contracts speak of: the module that the written fields of a text denote, and the first fault of their names, in
+-- the standard's terms.
 pub mod Contexts
 pub mod Spaces
 pub mod Types

@@ -1,4 +1,4 @@
--- What contracts speak of: the module that a text denotes, and its first fault, in the standard's terms.
+-- What contracts speak of: the module that fields denote as they are stored, and the first fault of their names.
 pub mod Counts
 pub mod Indices
 pub mod Exports

@@ -20,7 +20,7 @@ start_or size (t ∷ ts) = t.start
 abbrev pub byte_of : List ℕ → List Lexeme → ℕ → ℕ
 byte_of text tokens token = start_or (length text) (drop token tokens)
 
--- the text has tokens (6.3), and this is the first one with which no text of the grammar goes on (6.4 to 6.6)
+-- the text has tokens (6.3), and this is the first fault of their grammar (6.4 to 6.6)
 pub record IsSyntaxFault (text : List ℕ) (token at : ℕ) (why : SynWhy) : Type 0 where
   pub tokens : List Lexeme
   pub lexes : Lexes text tokens

@@ -1,7 +1,7 @@
 //! Why a token may not stand.
 
-/// Why no text goes on with a token. Where several reasons fit one token, the first of them in this order counts, but
-/// `Unexpected`, which is for what fits none.
+/// Why a token may not stand, or one more has to. Where several reasons fit one token, the first of them in this order
+/// counts, but `Unexpected`, which is for what fits none.
 #[derive(Clone, Copy, Debug, PartialEq, Eq)]
 pub enum SynWhy {
     /// Every case that is none below.

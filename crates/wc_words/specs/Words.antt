@@ -1,4 +1,4 @@
--- What each word says.
+-- What each word says (Core 1.0, 6.3 to 6.6).
 use Rattle.std.specs.Prelude.{◌≡◌, ℕ, List, codes, ◌++◌}
 use Rattle.wc_syntax.specs.declared.kind.Kind.TheVariants as kind
 use Rattle.wc_words.specs.declared.symbol.Symbol.{Symbol}

@@ -1,4 +1,5 @@
--- The kept tokens of a derivation, by their numbers.
+-- The kept tokens of a derivation, by their numbers, as the words that a draft takes. A law on drafts speaks of them,
+-- and no production does.
 use Rattle.std.specs.Prelude.{◌≡◌, ℕ, List, [], ◌∷◌}
 use Rattle.wc_syntax.specs.Phrases.{Terminal, word}
 use Rattle.wc_syntax.specs.Deriving.{at, Event, kept}

@@ -42,7 +42,7 @@ abbrev pub written_faults : Context → Option Index → FuncType → Faults
 written_faults c None written = []
 written_faults c (Some x) written = found_faults c (token_of x) (found c.types x) written
 
--- an identifier of a parameter stands only where it names a local (6.5.2; Core 2.0, 6.5.2)
+-- an identifier of a parameter may not stand in a `call_indirect` (6.5.2) or in a block type (Core 2.0, 6.5.2)
 abbrev pub refused : User → Option Identifier → Faults
 refused of_func i = []
 refused of_call None = []

@@ -11,7 +11,7 @@ use Rattle.wc_drafts.specs.Standard.Productions.Tokens.{Said, ◌⊳◌, NamesIn
 use Rattle.wc_drafts.specs.Standard.Productions.TypeUses.{IsBlockType}
 use Rattle.wc_drafts.specs.Standard.Productions.Plain.{IsPlain}
 
--- "block" | "loop"
+-- "block" | "loop"  (6.5.2)
 pub data IsRegion : KeptToken → Region → Type 0 where
   block_word : {w : KeptToken} → NamesInstruction w op.Block → IsRegion w block
   loop_word : {w : KeptToken} → NamesInstruction w op.Loop → IsRegion w loop

@@ -15,11 +15,11 @@ infixr 80 ◌⊳◌
 pub data Said : Type 0 where
   ◌⊳◌ : Role → KeptToken → Said
 
--- the token is the name of this instruction (6.5)
+-- the token is the name of this instruction: of Core 1.0 without floats, or a sign extension of Core 2.0 (6.5)
 abbrev pub NamesInstruction : KeptToken → Op → Type 0
 NamesInstruction w o = w.symbol.value ≡ Instruction o
 
--- valtype: the token is this value type (6.4.1)
+-- valtype: the token is this value type (6.4.1); float types are outside the profile
 abbrev pub IsValueType : KeptToken → ValueType → Type 0
 IsValueType w t = w.symbol.value ≡ ValType t
 
@@ -27,7 +27,7 @@ IsValueType w t = w.symbol.value ≡ ValType t
 pub data IsIdentifier : KeptToken → Identifier → Type 0 where
   bytes : {w : KeptToken} → w.symbol.kind ≡ kind.Id → IsIdentifier w (identifier w.token w.text)
 
--- id?, where the identifier is this to the value
+-- id?, where the identifier is this to the value (6.3.5)
 pub data IsId (r : Role) : List Said → Option Identifier → Type 0 where
   absent : IsId r [] None
   there : {w : KeptToken} {i : Identifier} → IsIdentifier w i → IsId r (r ⊳ w ∷ []) (Some i)

@@ -10,7 +10,7 @@ use Rattle.wc_surface.specs.Standard.Written.Instructions.{BlockType, short, use
 use Rattle.wc_drafts.specs.Standard.Tokens.{KeptToken}
 use Rattle.wc_drafts.specs.Standard.Productions.Tokens.{Said, ◌⊳◌, IsIdentifier, IsIndex, IsValueType}
 
--- valtype*, where each is this to the value
+-- valtype*, where each is this to the value (6.4.3)
 pub data AreTypes (r : Role) : List Said → List ValType → Type 0 where
   none : AreTypes r [] []
   more : {w : KeptToken} {t : ValType} {us : List Said} {ts : List ValType} → IsValueType w t → AreTypes r us ts
@@ -31,7 +31,7 @@ pub data IsParam : List Said → List Param → Type 0 where
       → IsParam (role.ParamId ⊳ i ∷ role.ParamType ⊳ w ∷ []) (param (Some id) t ∷ [])
   several : {us : List Said} {ts : List ValType} → AreTypes role.ParamType us ts → IsParam us (unnamed ts)
 
--- param*
+-- param*  (6.4.3)
 pub data AreParams : List Said → List Param → Type 0 where
   none : AreParams [] []
   more : {us vs : List Said} {ps qs : List Param} → IsParam us ps → AreParams vs qs → AreParams (us ++ vs) (ps ++ qs)
@@ -62,6 +62,7 @@ pub data IsTypeUse : List Said → TypeUse → Type 0 where
       → IsTypeUse (role.TypeIndex ⊳ w ∷ us) (type_use (Some x) s)
 
 -- the type use that is no short form of a block type: with an index, with a parameter, or with two results or more
+-- (Core 2.0, 6.5.2)
 pub data IsLong : TypeUse → Type 0 where
   by_index : {x : Index} {s : Signature} → IsLong (type_use (Some x) s)
   by_param : {i : Option Index} {p : Param} {ps : List Param} {rs : List ValType}
@@ -69,8 +70,8 @@ pub data IsLong : TypeUse → Type 0 where
   by_results : {i : Option Index} {ps : List Param} {t r : ValType} {rs : List ValType}
       → IsLong (type_use i (signature ps (t ∷ r ∷ rs)))
 
--- blocktype, which has a type use's form: without an index, without parameters and with at most one result it is the
--- short form, and no type use (6.5.2)
+-- blocktype = result? | typeuse, of which Core 1.0 has the first alone. Where both fit, without an index, without
+-- parameters and with at most one result, it is the short form, and no type use (Core 2.0, 6.5.2).
 pub data IsBlockType : List Said → BlockType → Type 0 where
   no_type : {us : List Said} → IsTypeUse us (type_use None (signature [] [])) → IsBlockType us (short None)
   one_type : {us : List Said} {t : ValType} → IsTypeUse us (type_use None (signature [] (t ∷ [])))

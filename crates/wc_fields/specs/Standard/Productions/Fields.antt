@@ -89,7 +89,7 @@ pub data IsField (w : KeptToken) : List Said → Field → Type 0 where
   -- "start" index  (6.6.10)
   start_word : {v : KeptToken} {x : Index} → IsKeyword w kind.StartWord → IsIndex v x
       → IsField w (role.Target ⊳ v ∷ []) (start_field w.token x)
-  -- "elem" index? offset "func"? index*  (6.6.11)
+  -- "elem" index? offset "func"? index*, where the word `func` is of Core 2.0  (6.6.11)
   elem_word : {us vs ws : List Said} {t : Option Index} {c : Instrs} {xs : List Index} → IsKeyword w kind.ElemWord
       → IsTarget us t → IsOffset vs c → AreElements ws xs → IsField w (us ++ vs ++ ws) (elem_field t c xs)
   -- "data" index? offset string*  (6.6.12)

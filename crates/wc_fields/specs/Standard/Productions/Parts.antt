@@ -63,7 +63,7 @@ pub data IsInlineImport : List Said → Import → Type 0 where
 abbrev pub local_at : Option Identifier → ValType → KeptToken → Local
 local_at id ty w = record { id = id; ty = ty; token = w.token }
 
--- valtype*: locals without identifiers
+-- valtype*: locals without identifiers (6.6.5)
 pub data AreUnnamed : List Said → List Local → Type 0 where
   none : AreUnnamed [] []
   more : {w : KeptToken} {t : ValType} {us : List Said} {ls : List Local} → IsValueType w t → AreUnnamed us ls
@@ -75,7 +75,7 @@ pub data IsLocal : List Said → List Local → Type 0 where
       → IsLocal (role.LocalId ⊳ i ∷ role.LocalType ⊳ w ∷ []) (local_at (Some id) t w ∷ [])
   several : {us : List Said} {ls : List Local} → AreUnnamed us ls → IsLocal us ls
 
--- local*
+-- local*  (6.6.5)
 pub data AreLocals : List Said → List Local → Type 0 where
   none : AreLocals [] []
   more : {us vs : List Said} {ks ls : List Local} → IsLocal us ks → AreLocals vs ls → AreLocals (us ++ vs) (ks ++ ls)
@@ -101,7 +101,8 @@ pub data IsKind : KeptToken → ExportKind → Type 0 where
   memory : {w : KeptToken} → IsKeyword w kind.MemoryWord → IsKind w export.Memory
   global : {w : KeptToken} → IsKeyword w kind.GlobalWord → IsKind w export.Global
 
--- offset = "(" "offset" instr* ")" | foldedinstr  (6.6.11 and 6.6.12)
+-- offset = "(" "offset" instr* ")" | foldedinstr  (6.6.11 and 6.6.12); as the short form Core 1.0 has any
+-- one instruction, this grammar a folded one alone
 pub data IsOffset : List Said → Instrs → Type 0 where
   word : {us : List Said} {c : Instrs} → Says instrs us c → IsOffset us c
   short : {us : List Said} {c : Instrs} → Says foldedinstr us c → IsOffset us c
