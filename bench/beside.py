@@ -5,14 +5,14 @@ beside.py FILE [ROUNDS] [--text | --deep]
 
 FILE is a binary. It takes crates/wcanon/out/wcanon, and of wasm-strip, wasm-validate (Debian's package wabt) and
 wasm-opt (binaryen) those that are installed, and `true`, which does nothing. With --text it takes wat2wasm and wasm2wat
-(wabt), wasm-as and wasm-dis (binaryen) in their place, in four parts: the flat text of the module, which wasm2wat writes,
-to bytes; the same with its expressions folded; the module to text; and the comparison of the module with its canonical
-bytes, beside the pipe of wasm2wat and wat2wasm over the one and over the other, and `cmp`. With --deep, for a module of
-deep nesting, whose lines wasm2wat indents, the program's own text is the flat one, and wasm2wat isn't run.
+(wabt), wasm-as and wasm-dis (binaryen) in their place, in four parts: the flat text of the module, which wasm2wat
+writes, to bytes; the same with its expressions folded; the module to text; and the comparison of the module with its
+canonical bytes, beside the pipe of wasm2wat and wat2wasm over the one and over the other, and `cmp`. With --deep, for a
+module of deep nesting, whose lines wasm2wat indents, the program's own text is the flat one, and wasm2wat isn't run.
 
 Each run is a process of its own, which reads files and writes its output to a file. For each program: milliseconds by
-the clock and of the processor (user and system), each the least of the rounds; the median of the processor's; millions of
-input bytes a second of the processor's least; peak memory as a multiple of the input, for small files that of this
+the clock and of the processor (user and system), each the least of the rounds; the median of the processor's; millions
+of input bytes a second of the processor's least; peak memory as a multiple of the input, for small files that of this
 script; and the processor's least as a multiple of that of the first of its part. A program that fails is told as such:
 wasm-as and wasm-dis don't take every module.
 """

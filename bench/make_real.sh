@@ -3,7 +3,8 @@
 #
 #     make_real.sh FILE
 #
-# It wants Debian's clang-14, llvm-14, lld-14, wasi-libc, tclsh, make and perl, and the source package sqlite3 (`apt-get source`).
+# It wants Debian's clang-14, llvm-14, lld-14, wasi-libc, tclsh, make and perl, and the source package sqlite3
+# (`apt-get source`).
 set -eu
 out=$(realpath "$1")
 room=$(mktemp -d)

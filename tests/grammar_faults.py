@@ -11,7 +11,8 @@ import re
 import sys
 
 LIMIT = 2
-SIMPLE = "unreachable nop return drop select memory.size memory.grow i32.wrap_i64 i64.extend_i32_s i32.add i32.extend8_s".split()
+SIMPLE = "unreachable nop return drop select memory.size memory.grow".split()
+SIMPLE += "i32.wrap_i64 i64.extend_i32_s i32.add i32.extend8_s".split()
 INDEXED = "br br_if call local.get local.set local.tee global.get global.set".split()
 ACCESS = "i32.load i64.load32_u i32.store i64.store16".split()
 NATURAL = re.compile(r"(0x[0-9a-fA-F]+(_[0-9a-fA-F]+)*|[0-9]+(_[0-9]+)*)$")
@@ -22,6 +23,10 @@ def natural(text):
         return None
     digits = text.replace("_", "")
     return int(digits, 16) if digits.startswith("0x") else int(digits)
+
+
+def is_u32(text):
+    return natural(text) is not None and natural(text) < 2**32
 
 
 def literal(text):
@@ -71,13 +76,13 @@ def is_word(t):
 
 TERMINALS = {
     "id": lambda t: t[0] == "$" and len(t) > 1,
-    "u32": lambda t: natural(t) is not None and natural(t) < 2**32,
+    "u32": lambda t: is_u32(t),
     "lit32": lambda t: fits(32, t),
     "lit64": lambda t: fits(64, t),
     "name": lambda t: t[0] == '"' and is_utf8(t),
     "string": lambda t: t[0] == '"',
     "valtype": lambda t: t in ("i32", "i64"),
-    "offset=": lambda t: (natural(after("offset=", t) or "") or 0) < 2**32 and natural(after("offset=", t) or "") is not None,
+    "offset=": lambda t: is_u32(after("offset=", t) or ""),
     "align=": lambda t: (natural(after("align=", t) or "") or 3) in [2**k for k in range(32)],
     "simple": lambda t: t in SIMPLE,
     "indexed": lambda t: t in INDEXED,
@@ -116,6 +121,7 @@ FUNCTYPE = seq("(", "func", many(PARAM), many(RESULT), ")")
 TYPEUSE = seq(opt(seq("(", "type", INDEX, ")")), many(PARAM), many(RESULT))
 LIMITS = seq("u32", opt("u32"))
 TABLETYPE = seq(LIMITS, "funcref")
+ELEMS = seq("funcref", "(", "elem", many(INDEX), ")")
 GLOBALTYPE = alt("valtype", seq("(", "mut", "valtype", ")"))
 EXPORT = seq("(", "export", "name", ")")
 IMPORT = seq("(", "import", "name", "name", ")")
@@ -173,7 +179,7 @@ def field(d):
         seq("(", "type", opt("id"), FUNCTYPE, ")"),
         seq("(", "import", "name", "name", "(", DESC, ")", ")"),
         seq("(", "func", begin, alt(seq(IMPORT, TYPEUSE), seq(TYPEUSE, many(LOCAL), instrs(d))), ")"),
-        seq("(", "table", begin, alt(seq(IMPORT, TABLETYPE), TABLETYPE, seq("funcref", "(", "elem", many(INDEX), ")")), ")"),
+        seq("(", "table", begin, alt(seq(IMPORT, TABLETYPE), TABLETYPE, ELEMS), ")"),
         seq("(", "memory", begin, alt(seq(IMPORT, LIMITS), LIMITS, seq("(", "data", many("string"), ")")), ")"),
         seq("(", "global", begin, alt(seq(IMPORT, GLOBALTYPE), seq(GLOBALTYPE, instrs(d))), ")"),
         seq("(", "export", "name", "(", KIND, INDEX, ")", ")"),
@@ -276,11 +282,13 @@ def fault(tokens, limit=LIMIT):
 
 
 WORDS = [
-    "(", ")", "$a", "0", "4294967296", "18446744073709551616", "-1", "-4294967296", "+0x8000_0000", "-99999999999999999999",
+    "(", ")", "$a", "0", "4294967296", "18446744073709551616",
+    "-1", "-4294967296", "+0x8000_0000", "-99999999999999999999",
     '"a"', '"\\ff"', "offset=0", "offset=4294967296", "offset=x", "align=4", "align=3", "align=4294967296", "align=-1",
-    "nop", "br", "br_table", "call_indirect", "i32.load", "i32.const", "i64.const", "block", "if", "then", "else", "end",
-    "module", "type", "import", "func", "table", "memory", "global", "export", "start", "elem", "data", "offset", "local",
-    "param", "result", "mut", "funcref", "i32", "f32", "f64.add", "get_local", "$",
+    "nop", "br", "br_table", "call_indirect", "i32.load", "i32.const", "i64.const",
+    "block", "if", "then", "else", "end",
+    "module", "type", "import", "func", "table", "memory", "global", "export", "start", "elem", "data",
+    "offset", "local", "param", "result", "mut", "funcref", "i32", "f32", "f64.add", "get_local", "$",
 ]
 
 FRONTS = """

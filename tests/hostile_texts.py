@@ -201,5 +201,6 @@ SHAPES += [
     ("3,000,000 elements by name", 0, lambda: TABLE + b"(func $f)" + segment(b" $f" * 3_000_000)),
     ("900,000 named blocks", 0, lambda: func(b"(block $l)" * 900_000)),
     ("800,000 inline exports of one name", 1, lambda: b"(func" + b'(export "")' * 800_000 + b")"),
-    ("500,000 named parameters", 0, lambda: b"(func" + b"".join(b"(param $%06d i32)" % it for it in range(500_000)) + b")"),
+    ("500,000 named parameters", 0,
+     lambda: b"(func" + b"".join(b"(param $%06d i32)" % it for it in range(500_000)) + b")"),
 ]

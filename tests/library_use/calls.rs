@@ -1,5 +1,5 @@
-//! Calls the library from Rust, for tests/library: prints the status and the canonical bytes of a file, and then the status
-//! and the text, each with as much room as the call says that it needs.
+//! Calls the library from Rust, for tests/library: prints the status and the canonical bytes of a file, and then the
+//! status and the text, each with as much room as the call says that it needs.
 use std::os::raw::c_uint;
 
 type Answering = unsafe extern "C" fn(*const u8, usize, *mut u8, usize, *mut usize) -> c_uint;
