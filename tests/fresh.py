@@ -26,6 +26,12 @@ def crates():
     return found
 
 
+def gate_takes_names():
+    """Whether the toolchain's `rt ci` takes the names of crates: then what passed in one is kept for the machine."""
+    told = subprocess.run(["rt", "help"], stdout=subprocess.PIPE, stderr=subprocess.STDOUT, text=True)
+    return "rt ci [NAME" in told.stdout
+
+
 def copy_to(folder):
     """Copies the files; in a folder that has a copy already, those that changed, and takes away what is gone."""
     listed = ["git", "ls-files", "-z", "--cached", "--others", "--exclude-standard"]
