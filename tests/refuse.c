@@ -1,9 +1,10 @@
 // Loaded before the C library: refuses one request for memory, one read or one write of the program.
 //
 // REFUSED_KIND is `memory`, `read` or `write`, and REFUSED_NUMBER says which of that kind, counted from 1; 0 refuses
-// none. A refused write answers an error, or that it took nothing where TAKES_NOTHING is set. TAKEN_MOST bounds the
-// bytes that a read gives or a write takes; 0 leaves them. At the end the numbers of requests, reads and writes, and
-// the file of the refused read or write, go to the file descriptor REQUESTS_TO.
+// none. A refused write answers an error, or that it took nothing where TAKES_NOTHING is set. Where READS_FAIL_BEHIND is
+// set, each read behind a refused request for memory fails. TAKEN_MOST bounds the bytes that a read gives or a write
+// takes; 0 leaves them. At the end the numbers of requests, reads and writes, and the file of the refused read or write,
+// go to the file descriptor REQUESTS_TO.
 #define _GNU_SOURCE
 #include <dlfcn.h>
 #include <errno.h>
@@ -15,7 +16,7 @@
 enum { MEMORY, READ, WRITE, KINDS };
 static const char *const kinds[KINDS] = {"memory", "read", "write"};
 static long counts[KINDS], number = -1, most;
-static int kind, takes_nothing;
+static int kind, takes_nothing, reads_fail_behind, was_denied;
 static char path[4096];
 static void *(*next_malloc)(size_t), *(*next_realloc)(void *, size_t);
 static void *(*next_aligned_alloc)(size_t, size_t);
@@ -33,12 +34,19 @@ static void learn(void) {
         if (!strcmp(found, kinds[at])) kind = at;
     most = number_in("TAKEN_MOST");
     takes_nothing = getenv("TAKES_NOTHING") != NULL;
+    reads_fail_behind = getenv("READS_FAIL_BEHIND") != NULL;
     number = number_in("REFUSED_NUMBER");
 }
 
 static int is_refused(int asked) {
     if (number < 0) learn();
     return ++counts[asked] == number && asked == kind;
+}
+
+static int is_denied(void) {
+    int denied = is_refused(MEMORY);
+    was_denied |= denied;
+    return denied;
 }
 
 static void tell_path(int file) {
@@ -52,27 +60,27 @@ static size_t at_most(size_t size) { return most && size > (size_t)most ? (size_
 
 void *malloc(size_t size) {
     if (!next_malloc) next_malloc = dlsym(RTLD_NEXT, "malloc");
-    return is_refused(MEMORY) ? NULL : next_malloc(size);
+    return is_denied() ? NULL : next_malloc(size);
 }
 
 void *realloc(void *old, size_t size) {
     if (!next_realloc) next_realloc = dlsym(RTLD_NEXT, "realloc");
-    return is_refused(MEMORY) ? NULL : next_realloc(old, size);
+    return is_denied() ? NULL : next_realloc(old, size);
 }
 
 void *aligned_alloc(size_t align, size_t size) {
     if (!next_aligned_alloc) next_aligned_alloc = dlsym(RTLD_NEXT, "aligned_alloc");
-    return is_refused(MEMORY) ? NULL : next_aligned_alloc(align, size);
+    return is_denied() ? NULL : next_aligned_alloc(align, size);
 }
 
 int posix_memalign(void **made, size_t align, size_t size) {
     if (!next_posix_memalign) next_posix_memalign = dlsym(RTLD_NEXT, "posix_memalign");
-    return is_refused(MEMORY) ? ENOMEM : next_posix_memalign(made, align, size);
+    return is_denied() ? ENOMEM : next_posix_memalign(made, align, size);
 }
 
 ssize_t read(int file, void *to, size_t size) {
     if (!next_read) next_read = dlsym(RTLD_NEXT, "read");
-    if (!is_refused(READ)) return next_read(file, to, at_most(size));
+    if (!is_refused(READ) && !(was_denied && reads_fail_behind)) return next_read(file, to, at_most(size));
     tell_path(file);
     errno = EIO;
     return -1;

@@ -4,7 +4,6 @@ use Rattle.wc_device.specs.declared.io_device.Device.{Device}
 use Rattle.wc_canon.specs.declared.fault.Refusal.{Refusal}
 use Rattle.wc_canon.specs.Input.{IsAccepted}
 use Rattle.wc_canon.specs.Printing.{HasText}
-use Rattle.wc_canon.specs.Run.{HasOutput}
 use Rattle.wc_canon.specs.declared.running.Job.{Job}
 use Rattle.wc_canon.specs.declared.running.Job.TheVariants as jobs
 use Rattle.wc_canon.proofs.Comparisons.{answer-accepted}
@@ -14,7 +13,7 @@ use Rattle.wc_cli.specs.declared.command_line.Line.TheVariants.{Make, Tell, Comp
 use Rattle.wc_cli.specs.declared.failure.Failure.{Failure}
 use Rattle.wc_cli.specs.declared.failure.Failure.TheVariants.{Refused, CannotRead, CannotWrite, NotText}
 use Rattle.wc_cli.specs.declared.failure.Failure.TheVariants.{NoSubcommand, Terminal, OutOfMemory}
-use Rattle.wc_cli.specs.Acting.{IsAnswer, IsRefusedAt, Ends, IsTold}
+use Rattle.wc_cli.specs.Acting.{IsMade, IsAnswer, IsRefusedAt, Ends, IsTold}
 use Rattle.wc_cli.specs.Status.{TellsLine}
 
 -- 2 says nothing of the inputs
@@ -34,16 +33,16 @@ text-accepted : (x text : List ℕ) → HasText x text → IsAccepted x
 unfolding HasText
 text-accepted x text p = (p.0, p.1)
 
-output-accepted : (j : Job) (x text : List ℕ) → HasOutput j x text → IsAccepted x
-output-accepted jobs.Binary x text p = answer-accepted x text p
-output-accepted jobs.Text x text p = text-accepted x text p
+made-accepted : (j : Job) (x text : List ℕ) → IsMade j (Some x) text → IsAccepted x
+made-accepted jobs.Binary x text p = answer-accepted x text p
+made-accepted jobs.Text x text p = text-accepted x text p.0
 
 -- a whole answer
 answer-tells : (line : Line) (x y : Option (List ℕ)) (text : List ℕ) (s status : ℕ) → IsAnswer line x y text s
     → status ≡ s → TellsLine line status x y
 answer-tells (Make job input output) None y text s status p e = tt
 answer-tells (Make j input output) (Some u) y text s status p e =
-    let zero : s ≡ 0 = p.1 in (λ h. output-accepted j u text p.0, λ h. absurd (cc))
+    let zero : s ≡ 0 = p.1 in (λ h. made-accepted j u text p.0, λ h. absurd (cc))
 answer-tells (Tell ask input named) None y text s status p e = tt
 answer-tells (Tell Check input named) (Some u) y text s status p e =
     let zero : s ≡ 0 = p.2 in (λ h. p.0, λ h. absurd (cc))

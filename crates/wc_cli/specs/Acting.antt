@@ -9,8 +9,10 @@ use Rattle.wc_device.specs.Device.{device_inner, has_failed, FlushedOnce, Flushe
 use Rattle.wc_canon.specs.declared.fault.Refusal.{Refusal}
 use Rattle.wc_canon.specs.Input.{IsAccepted, HasFault}
 use Rattle.wc_canon.specs.Comparing.{IsSame, IsDifferent}
-use Rattle.wc_canon.specs.Run.{IsOutputOf}
-use Rattle.wc_canon.specs.declared.running.Job.TheVariants.{Binary}
+use Rattle.wc_canon.specs.Run.{IsOutputOf, HasSameAnswer}
+use Rattle.wc_canon.specs.declared.running.Job.{Job}
+use Rattle.wc_canon.specs.declared.running.Job.TheVariants.{Binary, Text}
+use Rattle.wc_tokens.specs.Standard.Lexemes.{longest}
 use Rattle.wc_cli.specs.declared.command_line.Line.{Line}
 use Rattle.wc_cli.specs.declared.command_line.Line.TheVariants.{Make, Tell, Compare}
 use Rattle.wc_cli.specs.declared.failure.Failure.{Failure}
@@ -25,9 +27,14 @@ use Rattle.wc_cli.specs.Telling.{AnswersAsk, word_line}
 abbrev pub IfBoth : Option (List ℕ) → Option (List ℕ) → (List ℕ → List ℕ → Type 0) → Type 0
 IfBoth x y P = IfSome x (λ u. IfSome y (P u))
 
+-- what is made of an input. A text of a module has the input's answer again, where it isn't longer than a text may be
+abbrev pub IsMade : Job → Option (List ℕ) → List ℕ → Type 0
+IsMade Binary x text = IsOutputOf Binary x text
+IsMade Text x text = IsOutputOf Text x text × (length text ≤ longest → HasSameAnswer x text)
+
 -- the text that answers a line, and its status
 abbrev pub IsAnswer : Line → Option (List ℕ) → Option (List ℕ) → List ℕ → ℕ → Type 0
-IsAnswer (Make job input output) x y text status = IsOutputOf job x text × (status ≡ 0)
+IsAnswer (Make job input output) x y text status = IsMade job x text × (status ≡ 0)
 IsAnswer (Tell ask input named) x y text status = AnswersAsk ask input.now named x text status
 IsAnswer (Compare p q) x y text status =
     (IfBoth x y IsSame × (text ≡ word_line (codes "same")) × (status ≡ 0))

@@ -1,6 +1,6 @@
 -- How far the inputs of a line were read, by what came of it: old is an input before the line, and new the same one
 -- behind it; remaining says which bytes a reader has left, where they are known.
-use Rattle.std.specs.Prelude.{◌≡◌, ◌⊎◌, ℕ, ◌<◌, List, true, Option, None, Some, IfSome, Result, Ok, Err, ⊤}
+use Rattle.std.specs.Prelude.{◌≡◌, ◌⊎◌, ℕ, ◌<◌, ◌≤◌, List, length, true, Option, None, Some, IfSome, Result, Ok, Err, ⊤}
 use Rattle.std.specs.Io.KnownBytes.{IsAtEnd}
 use Rattle.wc_device.specs.declared.io_device.Device.{Device}
 use Rattle.wc_device.specs.Device.{device_inner, failed_at, has_ended, read_count}
@@ -40,6 +40,12 @@ IsCutOff remaining old None = ⊤
 IsCutOff remaining old (Some d) =
     (at : ℕ) × (failed_at d ≡ Some at) × IfSome (input_bytes remaining old) (ReadsCut (fault.Read at))
 
+-- it isn't there, or a read of it failed, within its bytes
+abbrev pub IsBroken : {R : Type 0} → (R → Option (List ℕ)) → Option (Device R) → Option (Device R) → Type 0
+IsBroken remaining old None = ⊤
+IsBroken remaining old (Some d) =
+    (at : ℕ) × (failed_at d ≡ Some at) × IfSome (input_bytes remaining old) (λ x. at ≤ length x)
+
 -- something of it was read, or its end
 abbrev pub IsLookedAt : {R : Type 0} → Option (Device R) → Type 0
 IsLookedAt None = ⊥
@@ -56,16 +62,18 @@ ReadsOne remaining old new (Err (CannotRead path)) = IsCutOff remaining old new
 ReadsOne remaining old new (Err f) = ⊤
 
 -- of an input that is judged once all of it was read
-abbrev pub ReadsWhole : {R V : Type 0} → (R → Option (List ℕ)) → Option (Device R) → Result V Failure → Type 0
-ReadsWhole remaining new (Ok v) = IsReadOut remaining new
-ReadsWhole remaining new (Err (Refused path f)) = IsReadOut remaining new
-ReadsWhole remaining new (Err f) = ⊤
+abbrev pub ReadsWhole : {R V : Type 0} → (R → Option (List ℕ)) → Option (Device R) → Option (Device R)
+    → Result V Failure → Type 0
+ReadsWhole remaining old new (Ok v) = IsReadOut remaining new
+ReadsWhole remaining old new (Err (Refused path f)) = IsReadOut remaining new
+ReadsWhole remaining old new (Err (CannotRead path)) = IsBroken remaining old new
+ReadsWhole remaining old new (Err f) = ⊤
 
 -- of an input of which something is asked
 abbrev pub ReadsAsk : {R V : Type 0} → Ask → (R → Option (List ℕ)) → Option (Device R) → Option (Device R)
     → Result V Failure → Type 0
 ReadsAsk Check remaining old new r = ReadsOne remaining old new r
-ReadsAsk Canonical remaining old new r = ReadsWhole remaining new r
+ReadsAsk Canonical remaining old new r = ReadsWhole remaining old new r
 ReadsAsk Hash remaining old new r = ReadsOne remaining old new r
 
 -- of the inputs a and b of a comparison, at the paths p and q, which a' and b' are behind it. A comes first: where it

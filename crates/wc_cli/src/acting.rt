@@ -19,6 +19,7 @@ use wc_canon::{Comparison, Job, Side, compare_from, run};
 use wc_device::Device;
 
 /// Writes the answer to an input.
+#[tactic(auto, using(crate::proofs::Endings::made))]
 fn make<'a, R: Read, W: Write>(
     alloc: Global,
     job: Job,

@@ -5,7 +5,7 @@ ghost use Rattle.std.specs.Io.KnownBytes.{IsAtEnd};
 ghost use Rattle.wc_device.specs.Device.{device_inner, has_failed, has_ended, was_asked_again, read_count};
 ghost use Rattle.wc_cli.specs.Inner.Reading.{Reads};
 ghost use Rattle.wc_cli.specs.Inputs.{is_new_input};
-ghost use Rattle.wc_cli.specs.Looking.{IsCutOff, IsLookedAt};
+ghost use Rattle.wc_cli.specs.Looking.{IsCutOff, IsBroken, IsLookedAt};
 
 use crate::failure::Failure;
 use std::alloc::Global;
@@ -64,6 +64,7 @@ pub(crate) fn read_all<'a, R: Read>(
     ensures held { has_failed r.new ≡ true → length bytes.new.items ≡ read_count r.new }
     ensures reads { Reads path.now (has_failed r.new) result }
     ensures end { OnOk result (IsAtEnd (R.remaining (device_inner r.new))) }
+    ensures cut { has_failed r.new ≡ true → IsBroken R.remaining (Some r.old) (Some r.new) }
     ensures again { was_asked_again r.new ≡ was_asked_again r.old }
 {
     let mut buffer = [0u8; PIECE];

@@ -104,7 +104,7 @@ fn canonical<'a, R: Read>(
     requires more { has_ended r.old ≡ false }
     requires unread { read_count r.old ≡ 0 }
     ensures finds { Finds Ask.Canonical path.now named (R.remaining (device_inner r.old)) (has_failed r.new) result }
-    ensures looks { ReadsWhole R.remaining (Some r.new) result }
+    ensures looks { ReadsWhole R.remaining (Some r.old) (Some r.new) result }
     ensures again { was_asked_again r.new ≡ was_asked_again r.old }
 {
     let mut bytes = Vec::new(alloc);
