@@ -2,6 +2,7 @@
 
 import filecmp
 import os
+import re
 import shutil
 import subprocess
 
@@ -29,7 +30,7 @@ def crates():
 def gate_takes_names():
     """Whether the toolchain's `rt ci` takes the names of crates: then what passed in one is kept for the machine."""
     told = subprocess.run(["rt", "help"], stdout=subprocess.PIPE, stderr=subprocess.STDOUT, text=True)
-    return "rt ci [NAME" in told.stdout
+    return re.search(r"^ *rt ci .*NAME", told.stdout, re.M) is not None
 
 
 def copy_to(folder):
