@@ -1,27 +1,30 @@
-// Loaded before the C library: refuses one request for memory, one read or one write of the program.
+// Loaded before the C library: refuses one request for memory, one read, one write or one opening of the program.
 //
-// REFUSED_KIND is `memory`, `read` or `write`, and REFUSED_NUMBER says which of that kind, counted from 1; 0 refuses
-// none. A refused write answers an error, or that it took nothing where TAKES_NOTHING is set. Where READS_FAIL_BEHIND is
-// set, each read behind a refused request for memory fails. TAKEN_MOST bounds the bytes that a read gives or a write
-// takes; 0 leaves them. At the end the numbers of requests, reads and writes, and the file of the refused read or write,
-// go to the file descriptor REQUESTS_TO.
+// REFUSED_KIND is `memory`, `read`, `write` or `open`, and REFUSED_NUMBER says which of that kind, counted from 1; 0
+// refuses none. A refused write answers an error, or that it took nothing where TAKES_NOTHING is set. Where
+// READS_FAIL_BEHIND is set, each read behind a refused request for memory fails. TAKEN_MOST bounds the bytes that a
+// read gives or a write takes; 0 leaves them. At the end the numbers of requests, reads and writes, and the file of the
+// refused read or write, go to the file descriptor REQUESTS_TO, and behind them, a line each, what was to be opened.
 #define _GNU_SOURCE
 #include <dlfcn.h>
 #include <errno.h>
+#include <fcntl.h>
+#include <stdarg.h>
 #include <stdio.h>
 #include <stdlib.h>
 #include <string.h>
 #include <unistd.h>
 
-enum { MEMORY, READ, WRITE, KINDS };
-static const char *const kinds[KINDS] = {"memory", "read", "write"};
+enum { MEMORY, READ, WRITE, OPEN, KINDS };
+static const char *const kinds[KINDS] = {"memory", "read", "write", "open"};
 static long counts[KINDS], number = -1, most;
 static int kind, takes_nothing, reads_fail_behind, was_denied;
-static char path[4096];
+static char path[4096], opened[65536];
 static void *(*next_malloc)(size_t), *(*next_realloc)(void *, size_t);
 static void *(*next_aligned_alloc)(size_t, size_t);
 static int (*next_posix_memalign)(void **, size_t, size_t);
 static ssize_t (*next_read)(int, void *, size_t), (*next_write)(int, const void *, size_t);
+static int (*next_open)(const char *, int, ...);
 
 static long number_in(const char *name) {
     const char *found = getenv(name);
@@ -94,7 +97,26 @@ ssize_t write(int file, const void *from, size_t size) {
     return takes_nothing ? 0 : -1;
 }
 
+int open(const char *name, int flags, ...) {
+    if (!next_open) next_open = dlsym(RTLD_NEXT, "open");
+    size_t length = strlen(opened);
+    snprintf(opened + length, sizeof opened - length, "\n%s", name);
+    if (is_refused(OPEN)) {
+        errno = EACCES;
+        return -1;
+    }
+    // the mode stands there only where the file may be made
+    mode_t mode = 0;
+    if (flags & O_CREAT) {
+        va_list rest;
+        va_start(rest, flags);
+        mode = va_arg(rest, mode_t);
+        va_end(rest);
+    }
+    return next_open(name, flags, mode);
+}
+
 __attribute__((destructor)) static void tell_requests(void) {
     const char *to = getenv("REQUESTS_TO");
-    if (to) dprintf(atoi(to), "%ld %ld %ld %s", counts[MEMORY], counts[READ], counts[WRITE], path);
+    if (to) dprintf(atoi(to), "%ld %ld %ld %s%s", counts[MEMORY], counts[READ], counts[WRITE], path, opened);
 }
