@@ -10,7 +10,7 @@ use Rattle.wc_binary.proofs.spelling.Modules.{canon-only}
 use Rattle.wc_print.specs.Layout.{layout}
 use Rattle.wc_print.specs.Printed.{text}
 use Rattle.wc_source.specs.Texts.{Txt}
-use Rattle.wc_back.proofs.Reading.{text-of}
+use Rattle.wc_readback.proofs.NameLemmas.Reading.{text-of}
 use Rattle.wc_canon.specs.declared.fault.RunFault.{RunFault}
 use Rattle.wc_canon.specs.declared.running.Job.TheVariants as job
 use Rattle.wc_canon.specs.Input.{KeepsRules, Means, HasAnswer}

@@ -18,9 +18,9 @@ use Rattle.wc_binary.specs.Standard.Module.{type_of, code_of}
 use Rattle.wc_binary.specs.Writing.Values as values
 use Rattle.wc_binary.specs.Writing.Contents as contents
 use Rattle.wc_binary.proofs.spelling.ModuleBytes.{FitsModule}
-use Rattle.wc_printed.specs.Fitting.{FitsOptional, FitsLimits, FitsDesc, FitsImport, FitsFunc, FitsGlobal, FitsExport}
-use Rattle.wc_printed.specs.Fitting.{FitsElem, FitsData, Fits}
-use Rattle.wc_back.specs.Known.{HasFewLocals}
+use Rattle.wc_readback.specs.Grammar.Fitting.{FitsOptional, FitsLimits, FitsDesc, FitsImport, FitsFunc, FitsGlobal}
+use Rattle.wc_readback.specs.Grammar.Fitting.{FitsExport, FitsElem, FitsData, Fits}
+use Rattle.wc_readback.specs.Names.Known.{HasFewLocals}
 
 -- each part of a section
 held : {A : Type 0} (w : A → List ℕ) (F : A → Type 0) (vs : List A) → values.FitsSection w F vs → AllByRecursion F vs

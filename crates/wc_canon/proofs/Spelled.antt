@@ -40,9 +40,9 @@ use Rattle.wc_print.specs.Layout.{export_items, start_items, place_items, elem_i
 use Rattle.wc_print.proofs.Naming.{simple-word, index-word, memory-word, kind-word, type-spelled}
 use Rattle.wc_print.proofs.Putting.{spelled-append}
 use Rattle.wc_print.proofs.Whole.{layout-printable}
-use Rattle.wc_printed.specs.Fitting.{FitsOptional, FitsLimits, FitsDesc, FitsImport, FitsFunc, FitsGlobal, FitsExport}
-use Rattle.wc_printed.specs.Fitting.{FitsElem, FitsData, Fits}
-use Rattle.wc_printed.proofs.Utf8Bytes.{bytes}
+use Rattle.wc_readback.specs.Grammar.Fitting.{FitsOptional, FitsLimits, FitsDesc, FitsImport, FitsFunc, FitsGlobal}
+use Rattle.wc_readback.specs.Grammar.Fitting.{FitsExport, FitsElem, FitsData, Fits}
+use Rattle.wc_readback.proofs.GrammarLemmas.Utf8Bytes.{bytes}
 
 -- each of the items can be read back
 record Spells (is : List Item) : Type 0 where

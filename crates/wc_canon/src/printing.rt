@@ -12,7 +12,7 @@ ghost use Rattle.wc_canon.specs.Printing.{HasText};
 use crate::denoted::accepted_module;
 use crate::fault::Refusal;
 use std::alloc::Global;
-use wc_back::text_of;
+use wc_readback::text_of;
 
 /// The text of the module that the input denotes (Core 1.0, chapter 6), in the layout of `docs/FORMAT.md`, or else the
 /// one first fault of the input. Inputs that denote the same module have the same text.

@@ -20,8 +20,8 @@ use crate::from_reader::read_module;
 use std::alloc::Global;
 use std::io::Read;
 use wc_ast::Module;
-use wc_back::text_of;
 use wc_device::Device;
+use wc_readback::text_of;
 
 /// The canonical bytes of the module that the reader's bytes denote, to the reader's end: the answer that `normalise`
 /// gives to these bytes. Those of a binary aren't held, and where they are refused before their end, the rest isn't

@@ -1,6 +1,0 @@
-use Rattle.wc_back.proofs.Counting.{signs-few, bodies-few}
-use Rattle.wc_back.proofs.Checked.{names-known}
-use Rattle.wc_back.proofs.laws.checked_is_known.Goals as goal
-
-pub returns : goal.returns
-returns c = λ m rules locals printable short. names-known m rules locals (bodies-few m (signs-few m printable short))

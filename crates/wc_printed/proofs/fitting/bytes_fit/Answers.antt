@@ -1,6 +1,0 @@
-use Rattle.std.proofs.Common.{arith}
-use Rattle.wc_printed.proofs.Each.{each-item}
-use Rattle.wc_printed.proofs.fitting.bytes_fit.Goals as goal
-
-pub returns : goal.returns
-returns c = each-item 256 c.args.bytes.now (λ k. omega (arith, c.type_inv.bytes k))

@@ -1,6 +1,0 @@
-use Rattle.std.proofs.Common.{◌^◌, arith}
-use Rattle.wc_printed.proofs.Each.{each-item}
-use Rattle.wc_printed.proofs.fitting.numbers_fit.Goals as goal
-
-pub returns : goal.returns
-returns c = each-item (2 ^ 32) c.args.numbers.now (λ k. omega (arith, c.type_inv.numbers k))

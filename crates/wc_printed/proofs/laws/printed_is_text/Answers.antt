@@ -1,7 +1,0 @@
-use Rattle.std.proofs.Common.{arith}
-use Rattle.wc_body.specs.Standard.Nested.{nesting_limit}
-use Rattle.wc_printed.proofs.Whole.{module-means}
-use Rattle.wc_printed.proofs.laws.printed_is_text.Goals as goal
-
-pub returns : goal.returns
-returns c = λ m h. (module-means nesting_limit (omega arith) m h).derives 0

@@ -1,0 +1,4 @@
+pub mod GrammarLemmas
+pub mod InstructionLemmas
+pub mod FieldLemmas
+pub mod NameLemmas

@@ -1,0 +1,3 @@
+-- What printed instructions say before their names are resolved.
+pub mod Words
+pub mod Bodies

@@ -1,0 +1,4 @@
+pub mod Grammar
+pub mod Instructions
+pub mod Fields
+pub mod Names

@@ -1,0 +1,2 @@
+-- Modules of which the names of the printed text are known.
+pub mod Known

@@ -1,6 +1,0 @@
-pub mod Reading
-pub mod Parts
-pub mod Coding
-pub mod Fields
-pub mod Whole
-pub mod Syntax

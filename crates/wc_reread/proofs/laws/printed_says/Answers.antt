@@ -1,8 +1,0 @@
-use Rattle.wc_reread.proofs.Syntax.{folds-of, syntax-of}
-use Rattle.wc_reread.proofs.laws.printed_says.Goals as goal
-
-pub returns-clause-given : goal.returns-clause-given
-returns-clause-given c = folds-of
-
-pub returns-clause-says : goal.returns-clause-says
-returns-clause-says c = syntax-of

@@ -1,4 +1,0 @@
-pub mod Marks
-pub mod Heads
-pub mod Telling
-pub mod Finished
