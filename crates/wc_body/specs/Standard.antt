@@ -9,7 +9,6 @@ pub mod Pieces
 pub mod ValueBytes
 pub mod InstructionBytes
 pub mod Needed
-pub mod Short
-pub mod Brief
+pub mod Walks
 pub mod Spelled
 pub mod Grammar

@@ -1,4 +1,4 @@
-//! Bodies, entry by entry.
+//! Bodies, entry by entry, and many entries at once, as `runs` tells them.
 
 mod fitting;
 
@@ -7,13 +7,13 @@ ghost use Rattle.wc_body.specs.Drafting.OpenParts.{part_of};
 ghost use Rattle.wc_body.specs.Drafting.PackedBody.{with_end};
 ghost use Rattle.wc_body.specs.declared.builder.BuildFault.TheVariants.{Memory};
 
-use crate::body::{Body, NESTING_LIMIT};
 use crate::bytes::put::{put_begin, put_instr};
 use crate::entry::{Entry, Kind};
-use crate::front::usual_front;
 use crate::instr::{BlockType, Instr};
-use crate::light::after_light;
+use crate::kept::body::{Body, NESTING_LIMIT};
 use crate::needs::Needs;
+use crate::runs::front::usual_front;
+use crate::runs::light::after_light;
 use std::alloc::{AllocError, AllocFailed, Global};
 use std::marker::Model;
 

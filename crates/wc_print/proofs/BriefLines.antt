@@ -18,7 +18,7 @@ use Rattle.wc_body.specs.declared.instr.BlockType.TheVariants.{Empty}
 use Rattle.wc_body.specs.declared.entry.Kind.TheVariants.{Block, Loop, If}
 use Rattle.wc_body.specs.declared.entry.Entry.{Entry}
 use Rattle.wc_body.specs.declared.entry.Entry.TheVariants.{Plain, Begin, Else, End}
-use Rattle.wc_body.specs.Standard.Brief.{signed_byte, op_entry, meant_entry, brief_entry}
+use Rattle.wc_body.specs.Standard.Walks.Brief.{signed_byte, op_entry, meant_entry, brief_entry}
 use Rattle.wc_body.specs.Standard.Entries.{mark}
 use Rattle.wc_tokens.specs.Standard.Lexemes.{is_idchar}
 use Rattle.wc_print.specs.Printed.{word, below, printed}

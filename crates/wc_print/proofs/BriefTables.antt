@@ -18,7 +18,7 @@ use Rattle.wc_ops.specs.declared.op.OpByte.TheVariants.{Known, Float, Unknown}
 use Rattle.wc_ops.specs.Standard.Opcodes.{row}
 use Rattle.wc_ops.specs.Reading.OpcodeMeaning.{meaning}
 use Rattle.wc_ops.proofs.Meanings.OfBytes.{row-meaning}
-use Rattle.wc_body.specs.Standard.Brief.{signed_byte}
+use Rattle.wc_body.specs.Standard.Walks.Brief.{signed_byte}
 use Rattle.wc_print.specs.declared.lines.TheConstants.{LINES}
 use Rattle.wc_print.specs.declared.operands.TheConstants.{TEXTS}
 use Rattle.wc_print.specs.Printed.{word, part, after, below, printed}

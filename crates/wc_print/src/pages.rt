@@ -6,7 +6,7 @@ ghost use Rattle.std.specs.List.{flat_map};
 ghost use Rattle.wc_ops.specs.Standard.Opcodes.{memory};
 ghost use Rattle.wc_body.specs.declared.entry.Entry.{Entry};
 ghost use Rattle.wc_body.specs.Standard.Entries.{mark};
-ghost use Rattle.wc_body.specs.Standard.Brief.{brief_entry};
+ghost use Rattle.wc_body.specs.Standard.Walks.Brief.{brief_entry};
 ghost use Rattle.wc_print.specs.Printed.{below, closing, word};
 ghost use Rattle.wc_print.specs.Printable.{Put};
 ghost use Rattle.wc_print.specs.Going.{Puts, Behind};

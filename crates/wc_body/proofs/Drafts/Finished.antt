@@ -11,7 +11,7 @@ use Rattle.wc_body.specs.Drafting.OpenParts.{part_in}
 use Rattle.wc_body.specs.Drafting.PackedBody.{IsBody, IsStarted}
 use Rattle.wc_body.proofs.Drafts.BuildingLemmas.{building-whole, depth-is}
 use Rattle.wc_body.proofs.Drafts.NeedsLemmas.{needs-flatten}
-use Rattle.wc_body.proofs.Drafts.FrontRun.{Fronted}
+use Rattle.wc_body.proofs.Drafts.Runs.FrontRun.{Fronted}
 
 pub started-body : (x : List ℕ) (parts : List Part) (after_else : Bool) (needs : Needs)
     → IsStarted x parts after_else needs → length (drafted (unpacked x)).around ≡ 0 → IsBody x needs

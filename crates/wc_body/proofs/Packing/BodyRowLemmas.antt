@@ -2,7 +2,7 @@
 use Rattle.std.proofs.Common.{◌≡◌, ℕ, suc, List, [], ◌∷◌, ◌++◌, length, take, drop, refl, sym, ap, ◌∙◌, arith}
 use Rattle.std.proofs.lemmas.List.{take-append-le, drop-append-le, length-append}
 use Rattle.std.proofs.Math.Seq.{take-length, drop-length}
-use Rattle.wc_body.specs.declared.place.Place.{Place}
+use Rattle.wc_body.specs.declared.kept.place.Place.{Place}
 use Rattle.wc_body.specs.declared.needs.Needs.{Needs}
 use Rattle.wc_body.specs.declared.instr.BlockType.{BlockType}
 use Rattle.wc_body.specs.declared.instr.Instr.{Instr}
@@ -12,7 +12,7 @@ use Rattle.wc_body.specs.Reading.Unpacked.{unpacked}
 use Rattle.wc_body.specs.Drafting.PackedBody.{IsBody}
 use Rattle.wc_body.specs.declared.needs.OwnNeeds.{OwnNeeds}
 use Rattle.wc_body.specs.Standard.Needed.{nothing, needs_of, own_of, joined, with_bodies}
-use Rattle.wc_body.specs.declared.place.ShortPlace.{ShortPlace}
+use Rattle.wc_body.specs.declared.kept.place.ShortPlace.{ShortPlace}
 use Rattle.wc_body.specs.Drafting.Places.{places_of, AreOthers}
 use Rattle.wc_body.specs.Drafting.BodyRow.{bodies_at, IsBodyOf, AreBodies, IsRow}
 use Rattle.wc_body.proofs.Packing.PlaceLemmas.{Placed}

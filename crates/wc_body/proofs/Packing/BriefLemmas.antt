@@ -17,14 +17,14 @@ use Rattle.wc_ops.specs.declared.op.MemOp.{MemOp}
 use Rattle.wc_ops.specs.declared.op.MemOp.TheVariants.{I32Load}
 use Rattle.wc_ops.specs.Standard.Opcodes.{memory}
 use Rattle.wc_ops.specs.Reading.OpcodeMeaning.{meaning}
-use Rattle.wc_body.specs.declared.brief.Shape.{Shape}
-use Rattle.wc_body.specs.declared.brief.TheConstants.{SHAPES, OTHER, BARE}
+use Rattle.wc_body.specs.declared.walks.brief.Shape.{Shape}
+use Rattle.wc_body.specs.declared.walks.brief.TheConstants.{SHAPES, OTHER, BARE}
 use Rattle.wc_body.specs.declared.instr.Instr.TheVariants.{Simple, Index, Mem, I32Const, I64Const}
 use Rattle.wc_body.specs.declared.instr.BlockType.TheVariants.{Empty}
 use Rattle.wc_body.specs.declared.entry.Kind.TheVariants.{Block, Loop, If}
 use Rattle.wc_body.specs.declared.entry.Entry.{Entry}
 use Rattle.wc_body.specs.declared.entry.Entry.TheVariants.{Plain, Begin, Else, End}
-use Rattle.wc_body.specs.Standard.Brief.{signed_byte, meant_entry, has_integer}
+use Rattle.wc_body.specs.Standard.Walks.Brief.{signed_byte, meant_entry, has_integer}
 use Rattle.wc_body.specs.Reading.Briefly.{meant_shape, shape_at, BeginsWith}
 use Rattle.wc_body.specs.Reading.Fronts.{unsigned_front, signed_front, found, meant_front, entry_front}
 use Rattle.wc_body.proofs.Packing.Integers.{unsigned-found, signed-found}

@@ -1,8 +1,8 @@
 -- Places in short, and the others.
 use Rattle.std.proofs.Common.{◌≡◌, suc, List, [], ◌∷◌, ◌++◌, length, map, Option, Some, None, refl, ap, ◌∙◌}
 use Rattle.std.proofs.lemmas.List.{map-append, length-map}
-use Rattle.wc_body.specs.declared.place.Place.{Place}
-use Rattle.wc_body.specs.declared.place.ShortPlace.{ShortPlace}
+use Rattle.wc_body.specs.declared.kept.place.Place.{Place}
+use Rattle.wc_body.specs.declared.kept.place.ShortPlace.{ShortPlace}
 use Rattle.wc_body.specs.Drafting.Places.{told, filled, AreMissing, places_of, AreOthers}
 
 filled-count : (ps : List (Option Place)) (os : List Place) → AreMissing ps os → length (filled ps os) ≡ length ps

@@ -1,7 +1,7 @@
 -- What a row of bodies keeps: the bytes of all of them, and of each how many they are and what it needs of a
 -- function; and what all need.
 use Rattle.std.specs.Prelude.{◌≡◌, ◌≤◌, ℕ, List, [], ◌∷◌, length, take, drop}
-use Rattle.wc_body.specs.declared.place.Place.{Place}
+use Rattle.wc_body.specs.declared.kept.place.Place.{Place}
 use Rattle.wc_body.specs.declared.needs.Needs.{Needs}
 use Rattle.wc_body.specs.declared.needs.OwnNeeds.{OwnNeeds}
 use Rattle.wc_body.specs.Standard.Needed.{nothing, needs_of, own_of, with_bodies}

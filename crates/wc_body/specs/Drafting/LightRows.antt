@@ -12,9 +12,9 @@ use Rattle.wc_ops.specs.declared.op.IndexOp.TheVariants.{Br, BrIf, Call, LocalGe
 use Rattle.wc_ops.specs.declared.op.IndexOp.TheVariants.{GlobalSet}
 use Rattle.wc_ops.specs.Standard.Opcodes.{row, memory}
 use Rattle.wc_ops.specs.Reading.OpcodeMeaning.{meaning}
-use Rattle.wc_body.specs.declared.light.Light.{Light}
-use Rattle.wc_body.specs.declared.light.LightNeeds.{LightNeeds}
-use Rattle.wc_body.specs.declared.light.TheConstants.{OTHER, BARE, CONSTANT, LOCAL, LABEL, OUTER, ACCESS_8}
+use Rattle.wc_body.specs.declared.runs.light.Light.{Light}
+use Rattle.wc_body.specs.declared.runs.light.LightNeeds.{LightNeeds}
+use Rattle.wc_body.specs.declared.runs.light.TheConstants.{OTHER, BARE, CONSTANT, LOCAL, LABEL, OUTER, ACCESS_8}
 use Rattle.wc_body.specs.declared.needs.Needs.{Needs}
 use Rattle.wc_body.specs.Standard.Needed.{with_index}
 

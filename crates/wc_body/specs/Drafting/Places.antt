@@ -1,7 +1,7 @@
 -- How a row keeps the places of its bodies: most of them in short, and the others on their own, in the same order.
 use Rattle.std.specs.Prelude.{◌≡◌, ◌==◌, ◌-◌, ◌^◌, if◌then◌else◌, List, [], ◌∷◌, map, Option, Some, None}
-use Rattle.wc_body.specs.declared.place.Place.{Place}
-use Rattle.wc_body.specs.declared.place.ShortPlace.{ShortPlace}
+use Rattle.wc_body.specs.declared.kept.place.Place.{Place}
+use Rattle.wc_body.specs.declared.kept.place.ShortPlace.{ShortPlace}
 
 -- the place of so small a body, which sets no global
 abbrev pub small : ShortPlace → Place

@@ -8,11 +8,11 @@ use Rattle.wc_ops.specs.declared.op.SimpleOp.{SimpleOp}
 use Rattle.wc_ops.specs.declared.op.SimpleOp.TheVariants.{MemorySize, MemoryGrow}
 use Rattle.wc_ops.specs.Standard.Opcodes.{memory}
 use Rattle.wc_ops.specs.Reading.OpcodeMeaning.{meaning}
-use Rattle.wc_body.specs.declared.brief.Brief.{Brief}
-use Rattle.wc_body.specs.declared.brief.Shape.{Shape}
-use Rattle.wc_body.specs.declared.brief.TheConstants.{OTHER, BARE, ONE, BEGIN, ACCESS_8}
+use Rattle.wc_body.specs.declared.walks.brief.Brief.{Brief}
+use Rattle.wc_body.specs.declared.walks.brief.Shape.{Shape}
+use Rattle.wc_body.specs.declared.walks.brief.TheConstants.{OTHER, BARE, ONE, BEGIN, ACCESS_8}
 use Rattle.wc_body.specs.declared.entry.Entry.{Entry}
-use Rattle.wc_body.specs.Standard.Brief.{brief_entry, has_integer}
+use Rattle.wc_body.specs.Standard.Walks.Brief.{brief_entry, has_integer}
 use Rattle.wc_body.specs.Reading.Fronts.{entry_front}
 
 -- no immediate, or the byte that the standard keeps for later

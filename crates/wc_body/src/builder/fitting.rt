@@ -9,7 +9,7 @@ ghost use Rattle.wc_body.specs.declared.entry.Entry.TheVariants.{Plain};
 
 use crate::builder::BodyBuilder;
 use crate::instr::Instr;
-use crate::light::before::{is_alone, note_padded, note_two};
+use crate::runs::light::before::{is_alone, note_padded, note_two};
 
 /// How many bytes an opcode and an integer have at most.
 const INTEGER_LIMIT: usize = 11;

@@ -6,7 +6,7 @@ use Rattle.wc_ops.specs.declared.op.OpByte.{OpByte}
 use Rattle.wc_ops.specs.declared.op.OpByte.TheVariants.{Known, Float, Unknown}
 use Rattle.wc_ops.specs.Standard.Opcodes.{row}
 use Rattle.wc_ops.specs.Reading.OpcodeMeaning.{meaning}
-use Rattle.wc_body.specs.Standard.Brief.{signed_byte}
+use Rattle.wc_body.specs.Standard.Walks.Brief.{signed_byte}
 use Rattle.wc_print.specs.Printed.{word, number, integer, Item, after, below, printed}
 use Rattle.wc_print.specs.Lines.{told, offset_items}
 

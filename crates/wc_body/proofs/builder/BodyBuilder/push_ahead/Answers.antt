@@ -1,4 +1,5 @@
-use Rattle.wc_body.proofs.Drafts.FreeRun.{ran-none, ran-front, ran-one, one-shorter, later-shorter, ran-within, ran-adds}
+use Rattle.wc_body.proofs.Drafts.Runs.FreeRun.{ran-none, ran-front, ran-one, one-shorter, later-shorter, ran-within}
+use Rattle.wc_body.proofs.Drafts.Runs.FreeRun.{ran-adds}
 use Rattle.std.proofs.Common.{refl}
 use Rattle.wc_body.proofs.builder.BodyBuilder.push_ahead.Goals as goal
 

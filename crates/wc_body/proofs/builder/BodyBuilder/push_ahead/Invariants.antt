@@ -1,5 +1,5 @@
 use Rattle.std.proofs.Common.{length}
-use Rattle.wc_body.proofs.Drafts.FreeRun.{Ran}
+use Rattle.wc_body.proofs.Drafts.Runs.FreeRun.{Ran}
 use Rattle.wc_body.proofs.builder.BodyBuilder.push_ahead.Given as goal
 
 abbrev pub invariant-runs : goal.invariant-runs

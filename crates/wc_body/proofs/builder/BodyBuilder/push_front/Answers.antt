@@ -1,6 +1,6 @@
 use Rattle.std.proofs.Common.{◌≡◌, ◌<◌, length, refl, arith, rules}
-use Rattle.wc_body.proofs.Drafts.FrontRun.{fronted-none, fronted-usual, fronted-run, fronted-length, fronted-room}
-use Rattle.wc_body.proofs.Drafts.FrontRun.{fronted-kept, fronted-added, run-shorter, usual-shorter}
+use Rattle.wc_body.proofs.Drafts.Runs.FrontRun.{fronted-none, fronted-usual, fronted-run, fronted-length, fronted-room}
+use Rattle.wc_body.proofs.Drafts.Runs.FrontRun.{fronted-kept, fronted-added, run-shorter, usual-shorter}
 use Rattle.wc_body.proofs.builder.BodyBuilder.push_front.Goals as goal
 
 pub entries-init : goal.entries-init

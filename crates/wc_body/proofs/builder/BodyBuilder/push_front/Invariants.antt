@@ -1,5 +1,5 @@
 use Rattle.std.proofs.Common.{◌≡◌, false, length}
-use Rattle.wc_body.proofs.Drafts.FrontRun.{Fronted}
+use Rattle.wc_body.proofs.Drafts.Runs.FrontRun.{Fronted}
 use Rattle.wc_body.proofs.builder.BodyBuilder.push_front.Given as goal
 
 abbrev pub invariant-entries : goal.invariant-entries

@@ -5,7 +5,7 @@ use mir.Syntax.{w32}
 use Rattle.wc_body.specs.declared.instr.Instr.TheVariants.{I32Const}
 use Rattle.wc_body.specs.Drafting.FreeEntries.{SpellsInteger}
 use Rattle.wc_body.proofs.Packing.Integers.{signed-stands}
-use Rattle.wc_body.proofs.Drafts.FreeIntegers.{free-one}
+use Rattle.wc_body.proofs.Drafts.Runs.FreeIntegers.{free-one}
 use Rattle.wc_body.proofs.builder.BodyBuilder.push_i32.Goals as goal
 
 pub returns-clause-some : goal.returns-clause-some

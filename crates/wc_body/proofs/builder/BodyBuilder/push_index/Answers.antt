@@ -1,6 +1,6 @@
 use Rattle.std.proofs.Common.{refl}
 use Rattle.wc_body.specs.declared.instr.Instr.TheVariants.{Index}
-use Rattle.wc_body.proofs.Drafts.FreeIntegers.{free-one}
+use Rattle.wc_body.proofs.Drafts.Runs.FreeIntegers.{free-one}
 use Rattle.wc_body.proofs.builder.BodyBuilder.push_index.Goals as goal
 
 pub returns-clause-some : goal.returns-clause-some

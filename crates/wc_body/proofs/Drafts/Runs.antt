@@ -1,0 +1,9 @@
+-- Runs of entries, told from the bytes that spell them.
+pub mod FrontLemmas
+pub mod LightLemmas
+pub mod LongLemmas
+pub mod PaddedLemmas
+pub mod FrontRun
+pub mod HandedLemmas
+pub mod FreeIntegers
+pub mod FreeRun

@@ -1,5 +1,0 @@
-use Rattle.wc_body.proofs.front.usual_front.Goals as goal
-
-pub returns-in-Some-clause-some : goal.returns-in-Some-clause-some
-returns-in-Some-clause-some c =
-    (_, _, c.in-Some.ensures.some _, c.after_marks.ensures)

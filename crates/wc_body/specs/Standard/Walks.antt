@@ -1,0 +1,3 @@
+-- What the ways over entries give that are faster than one entry at a time.
+pub mod Short
+pub mod Brief
