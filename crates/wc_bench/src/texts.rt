@@ -5,9 +5,9 @@ use anyhow::{Result, bail};
 use std::alloc::Global;
 use std::time::Instant;
 use wc_ast::Module;
-use wc_names::resolve;
+use wc_parse::parse;
+use wc_resolve::resolve;
 use wc_surface::{Field, FuncSeen, Surface};
-use wc_text::parse;
 use wc_tokens::{Tokens, lex};
 
 /// The tokens of the text.

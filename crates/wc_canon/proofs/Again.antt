@@ -9,7 +9,7 @@ use Rattle.wc_binary.specs.Standard.Module.{Canon}
 use Rattle.wc_binary.proofs.spelling.Modules.{canon-only}
 use Rattle.wc_print.specs.Layout.{layout}
 use Rattle.wc_print.specs.Printed.{text}
-use Rattle.wc_source.specs.Texts.{Txt}
+use Rattle.wc_read_text.specs.Texts.{Txt}
 use Rattle.wc_readback.proofs.NameLemmas.Reading.{text-of}
 use Rattle.wc_canon.specs.declared.fault.RunFault.{RunFault}
 use Rattle.wc_canon.specs.declared.running.Job.TheVariants as job

@@ -11,8 +11,8 @@ use Rattle.wc_check.specs.Standard.Rules.{IsFirstOf}
 use Rattle.wc_check.specs.Standard.Broken.{broken}
 use Rattle.wc_print.specs.Layout.{layout}
 use Rattle.wc_print.specs.Printed.{text as text_of}
-use Rattle.wc_source.specs.declared.fault.TextFault.{TextFault}
-use Rattle.wc_source.specs.Faults.{IsFault}
+use Rattle.wc_read_text.specs.declared.fault.TextFault.{TextFault}
+use Rattle.wc_read_text.specs.Faults.{IsFault}
 use Rattle.wc_canon.specs.declared.fault.Refusal.{Refusal}
 use Rattle.wc_canon.specs.declared.fault.Refusal.TheVariants.{Binary, Lex, Syntax, Names, Check, Oversize, Memory as NoMemory}
 use Rattle.wc_canon.specs.Inner.Faults.{reading_refusal, checking_refusal}

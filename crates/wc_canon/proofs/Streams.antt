@@ -10,10 +10,10 @@ use Rattle.wc_binary.specs.Standard.Module.{Bin, Canon}
 use Rattle.wc_binary.specs.Standard.Decoding.{Decodes, DecodesNear}
 use Rattle.wc_print.specs.Layout.{layout}
 use Rattle.wc_print.specs.Printed.{text as text_of}
-use Rattle.wc_source.specs.declared.fault.TextFault.{TextFault}
-use Rattle.wc_source.specs.declared.fault.TextFault.TheVariants as text
-use Rattle.wc_source.specs.Texts.{Txt}
-use Rattle.wc_source.specs.Faults.{IsFault}
+use Rattle.wc_read_text.specs.declared.fault.TextFault.{TextFault}
+use Rattle.wc_read_text.specs.declared.fault.TextFault.TheVariants as text
+use Rattle.wc_read_text.specs.Texts.{Txt}
+use Rattle.wc_read_text.specs.Faults.{IsFault}
 use Rattle.wc_canon.specs.declared.fault.Refusal.{Refusal}
 use Rattle.wc_canon.specs.declared.fault.Refusal.TheVariants.{Binary, Lex, Syntax, Names, Check, Oversize, Memory as NoMemory}
 use Rattle.wc_canon.specs.declared.fault.RunFault.{RunFault}

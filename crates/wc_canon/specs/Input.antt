@@ -7,10 +7,10 @@ use Rattle.wc_check.specs.Standard.Rules.{first}
 use Rattle.wc_check.specs.Standard.Broken.{broken}
 use Rattle.wc_binary.specs.declared.fault.BinWhy.{BinWhy}
 use Rattle.wc_binary.specs.Standard.Module.{Bin, Canon, FirstFault}
-use Rattle.wc_source.specs.declared.fault.TextFault.{TextFault}
-use Rattle.wc_source.specs.declared.fault.TextFault.TheVariants as text
-use Rattle.wc_source.specs.Texts.{Txt}
-use Rattle.wc_source.specs.Faults.{FirstFault as FirstTextFault}
+use Rattle.wc_read_text.specs.declared.fault.TextFault.{TextFault}
+use Rattle.wc_read_text.specs.declared.fault.TextFault.TheVariants as text
+use Rattle.wc_read_text.specs.Texts.{Txt}
+use Rattle.wc_read_text.specs.Faults.{FirstFault as FirstTextFault}
 use Rattle.wc_canon.specs.declared.fault.Refusal.{Refusal}
 use Rattle.wc_canon.specs.declared.fault.Refusal.TheVariants.{Binary, Lex, Syntax, Names, Check, Oversize, Memory}
 

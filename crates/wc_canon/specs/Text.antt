@@ -8,8 +8,8 @@ use Rattle.wc_tokens.specs.declared.fault.LexWhy.{LexWhy}
 use Rattle.wc_tokens.specs.declared.fault.LexWhy.TheVariants as lex
 use Rattle.wc_syntax.specs.declared.why.SynWhy.{SynWhy}
 use Rattle.wc_syntax.specs.declared.why.SynWhy.TheVariants as syn
-use Rattle.wc_targets.specs.declared.why.NameWhy.{NameWhy}
-use Rattle.wc_targets.specs.declared.why.NameWhy.TheVariants as names
+use Rattle.wc_resolve_code.specs.declared.why.NameWhy.{NameWhy}
+use Rattle.wc_resolve_code.specs.declared.why.NameWhy.TheVariants as names
 use Rattle.wc_check.specs.declared.fault.Item.{Item}
 use Rattle.wc_check.specs.declared.fault.Item.TheVariants.{Import, Func, Instr, Table, Memory, Global}
 use Rattle.wc_check.specs.declared.fault.Item.TheVariants.{Export, Start, Elem, Data}

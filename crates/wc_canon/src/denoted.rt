@@ -8,7 +8,7 @@ use crate::fault::Refusal;
 use std::alloc::Global;
 use wc_ast::Module;
 use wc_binary::{BinFault, decode};
-use wc_source::read;
+use wc_read_text::read;
 
 /// Whether an input is a binary, which its first byte tells: 00. Any other input is a text, also one without a byte.
 pub(crate) fn is_binary(input: &[u8]) -> bool

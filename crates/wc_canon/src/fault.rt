@@ -5,9 +5,9 @@ use std::fmt;
 use thiserror::Error;
 use wc_binary::{BinFault, BinWhy, EncFault};
 use wc_check::{CheckFault, CheckWhy, Item};
-use wc_source::TextFault;
+use wc_read_text::TextFault;
+use wc_resolve_code::NameWhy;
 use wc_syntax::SynWhy;
-use wc_targets::NameWhy;
 use wc_tokens::LexWhy;
 
 /// Why an input has no canonical bytes. It is displayed by its text, which [`render`](crate::render) gives by value.

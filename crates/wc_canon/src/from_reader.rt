@@ -19,7 +19,7 @@ use std::io::Read;
 use wc_ast::Module;
 use wc_binary::decode_from;
 use wc_device::Device;
-use wc_source::read;
+use wc_read_text::read;
 
 /// How many bytes the first read is offered.
 const PIECE: usize = 4096;

@@ -10,8 +10,8 @@ use std::alloc::{AllocError, Global};
 use std::fmt;
 use wc_binary::BinWhy;
 use wc_check::{CheckWhy, Item};
+use wc_resolve_code::NameWhy;
 use wc_syntax::SynWhy;
-use wc_targets::NameWhy;
 use wc_tokens::LexWhy;
 
 fn reason(why: BinWhy) -> &'static str

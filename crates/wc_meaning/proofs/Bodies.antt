@@ -18,7 +18,7 @@ use Rattle.wc_body.specs.Standard.Nested.{Region, Code, empty, op, region, choic
 use Rattle.wc_body.specs.Standard.Placed.{placed, mapped}
 use Rattle.wc_body.specs.Standard.Throughout.{Throughout}
 use Rattle.wc_ast.specs.declared.export.ExportKind.TheVariants as kind
-use Rattle.wc_targets.specs.declared.why.NameWhy.TheVariants.{UnknownId, LabelDiffers}
+use Rattle.wc_resolve_code.specs.declared.why.NameWhy.TheVariants.{UnknownId, LabelDiffers}
 use Rattle.wc_spaces.specs.Standard.Spaces.{is_named, place_of}
 use Rattle.wc_surface.specs.declared.type_use.User.{User as StoredUser}
 use Rattle.wc_surface.specs.declared.type_use.User.TheVariants as user
@@ -31,18 +31,18 @@ use Rattle.wc_surface.specs.Standard.Written.TypeUses.{TypeUse}
 use Rattle.wc_surface.specs.Standard.Written.Instructions.{Plain, simple, indexed, br_table, call_indirect, access}
 use Rattle.wc_surface.specs.Standard.Written.Instructions.{i32_const, i64_const, BlockType, short, use_of, Head, Instrs}
 use Rattle.wc_surface.specs.Standard.Written.Fields.{Field}
-use Rattle.wc_drafts.specs.Stored.TypeUses.{use_as}
-use Rattle.wc_drafts.specs.Stored.Rows.{Rows, index_token}
-use Rattle.wc_drafts.specs.Stored.Bodies.{Places, places_in, first_label, operand_as, plain_as, type_as}
-use Rattle.wc_drafts.specs.Stored.Bodies.{head_as, code_as, body_with}
-use Rattle.wc_fields.specs.Stored.Fields.{field_as}
-use Rattle.wc_targets.specs.Standard.Contexts.{Declared, Context as StoredContext}
-use Rattle.wc_targets.specs.Standard.Operands as operands
-use Rattle.wc_targets.specs.Standard.Instructions as instructions
-use Rattle.wc_targets.specs.Standard.Heads as heads
-use Rattle.wc_targets.specs.Standard.Bodies as bodies
-use Rattle.wc_funcs.specs.Standard.Contexts as contexts
-use Rattle.wc_funcs.specs.Standard.Locals as old_locals
+use Rattle.wc_parse_code.specs.Stored.TypeUses.{use_as}
+use Rattle.wc_parse_code.specs.Stored.Rows.{Rows, index_token}
+use Rattle.wc_parse_code.specs.Stored.Bodies.{Places, places_in, first_label, operand_as, plain_as, type_as}
+use Rattle.wc_parse_code.specs.Stored.Bodies.{head_as, code_as, body_with}
+use Rattle.wc_parse_field.specs.Stored.Fields.{field_as}
+use Rattle.wc_resolve_code.specs.Standard.Contexts.{Declared, Context as StoredContext}
+use Rattle.wc_resolve_code.specs.Standard.Operands as operands
+use Rattle.wc_resolve_code.specs.Standard.Instructions as instructions
+use Rattle.wc_resolve_code.specs.Standard.Heads as heads
+use Rattle.wc_resolve_code.specs.Standard.Bodies as bodies
+use Rattle.wc_resolve_func.specs.Standard.Contexts as contexts
+use Rattle.wc_resolve_func.specs.Standard.Locals as old_locals
 use Rattle.wc_meaning.specs.Standard.Contexts.{Space, Context, Faults, fault, bytes_in, index_in, index_faults}
 use Rattle.wc_meaning.specs.Standard.Uses.{use_index}
 use Rattle.wc_meaning.specs.Standard.Instructions.{space_of, resolved_plain, resolved_type, plain_faults, differing}

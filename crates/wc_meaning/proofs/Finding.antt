@@ -11,22 +11,22 @@ use Rattle.wc_syntax.specs.declared.role.Role.TheVariants as role
 use Rattle.wc_surface.specs.Standard.Written.Indices.{Index, number, named}
 use Rattle.wc_surface.specs.Standard.Written.Instructions.{Plain, simple, indexed, br_table, call_indirect, access}
 use Rattle.wc_surface.specs.Standard.Written.Instructions.{i32_const, i64_const, BlockType, short, use_of, Head, Instrs}
-use Rattle.wc_drafts.specs.Standard.Tokens.{KeptToken}
-use Rattle.wc_drafts.specs.Standard.Productions.Tokens.{Said, ◌⊳◌}
-use Rattle.wc_drafts.specs.Standard.Productions.Plain.{IsPlain}
-use Rattle.wc_drafts.specs.Standard.Productions.Instructions.{Part, Says}
-use Rattle.wc_drafts.specs.Stored.Rows.{Rows, id_in, type_uses_in, index_token}
-use Rattle.wc_drafts.specs.Stored.Bodies.{places_in}
-use Rattle.wc_drafts.specs.Stored.Order.{place_of}
-use Rattle.wc_drafts.proofs.Storing.Order.{Rises, rises-from}
-use Rattle.wc_drafts.proofs.Storing.Placing.{Placed, placed-all}
-use Rattle.wc_drafts.proofs.Storing.Following.{Follow, follow-range, part}
-use Rattle.wc_drafts.proofs.Storing.Rows.{◌⊕◌, no_rows, plain_rows, head_rows, Rowed, rows-are, rowed-none, rowed-widen}
-use Rattle.wc_drafts.proofs.Storing.Rows.{rowed-append, rowed-swap, rowed-plain, rowed-region, rowed-choice}
-use Rattle.wc_drafts.proofs.Storing.Rows.{rowed-folded}
-use Rattle.wc_drafts.proofs.Storing.Rising.{plain-rises}
-use Rattle.wc_drafts.proofs.Storing.Nested.{first_tokens, second_tokens}
-use Rattle.wc_drafts.proofs.Storing.Folded.{condition_tokens, then_tokens}
+use Rattle.wc_parse_code.specs.Standard.Tokens.{KeptToken}
+use Rattle.wc_parse_code.specs.Standard.Productions.Tokens.{Said, ◌⊳◌}
+use Rattle.wc_parse_code.specs.Standard.Productions.Plain.{IsPlain}
+use Rattle.wc_parse_code.specs.Standard.Productions.Instructions.{Part, Says}
+use Rattle.wc_parse_code.specs.Stored.Rows.{Rows, id_in, type_uses_in, index_token}
+use Rattle.wc_parse_code.specs.Stored.Bodies.{places_in}
+use Rattle.wc_parse_code.specs.Stored.Order.{place_of}
+use Rattle.wc_parse_code.proofs.Storing.Order.{Rises, rises-from}
+use Rattle.wc_parse_code.proofs.Storing.Placing.{Placed, placed-all}
+use Rattle.wc_parse_code.proofs.Storing.Following.{Follow, follow-range, part}
+use Rattle.wc_parse_code.proofs.Storing.Rows.{◌⊕◌, no_rows, plain_rows, head_rows, Rowed, rows-are, rowed-none}
+use Rattle.wc_parse_code.proofs.Storing.Rows.{rowed-widen, rowed-append, rowed-swap, rowed-plain, rowed-region}
+use Rattle.wc_parse_code.proofs.Storing.Rows.{rowed-choice, rowed-folded}
+use Rattle.wc_parse_code.proofs.Storing.Rising.{plain-rises}
+use Rattle.wc_parse_code.proofs.Storing.Nested.{first_tokens, second_tokens}
+use Rattle.wc_parse_code.proofs.Storing.Folded.{condition_tokens, then_tokens}
 use Rattle.wc_meaning.specs.Placed.{IndexPlaced, LabelsPlaced, PlainPlaced, TypePlaced, HeadPlaced, IsPlaced}
 
 -- ---- one row

@@ -15,15 +15,15 @@ use Rattle.wc_surface.specs.Standard.Identifiers.{Identifier}
 use Rattle.wc_surface.specs.Standard.Written.TypeUses.{Param, TypeUse}
 use Rattle.wc_surface.specs.Standard.Written.Instructions.{Instrs}
 use Rattle.wc_surface.specs.Standard.Written.Fields.{Local, Field}
-use Rattle.wc_drafts.specs.Stored.TypeUses.{name_at, names_from, use_as}
-use Rattle.wc_drafts.specs.Stored.Rows.{rows_of}
-use Rattle.wc_drafts.specs.Stored.Bodies.{body_as}
-use Rattle.wc_fields.specs.Stored.Fields.{local_as, field_as}
-use Rattle.wc_targets.specs.Standard.Contexts.{Declared}
-use Rattle.wc_declared.specs.Standard.Spaces.{texts}
-use Rattle.wc_funcs.specs.Standard.Locals as old
-use Rattle.wc_funcs.specs.Standard.Funcs as old_funcs
-use Rattle.wc_funcs.specs.Standard.Constants as old_constants
+use Rattle.wc_parse_code.specs.Stored.TypeUses.{name_at, names_from, use_as}
+use Rattle.wc_parse_code.specs.Stored.Rows.{rows_of}
+use Rattle.wc_parse_code.specs.Stored.Bodies.{body_as}
+use Rattle.wc_parse_field.specs.Stored.Fields.{local_as, field_as}
+use Rattle.wc_resolve_code.specs.Standard.Contexts.{Declared}
+use Rattle.wc_declare.specs.Standard.Spaces.{texts}
+use Rattle.wc_resolve_func.specs.Standard.Locals as old
+use Rattle.wc_resolve_func.specs.Standard.Funcs as old_funcs
+use Rattle.wc_resolve_func.specs.Standard.Constants as old_constants
 use Rattle.wc_meaning.specs.Standard.Contexts.{Space, bytes_in}
 use Rattle.wc_meaning.specs.Standard.Gathered.{types_of}
 use Rattle.wc_meaning.specs.Standard.Uses.{no_type, use_index}

@@ -6,20 +6,20 @@ use Rattle.wc_ast.specs.declared.module.Module.{Module}
 use Rattle.wc_spaces.specs.declared.noted.Fault.{Fault}
 use Rattle.wc_spaces.specs.Standard.Least.{least}
 use Rattle.wc_spaces.proofs.Least.{least-none}
-use Rattle.wc_targets.specs.declared.why.NameWhy.{NameWhy}
+use Rattle.wc_resolve_code.specs.declared.why.NameWhy.{NameWhy}
 use Rattle.wc_surface.specs.declared.field.Field.{Field as StoredField}
 use Rattle.wc_surface.specs.Standard.Written.Fields.{Field}
-use Rattle.wc_fields.specs.Stored.Fields.{field_as}
-use Rattle.wc_declared.specs.Standard.Inner as old_inner
-use Rattle.wc_declared.specs.Standard.Stages as old_stages
-use Rattle.wc_names.specs.Standard.Imports as old_imports
-use Rattle.wc_names.specs.Standard.Ranges as old_ranges
-use Rattle.wc_names.specs.Standard.Globals as old_globals
-use Rattle.wc_names.specs.Standard.Exports as old_exports
-use Rattle.wc_names.specs.Standard.Start as old_start
-use Rattle.wc_names.specs.Standard.Segments as old_segments
-use Rattle.wc_names.specs.Standard.Funcs as old_funcs
-use Rattle.wc_names.specs.Standard.Denoted as old
+use Rattle.wc_parse_field.specs.Stored.Fields.{field_as}
+use Rattle.wc_declare.specs.Standard.Inner as old_inner
+use Rattle.wc_declare.specs.Standard.Stages as old_stages
+use Rattle.wc_resolve.specs.Standard.Imports as old_imports
+use Rattle.wc_resolve.specs.Standard.Ranges as old_ranges
+use Rattle.wc_resolve.specs.Standard.Globals as old_globals
+use Rattle.wc_resolve.specs.Standard.Exports as old_exports
+use Rattle.wc_resolve.specs.Standard.Start as old_start
+use Rattle.wc_resolve.specs.Standard.Segments as old_segments
+use Rattle.wc_resolve.specs.Standard.Funcs as old_funcs
+use Rattle.wc_resolve.specs.Standard.Denoted as old
 use Rattle.wc_meaning.specs.Standard.Contexts.{Context, Faults}
 use Rattle.wc_meaning.specs.Standard.Spaces.{space_faults}
 use Rattle.wc_meaning.specs.Standard.Order.{late_imports, second_starts}

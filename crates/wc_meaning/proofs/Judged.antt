@@ -9,7 +9,7 @@ use Rattle.std.specs.Option.{unwrap_or}
 use lib.Pointwise.{pointwise}
 use Rattle.wc_ops.specs.declared.val_type.ValType.{ValType}
 use Rattle.wc_ast.specs.declared.func_type.FuncType.{FuncType}
-use Rattle.wc_targets.specs.declared.why.NameWhy.TheVariants.{TypeDiffers}
+use Rattle.wc_resolve_code.specs.declared.why.NameWhy.TheVariants.{TypeDiffers}
 use Rattle.wc_spaces.specs.Standard.Spaces.{place_of}
 use Rattle.wc_spaces.specs.Standard.Types.{index_of}
 use Rattle.wc_surface.specs.declared.type_use.User.{User as StoredUser}
@@ -19,14 +19,14 @@ use Rattle.wc_surface.specs.Standard.Keys.{type_bytes, result_bytes, key_of}
 use Rattle.wc_surface.specs.Standard.Written.Indices.{Index, number, named}
 use Rattle.wc_surface.specs.Standard.Written.TypeUses.{Param, TypeUse}
 use Rattle.wc_surface.specs.Standard.Written.Fields.{Field}
-use Rattle.wc_drafts.specs.Stored.TypeUses.{index_as, name_at, names_from, use_as}
-use Rattle.wc_fields.specs.Stored.Fields.{field_as}
-use Rattle.wc_declared.specs.declared.kind.SpaceKind.TheVariants as old_kind
-use Rattle.wc_declared.specs.Standard.Spaces as old_spaces
-use Rattle.wc_declared.specs.Standard.Types as old_types
-use Rattle.wc_declared.specs.Standard.Uses as old
-use Rattle.wc_declared.specs.Standard.Stages as old_stages
-use Rattle.wc_funcs.specs.Standard.Locals as old_locals
+use Rattle.wc_parse_code.specs.Stored.TypeUses.{index_as, name_at, names_from, use_as}
+use Rattle.wc_parse_field.specs.Stored.Fields.{field_as}
+use Rattle.wc_declare.specs.declared.kind.SpaceKind.TheVariants as old_kind
+use Rattle.wc_declare.specs.Standard.Spaces as old_spaces
+use Rattle.wc_declare.specs.Standard.Types as old_types
+use Rattle.wc_declare.specs.Standard.Uses as old
+use Rattle.wc_declare.specs.Standard.Stages as old_stages
+use Rattle.wc_resolve_func.specs.Standard.Locals as old_locals
 use Rattle.wc_meaning.specs.Standard.Contexts.{Faults, fault, bytes_in}
 use Rattle.wc_meaning.specs.Standard.Spaces.{type_space}
 use Rattle.wc_meaning.specs.Standard.Types.{func_type, same, same_type}

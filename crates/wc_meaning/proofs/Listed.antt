@@ -18,29 +18,29 @@ use Rattle.wc_body.specs.declared.instr.Instr.{Instr}
 use Rattle.wc_body.specs.declared.instr.BlockType.{BlockType}
 use Rattle.wc_body.specs.Standard.Nested.{Code}
 use Rattle.wc_spaces.specs.Standard.Spaces.{place_of}
-use Rattle.wc_targets.specs.declared.why.NameWhy.TheVariants.{SecondStart, UnknownId}
-use Rattle.wc_targets.specs.Standard.Contexts.{Declared}
+use Rattle.wc_resolve_code.specs.declared.why.NameWhy.TheVariants.{SecondStart, UnknownId}
+use Rattle.wc_resolve_code.specs.Standard.Contexts.{Declared}
 use Rattle.wc_surface.specs.declared.type_use.User.TheVariants as user
 use Rattle.wc_surface.specs.declared.field.Field.{Field as StoredField}
 use Rattle.wc_surface.specs.Standard.Written.Indices.{Index, number, named}
 use Rattle.wc_surface.specs.Standard.Written.Fields.{Import, Desc, Function, Table, Memory, Global, Field}
 use Rattle.wc_surface.specs.Standard.Written.Fields.{import_field, func_field, table_field, memory_field, global_field}
 use Rattle.wc_surface.specs.Standard.Written.Fields.{export_field, start_field, elem_field, data_field}
-use Rattle.wc_drafts.specs.Stored.TypeUses.{index_as}
-use Rattle.wc_fields.specs.Stored.Fields.{field_as, import_as}
-use Rattle.wc_declared.specs.declared.kind.SpaceKind.TheVariants as old_kind
-use Rattle.wc_declared.specs.Standard.Spaces as old_spaces
-use Rattle.wc_declared.specs.Standard.Uses.{named_index}
-use Rattle.wc_names.specs.declared.counts.Counts.{Counts}
-use Rattle.wc_names.specs.Standard.Counts as old_counts
-use Rattle.wc_names.specs.Standard.Indices as old_indices
-use Rattle.wc_names.specs.Standard.Exports as old_exports
-use Rattle.wc_names.specs.Standard.Start as old_start
-use Rattle.wc_names.specs.Standard.Imports as old_imports
-use Rattle.wc_names.specs.Standard.Ranges as old_ranges
-use Rattle.wc_names.specs.Standard.Globals as old_globals
-use Rattle.wc_names.specs.Standard.Segments as old_segments
-use Rattle.wc_names.specs.Standard.Funcs as old_funcs
+use Rattle.wc_parse_code.specs.Stored.TypeUses.{index_as}
+use Rattle.wc_parse_field.specs.Stored.Fields.{field_as, import_as}
+use Rattle.wc_declare.specs.declared.kind.SpaceKind.TheVariants as old_kind
+use Rattle.wc_declare.specs.Standard.Spaces as old_spaces
+use Rattle.wc_declare.specs.Standard.Uses.{named_index}
+use Rattle.wc_resolve.specs.declared.counts.Counts.{Counts}
+use Rattle.wc_resolve.specs.Standard.Counts as old_counts
+use Rattle.wc_resolve.specs.Standard.Indices as old_indices
+use Rattle.wc_resolve.specs.Standard.Exports as old_exports
+use Rattle.wc_resolve.specs.Standard.Start as old_start
+use Rattle.wc_resolve.specs.Standard.Imports as old_imports
+use Rattle.wc_resolve.specs.Standard.Ranges as old_ranges
+use Rattle.wc_resolve.specs.Standard.Globals as old_globals
+use Rattle.wc_resolve.specs.Standard.Segments as old_segments
+use Rattle.wc_resolve.specs.Standard.Funcs as old_funcs
 use Rattle.wc_meaning.specs.Standard.Contexts.{Space, Faults, bytes_in, fault, index_in, index_faults, indices_faults}
 use Rattle.wc_meaning.specs.Standard.Spaces.{declares, space}
 use Rattle.wc_meaning.specs.Standard.Order.{starts}

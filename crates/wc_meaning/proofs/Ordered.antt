@@ -3,12 +3,12 @@ use Rattle.std.proofs.Common.{◌≡◌, ℕ, Bool, true, false, List, [], ◌�
 use Rattle.std.proofs.lemmas.Grind.{flat_map-append}
 use Rattle.std.specs.Prelude.{if◌then◌else◌}
 use Rattle.std.specs.List.{flat_map}
-use Rattle.wc_targets.specs.declared.why.NameWhy.TheVariants.{LateImport, SecondStart}
+use Rattle.wc_resolve_code.specs.declared.why.NameWhy.TheVariants.{LateImport, SecondStart}
 use Rattle.wc_surface.specs.Standard.Written.Indices.{Index}
 use Rattle.wc_surface.specs.Standard.Written.Fields.{Import, Desc, Function, Table, Memory, Global, Field}
 use Rattle.wc_surface.specs.Standard.Written.Fields.{func_field, table_field, memory_field, global_field, start_field}
-use Rattle.wc_fields.specs.Stored.Fields.{field_as}
-use Rattle.wc_declared.specs.Standard.Order as old
+use Rattle.wc_parse_field.specs.Stored.Fields.{field_as}
+use Rattle.wc_declare.specs.Standard.Order as old
 use Rattle.wc_meaning.specs.Standard.Contexts.{Faults, fault}
 use Rattle.wc_meaning.specs.Standard.Order.{imports_in, defines, behind_definition, late_imports, starts_in, starts}
 use Rattle.wc_meaning.specs.Standard.Order.{second_starts}

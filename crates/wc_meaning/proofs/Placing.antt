@@ -4,15 +4,15 @@ use Rattle.wc_tokens.specs.Standard.Lexemes.{Lexeme}
 use Rattle.wc_syntax.specs.declared.role.Role.TheVariants as role
 use Rattle.wc_surface.specs.Standard.Written.Instructions.{Instrs}
 use Rattle.wc_surface.specs.Standard.Written.Fields.{Declared, Function, Global, Field, func_field, global_field}
-use Rattle.wc_drafts.specs.Standard.Tokens.{KeptToken}
-use Rattle.wc_drafts.specs.Standard.Productions.Tokens.{Said, ◌⊳◌}
-use Rattle.wc_drafts.proofs.Storing.Following.{Follow, follow-range, part}
-use Rattle.wc_drafts.proofs.Storing.Derived.{derived-follow}
-use Rattle.wc_fields.specs.Standard.Productions.Parts.{IsOffset}
-use Rattle.wc_fields.specs.Standard.Productions.Fields.{IsFunction, IsGlobal, IsField, AreFields}
-use Rattle.wc_text.specs.Standard.Productions.{SaysFields}
-use Rattle.wc_text.proofs.Pairs.{each-length}
-use Rattle.wc_text.proofs.Written.{all-spoken}
+use Rattle.wc_parse_code.specs.Standard.Tokens.{KeptToken}
+use Rattle.wc_parse_code.specs.Standard.Productions.Tokens.{Said, ◌⊳◌}
+use Rattle.wc_parse_code.proofs.Storing.Following.{Follow, follow-range, part}
+use Rattle.wc_parse_code.proofs.Storing.Derived.{derived-follow}
+use Rattle.wc_parse_field.specs.Standard.Productions.Parts.{IsOffset}
+use Rattle.wc_parse_field.specs.Standard.Productions.Fields.{IsFunction, IsGlobal, IsField, AreFields}
+use Rattle.wc_parse.specs.Standard.Productions.{SaysFields}
+use Rattle.wc_parse.proofs.Pairs.{each-length}
+use Rattle.wc_parse.proofs.Written.{all-spoken}
 use Rattle.wc_meaning.specs.Placed.{IsPlaced, FieldPlaced, ArePlaced}
 use Rattle.wc_meaning.proofs.Finding.{says-placed}
 

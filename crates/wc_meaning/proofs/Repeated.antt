@@ -5,15 +5,15 @@ use Rattle.std.proofs.lemmas.Option.{slice_get-map}
 use Rattle.std.specs.Prelude.{option_map, if◌then◌else◌}
 use Rattle.std.specs.List.{list_any}
 use Rattle.wc_ast.specs.Standard.LocalGroups.{locals_limit}
-use Rattle.wc_targets.specs.declared.why.NameWhy.TheVariants.{DuplicateId}
+use Rattle.wc_resolve_code.specs.declared.why.NameWhy.TheVariants.{DuplicateId}
 use Rattle.wc_spaces.specs.Standard.Spaces.{is_named, duplicates_after}
 use Rattle.wc_surface.specs.Standard.Identifiers.{Identifier}
 use Rattle.wc_surface.specs.Standard.Written.TypeUses.{Param}
 use Rattle.wc_surface.specs.Standard.Written.Fields.{Local, Desc, Function, Field, import_field, func_field}
-use Rattle.wc_drafts.specs.Stored.TypeUses.{name_at, names_from}
-use Rattle.wc_fields.specs.Stored.Fields.{local_as, field_as}
-use Rattle.wc_declared.specs.Standard.Spaces as old_spaces
-use Rattle.wc_declared.specs.Standard.Inner as old
+use Rattle.wc_parse_code.specs.Stored.TypeUses.{name_at, names_from}
+use Rattle.wc_parse_field.specs.Stored.Fields.{local_as, field_as}
+use Rattle.wc_declare.specs.Standard.Spaces as old_spaces
+use Rattle.wc_declare.specs.Standard.Inner as old
 use Rattle.wc_meaning.specs.Standard.Contexts.{Space, Faults, fault}
 use Rattle.wc_meaning.specs.Standard.Spaces.{repeated}
 use Rattle.wc_meaning.specs.Standard.Inner.{beyond, inner_faults}

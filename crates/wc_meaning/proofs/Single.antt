@@ -3,7 +3,7 @@ use Rattle.std.proofs.Common.{◌≡◌, ℕ, ◌⊎◌, inl, inr, List, Option,
 use Rattle.std.proofs.lemmas.Option.{none-some, same_Some}
 use Rattle.wc_ast.specs.declared.module.Module.{Module}
 use Rattle.wc_spaces.specs.declared.noted.Fault.{Fault}
-use Rattle.wc_targets.specs.declared.why.NameWhy.{NameWhy}
+use Rattle.wc_resolve_code.specs.declared.why.NameWhy.{NameWhy}
 use Rattle.wc_surface.specs.Standard.Written.Fields.{Field}
 use Rattle.wc_meaning.specs.Standard.Denoted.{context_of, denoted_in, first_fault, FirstFault, Means}
 

@@ -5,12 +5,12 @@ use Rattle.wc_ast.specs.declared.export.ExportKind.{ExportKind}
 use Rattle.wc_ast.specs.declared.export.ExportKind.TheVariants as kind
 use Rattle.wc_surface.specs.Standard.Identifiers.{Identifier}
 use Rattle.wc_surface.specs.Standard.Written.Fields.{Desc, Field, type_field, import_field}
-use Rattle.wc_targets.specs.declared.why.NameWhy.TheVariants.{DuplicateId}
+use Rattle.wc_resolve_code.specs.declared.why.NameWhy.TheVariants.{DuplicateId}
 use Rattle.wc_spaces.specs.Standard.Spaces.{duplicates_after}
-use Rattle.wc_fields.specs.Stored.Fields.{field_as}
-use Rattle.wc_declared.specs.declared.kind.SpaceKind.TheVariants as old_kind
-use Rattle.wc_declared.specs.Standard.Spaces as old
-use Rattle.wc_names.specs.Standard.Indices.{space_kind}
+use Rattle.wc_parse_field.specs.Stored.Fields.{field_as}
+use Rattle.wc_declare.specs.declared.kind.SpaceKind.TheVariants as old_kind
+use Rattle.wc_declare.specs.Standard.Spaces as old
+use Rattle.wc_resolve.specs.Standard.Indices.{space_kind}
 use Rattle.wc_meaning.specs.Standard.Contexts.{Space, bytes_in}
 use Rattle.wc_meaning.specs.Standard.Spaces.{declares, space, declares_type, type_space, repeated, space_faults}
 use Rattle.wc_meaning.proofs.Lists.{both, map-same}

@@ -14,12 +14,12 @@ use Rattle.wc_surface.specs.Standard.Written.TypeUses.{Signature}
 use Rattle.wc_surface.specs.Standard.Written.Instructions.{Plain, call_indirect, BlockType, short, use_of, Instrs}
 use Rattle.wc_surface.specs.Standard.Written.Fields.{Desc, Function, Global, Field, type_field, import_field}
 use Rattle.wc_surface.specs.Standard.Written.Fields.{func_field, global_field, elem_field, data_field}
-use Rattle.wc_drafts.specs.Stored.Order as old_order
-use Rattle.wc_drafts.specs.Stored.TypeUses.{use_as}
-use Rattle.wc_drafts.specs.Stored.Rows as old_rows
-use Rattle.wc_drafts.specs.Stored.Bodies.{body_as}
-use Rattle.wc_fields.specs.Stored.Fields.{field_as}
-use Rattle.wc_declared.specs.Standard.Types as old
+use Rattle.wc_parse_code.specs.Stored.Order as old_order
+use Rattle.wc_parse_code.specs.Stored.TypeUses.{use_as}
+use Rattle.wc_parse_code.specs.Stored.Rows as old_rows
+use Rattle.wc_parse_code.specs.Stored.Bodies.{body_as}
+use Rattle.wc_parse_field.specs.Stored.Fields.{field_as}
+use Rattle.wc_declare.specs.Standard.Types as old
 use Rattle.wc_meaning.specs.Standard.Types.{func_type, type_index, with_types}
 use Rattle.wc_meaning.specs.Standard.Gathered.{User, of_func, of_call, of_block, Use, plain_uses, block_uses, uses_in}
 use Rattle.wc_meaning.specs.Standard.Gathered.{put, in_order, own_uses, inner_uses, all_uses, defined_type, implied}

@@ -8,9 +8,9 @@ use Rattle.wc_surface.specs.Standard.Written.Instructions.{Plain, indexed, br_ta
 use Rattle.wc_surface.specs.Standard.Written.Instructions.{use_of, Head, Instrs}
 use Rattle.wc_surface.specs.Standard.Written.Fields.{Function, Global, Field, func_field, global_field, elem_field}
 use Rattle.wc_surface.specs.Standard.Written.Fields.{data_field}
-use Rattle.wc_drafts.specs.Stored.TypeUses.{use_as}
-use Rattle.wc_drafts.specs.Stored.Rows.{Rows, index_token, rows_of}
-use Rattle.wc_drafts.specs.Stored.Bodies.{places_in, first_label}
+use Rattle.wc_parse_code.specs.Stored.TypeUses.{use_as}
+use Rattle.wc_parse_code.specs.Stored.Rows.{Rows, index_token, rows_of}
+use Rattle.wc_parse_code.specs.Stored.Bodies.{places_in, first_label}
 
 module _ (rows : Rows) where
   -- an index that is an identifier

@@ -3,11 +3,11 @@
 ghost use Rattle.std.specs.Prelude.{◌≡◌, ◌⊎◌, ℕ, ◌≤◌, ◌^◌, ◌↔◌, List, map, length};
 ghost use Rattle.wc_tokens.specs.Standard.Lexemes.{Lexeme};
 ghost use Rattle.wc_ast.specs.declared.module.Module.{Module};
-ghost use Rattle.wc_targets.specs.declared.why.NameWhy.{NameWhy};
+ghost use Rattle.wc_resolve_code.specs.declared.why.NameWhy.{NameWhy};
 ghost use Rattle.wc_surface.specs.Standard.Written.Fields.{Field};
-ghost use Rattle.wc_fields.specs.Stored.Fields.{field_as};
-ghost use Rattle.wc_text.specs.Standard.Productions.{SaysFields};
-ghost use Rattle.wc_names.specs.Standard.Denoted.{Names, FirstFault as FirstStored};
+ghost use Rattle.wc_parse_field.specs.Stored.Fields.{field_as};
+ghost use Rattle.wc_parse.specs.Standard.Productions.{SaysFields};
+ghost use Rattle.wc_resolve.specs.Standard.Denoted.{Names, FirstFault as FirstStored};
 ghost use Rattle.wc_meaning.specs.Standard.Denoted.{Means, FirstFault};
 ghost use Rattle.wc_meaning.specs.Placed.{ArePlaced};
 

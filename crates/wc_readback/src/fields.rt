@@ -7,9 +7,9 @@ ghost use Rattle.wc_print.specs.Layout.{layout};
 ghost use Rattle.wc_print.specs.Printable.{IsPrintable};
 ghost use Rattle.wc_print.specs.Printed.{text, lexemes};
 ghost use Rattle.wc_readback.specs.Grammar.Fitting.{Fits};
-ghost use Rattle.wc_text.specs.Standard.Meaning.{Syn};
-ghost use Rattle.wc_text.specs.Kept.Folds.{Folds};
-ghost use Rattle.wc_text.specs.Kept.Texts.{said};
+ghost use Rattle.wc_parse.specs.Standard.Meaning.{Syn};
+ghost use Rattle.wc_parse.specs.Kept.Folds.{Folds};
+ghost use Rattle.wc_parse.specs.Kept.Texts.{said};
 ghost use Rattle.wc_readback.specs.Fields.Items.{items};
 ghost use Rattle.wc_readback.specs.Fields.Surface.{text_fields};
 

@@ -7,7 +7,7 @@ ghost use Rattle.wc_body.specs.declared.instr.BlockType.{BlockType as HeadType};
 ghost use Rattle.wc_body.specs.declared.instr.Instr.{Instr as Instruction};
 ghost use Rattle.wc_readback.specs.Grammar.InstructionSigns.{code_signs};
 ghost use Rattle.wc_readback.specs.Grammar.Kept.{said_from};
-ghost use Rattle.wc_drafts.specs.Drafting.Ending.{nothing_said, ended};
+ghost use Rattle.wc_parse_code.specs.Drafting.Ending.{nothing_said, ended};
 ghost use Rattle.wc_readback.specs.Instructions.Bodies.{text_body};
 ghost use Rattle.wc_readback.specs.Instructions.Words.{taken};
 

@@ -5,9 +5,9 @@ ghost use Rattle.wc_tokens.specs.Standard.Tokens.{InOrder, lexemes_of};
 use crate::words::tokens_of;
 use anyhow::{Result, bail};
 use std::alloc::Global;
+use wc_symbols::symbol_of;
 use wc_syntax::{Kept, Kind, Refusal, SynWhy, kept_tokens};
 use wc_tokens::{Token, Tokens};
-use wc_words::symbol_of;
 
 /// The words of a row of words, in their order.
 const WORDS: &str =

@@ -4,8 +4,8 @@ use crate::told::rendered;
 use anyhow::Result;
 use std::alloc::Global;
 use wc_canon::{Refusal, normalise};
+use wc_parse::{SynFault, parse};
 use wc_surface::Surface;
-use wc_text::{SynFault, parse};
 use wc_tokens::{Tokens, lex};
 
 /// The first byte of a token, or the length of the text where it has fewer.

@@ -2,8 +2,8 @@
 
 use anyhow::{Result, bail};
 use std::alloc::Global;
+use wc_symbols::{Symbol, symbol_of};
 use wc_tokens::{Token, Tokens, lex};
-use wc_words::{Symbol, symbol_of};
 
 /// The tokens of a text.
 pub fn tokens_of(alloc: Global, text: &[u8]) -> Result<Tokens<'_>> {

@@ -7,8 +7,8 @@ use wc_ast::{BuildFault, Kind, NESTING_LIMIT, SimpleOp, ValType};
 use wc_surface::{
     CodeBuilder, Field, Head, Id, Local, Signature, TextCode, TextEntry, TextInstr, TextLocals,
 };
+use wc_symbols::Symbol;
 use wc_tokens::Token;
-use wc_words::Symbol;
 
 #[test]
 fn what_stands_in_lists_is_small(rt: HostRuntime) {

@@ -5,8 +5,8 @@ use Rattle.wc_binary.specs.declared.fault.EncFault.{EncFault}
 use Rattle.wc_binary.specs.declared.fault.EncFault.TheVariants.{Oversize as TooLarge, Memory as NoMemoryToEncode}
 use Rattle.wc_check.specs.declared.fault.CheckFault.{CheckFault}
 use Rattle.wc_check.specs.declared.fault.CheckFault.TheVariants.{Broken, Memory as NoMemoryToCheck}
-use Rattle.wc_source.specs.declared.fault.TextFault.{TextFault}
-use Rattle.wc_source.specs.declared.fault.TextFault.TheVariants as text
+use Rattle.wc_read_text.specs.declared.fault.TextFault.{TextFault}
+use Rattle.wc_read_text.specs.declared.fault.TextFault.TheVariants as text
 use Rattle.wc_canon.specs.declared.fault.Refusal.{Refusal}
 use Rattle.wc_canon.specs.declared.fault.Refusal.TheVariants.{Binary, Lex, Syntax, Names, Check, Oversize}
 use Rattle.wc_canon.specs.declared.fault.Refusal.TheVariants.{Memory as NoMemory}

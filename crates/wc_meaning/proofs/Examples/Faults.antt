@@ -4,7 +4,7 @@ use Rattle.wc_ops.specs.declared.op.IndexOp.TheVariants.{Br, Call}
 use Rattle.wc_ops.specs.declared.val_type.ValType.TheVariants.{I32, I64}
 use Rattle.wc_body.specs.Standard.Nested.{Code, block}
 use Rattle.wc_ast.specs.Standard.LocalGroups.{locals_limit}
-use Rattle.wc_targets.specs.declared.why.NameWhy.TheVariants as why
+use Rattle.wc_resolve_code.specs.declared.why.NameWhy.TheVariants as why
 use Rattle.wc_surface.specs.Standard.Identifiers.{Identifier}
 use Rattle.wc_surface.specs.Standard.Written.Indices.{number, named}
 use Rattle.wc_surface.specs.Standard.Written.Instructions.{indexed, call_indirect, Head, short, use_of}

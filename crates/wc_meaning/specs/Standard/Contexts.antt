@@ -5,8 +5,8 @@ use Rattle.std.specs.Option.{unwrap_or}
 use Rattle.wc_ast.specs.declared.func_type.FuncType.{FuncType}
 use Rattle.wc_spaces.specs.declared.noted.Fault.{Fault}
 use Rattle.wc_spaces.specs.Standard.Spaces.{place_of}
-use Rattle.wc_targets.specs.declared.why.NameWhy.{NameWhy}
-use Rattle.wc_targets.specs.declared.why.NameWhy.TheVariants.{UnknownId}
+use Rattle.wc_resolve_code.specs.declared.why.NameWhy.{NameWhy}
+use Rattle.wc_resolve_code.specs.declared.why.NameWhy.TheVariants.{UnknownId}
 use Rattle.wc_surface.specs.Standard.Identifiers.{Identifier}
 use Rattle.wc_surface.specs.Standard.Written.Indices.{Index, number, named}
 

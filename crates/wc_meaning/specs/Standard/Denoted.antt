@@ -8,7 +8,7 @@ use Rattle.wc_ast.specs.declared.module.Module.{Module}
 use Rattle.wc_ast.specs.declared.export.ExportKind.TheVariants as kind
 use Rattle.wc_spaces.specs.declared.noted.Fault.{Fault}
 use Rattle.wc_spaces.specs.Standard.Least.{least}
-use Rattle.wc_targets.specs.declared.why.NameWhy.{NameWhy}
+use Rattle.wc_resolve_code.specs.declared.why.NameWhy.{NameWhy}
 use Rattle.wc_surface.specs.Standard.Written.Fields.{Field}
 use Rattle.wc_meaning.specs.Standard.Contexts.{Context, Faults}
 use Rattle.wc_meaning.specs.Standard.Spaces.{space, type_space, space_faults}

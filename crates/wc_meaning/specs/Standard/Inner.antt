@@ -3,7 +3,7 @@
 use Rattle.std.specs.Prelude.{List, [], ◌++◌, map, Option, Some, None, slice_get}
 use Rattle.std.specs.List.{flat_map}
 use Rattle.wc_ast.specs.Standard.LocalGroups.{locals_limit}
-use Rattle.wc_targets.specs.declared.why.NameWhy.TheVariants.{TooManyLocals}
+use Rattle.wc_resolve_code.specs.declared.why.NameWhy.TheVariants.{TooManyLocals}
 use Rattle.wc_surface.specs.Standard.Written.TypeUses.{Param}
 use Rattle.wc_surface.specs.Standard.Written.Fields.{Local, Function, Field, func_field}
 use Rattle.wc_meaning.specs.Standard.Contexts.{Faults, fault}

@@ -13,7 +13,7 @@ use Rattle.wc_body.specs.declared.instr.BlockType.{BlockType as ResolvedType}
 use Rattle.wc_body.specs.declared.instr.BlockType.TheVariants.{Empty, Value, Index}
 use Rattle.wc_body.specs.Standard.Nested.{Code, empty, op, region, choice}
 use Rattle.wc_spaces.specs.Standard.Spaces.{is_named}
-use Rattle.wc_targets.specs.declared.why.NameWhy.TheVariants.{LabelDiffers}
+use Rattle.wc_resolve_code.specs.declared.why.NameWhy.TheVariants.{LabelDiffers}
 use Rattle.wc_surface.specs.Standard.Identifiers.{Identifier}
 use Rattle.wc_surface.specs.Standard.Written.Instructions.{Plain, simple, indexed, br_table, call_indirect, access}
 use Rattle.wc_surface.specs.Standard.Written.Instructions.{i32_const, i64_const, BlockType, short, use_of, Head, Instrs}

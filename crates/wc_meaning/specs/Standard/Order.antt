@@ -1,7 +1,7 @@
 -- Imports stand before definitions, and there is one start function at most (Core 1.0, 6.6.13).
 use Rattle.std.specs.Prelude.{ℕ, Bool, true, false, List, [], ◌∷◌, drop, if◌then◌else◌}
 use Rattle.std.specs.List.{flat_map}
-use Rattle.wc_targets.specs.declared.why.NameWhy.TheVariants.{LateImport, SecondStart}
+use Rattle.wc_resolve_code.specs.declared.why.NameWhy.TheVariants.{LateImport, SecondStart}
 use Rattle.wc_surface.specs.Standard.Written.Indices.{Index}
 use Rattle.wc_surface.specs.Standard.Written.Fields.{Import, Desc, Function, Table, Memory, Global, Field}
 use Rattle.wc_surface.specs.Standard.Written.Fields.{import_field, func_field, table_field, memory_field, global_field}

@@ -4,7 +4,7 @@ use Rattle.std.specs.List.{flat_map}
 use Rattle.wc_ast.specs.declared.export.ExportKind.{ExportKind}
 use Rattle.wc_ast.specs.declared.export.ExportKind.TheVariants as kind
 use Rattle.wc_spaces.specs.Standard.Spaces.{duplicates_after}
-use Rattle.wc_targets.specs.declared.why.NameWhy.TheVariants.{DuplicateId}
+use Rattle.wc_resolve_code.specs.declared.why.NameWhy.TheVariants.{DuplicateId}
 use Rattle.wc_surface.specs.Standard.Identifiers.{Identifier}
 use Rattle.wc_surface.specs.Standard.Written.Fields.{Desc, Field, type_field, import_field, func_field, table_field}
 use Rattle.wc_surface.specs.Standard.Written.Fields.{memory_field, global_field}

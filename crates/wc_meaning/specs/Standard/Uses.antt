@@ -3,8 +3,8 @@ use Rattle.std.specs.Prelude.{ℕ, ◌||◌, [], ◌++◌, Option, Some, None, s
 use Rattle.std.specs.List.{flat_map}
 use Rattle.std.specs.Option.{unwrap_or}
 use Rattle.wc_ast.specs.declared.func_type.FuncType.{FuncType}
-use Rattle.wc_targets.specs.declared.why.NameWhy.TheVariants.{UnknownId, NoSuchType, TypeDiffers, NamedParam}
-use Rattle.wc_targets.specs.declared.why.NameWhy.TheVariants.{BlockParam}
+use Rattle.wc_resolve_code.specs.declared.why.NameWhy.TheVariants.{UnknownId, NoSuchType, TypeDiffers, NamedParam}
+use Rattle.wc_resolve_code.specs.declared.why.NameWhy.TheVariants.{BlockParam}
 use Rattle.wc_surface.specs.Standard.Identifiers.{Identifier}
 use Rattle.wc_surface.specs.Standard.Written.Indices.{Index}
 use Rattle.wc_surface.specs.Standard.Written.TypeUses.{TypeUse}

@@ -17,12 +17,12 @@ use Rattle.wc_surface.specs.declared.field.Field.{Field}
 use Rattle.wc_readback.specs.Grammar.Signs.{Sign}
 use Rattle.wc_readback.specs.Grammar.InstructionSigns.{naturals, block_signs, operand_signs, mark_signs, code_signs}
 use Rattle.wc_readback.specs.Grammar.Kept.{Said, said_as, said_before, said_from}
-use Rattle.wc_drafts.specs.declared.word.Word.{Word}
-use Rattle.wc_drafts.specs.declared.body_draft.BodyDraft.{BodyDraft}
-use Rattle.wc_drafts.specs.Drafting.Taking.{take}
-use Rattle.wc_fields.specs.declared.field_draft.FieldDraft.{FieldDraft}
-use Rattle.wc_text.specs.Kept.Texts.{Item, take_by, take_items}
-use Rattle.wc_text.specs.declared.text_draft.TextDraft.{TextDraft}
+use Rattle.wc_parse_code.specs.declared.word.Word.{Word}
+use Rattle.wc_parse_code.specs.declared.body_draft.BodyDraft.{BodyDraft}
+use Rattle.wc_parse_code.specs.Drafting.Taking.{take}
+use Rattle.wc_parse_field.specs.declared.field_draft.FieldDraft.{FieldDraft}
+use Rattle.wc_parse.specs.Kept.Texts.{Item, take_by, take_items}
+use Rattle.wc_parse.specs.declared.text_draft.TextDraft.{TextDraft}
 use Rattle.wc_readback.specs.Instructions.Words.{word_of, taken}
 use Rattle.wc_readback.specs.Fields.Items.{bytes_in, item_before, items_from}
 use Rattle.wc_readback.proofs.FieldLemmas.Taking.{state, read}

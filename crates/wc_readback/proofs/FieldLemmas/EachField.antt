@@ -28,11 +28,11 @@ use Rattle.wc_readback.specs.Grammar.FieldSigns.{table_signs, memory_signs, glob
 use Rattle.wc_readback.specs.Grammar.Kept.{said_as, said_from}
 use Rattle.wc_readback.specs.Grammar.Fitting.{FitsLimits, FitsOptional, FitsDesc, FitsImport, FitsExport, FitsFunc}
 use Rattle.wc_readback.specs.Grammar.Fitting.{FitsGlobal, FitsElem, FitsData}
-use Rattle.wc_drafts.specs.declared.word.Word.{Word}
-use Rattle.wc_drafts.specs.Drafting.Words.{index_by, number_in}
-use Rattle.wc_drafts.specs.Drafting.Uses.{started_use}
-use Rattle.wc_fields.specs.declared.field_draft.FieldDraft.{FieldDraft}
-use Rattle.wc_fields.specs.Drafting.Fields.{started, unnamed, first_limits, name_of, with_min, with_max}
+use Rattle.wc_parse_code.specs.declared.word.Word.{Word}
+use Rattle.wc_parse_code.specs.Drafting.Words.{index_by, number_in}
+use Rattle.wc_parse_code.specs.Drafting.Uses.{started_use}
+use Rattle.wc_parse_field.specs.declared.field_draft.FieldDraft.{FieldDraft}
+use Rattle.wc_parse_field.specs.Drafting.Fields.{started, unnamed, first_limits, name_of, with_min, with_max}
 use Rattle.wc_readback.specs.Instructions.Words.{word_of, taken}
 use Rattle.wc_readback.proofs.InstructionLemmas.Marks.{number}
 use Rattle.wc_readback.specs.Fields.Surface.{use_by, locals_along, indices_along, type_field, import_field, func_field}
@@ -40,13 +40,13 @@ use Rattle.wc_readback.specs.Fields.Surface.{table_field, memory_field, global_f
 use Rattle.wc_readback.specs.Fields.Surface.{elem_field, data_field}
 use Rattle.wc_readback.proofs.FieldLemmas.Coding.{coded, begun, body}
 use Rattle.wc_readback.proofs.InstructionLemmas.Finished.{told-body}
-use Rattle.wc_drafts.specs.Drafting.Ending.{nothing_said}
-use Rattle.wc_words.specs.declared.symbol.Value.TheVariants.{Number}
+use Rattle.wc_parse_code.specs.Drafting.Ending.{nothing_said}
+use Rattle.wc_symbols.specs.declared.symbol.Value.TheVariants.{Number}
 use Rattle.wc_surface.specs.declared.head.TextBody.{TextBody}
 use Rattle.wc_surface.specs.declared.id.Index.TheVariants as index
 use Rattle.wc_surface.specs.declared.field.FuncDesc.TheVariants as func
 use Rattle.wc_surface.specs.declared.field.GlobalDesc.TheVariants as global
-use Rattle.wc_text.specs.declared.text_draft.TextDraft.{TextDraft}
+use Rattle.wc_parse.specs.declared.text_draft.TextDraft.{TextDraft}
 use Rattle.wc_readback.proofs.FieldLemmas.Taking.{state, fresh, read, on, Reads}
 use Rattle.wc_readback.proofs.FieldLemmas.Lists.{typed, with_locals, with_elements, all-params, all-results, all-locals}
 use Rattle.wc_readback.proofs.FieldLemmas.Lists.{elements}

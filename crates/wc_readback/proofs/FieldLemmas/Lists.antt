@@ -14,8 +14,8 @@ use Rattle.wc_surface.specs.Standard.WrittenLocals.{local}
 use Rattle.wc_readback.specs.Grammar.Signs.{closes, type_sign, natural}
 use Rattle.wc_readback.specs.Grammar.InstructionSigns.{values_signs, naturals}
 use Rattle.wc_readback.specs.Grammar.Kept.{said_as}
-use Rattle.wc_drafts.specs.Drafting.Words.{index_by}
-use Rattle.wc_fields.specs.declared.field_draft.FieldDraft.{FieldDraft}
+use Rattle.wc_parse_code.specs.Drafting.Words.{index_by}
+use Rattle.wc_parse_field.specs.declared.field_draft.FieldDraft.{FieldDraft}
 use Rattle.wc_readback.specs.Instructions.Words.{word_of}
 use Rattle.wc_readback.proofs.InstructionLemmas.Marks.{number}
 use Rattle.wc_readback.specs.Fields.Surface.{locals_along, indices_along}

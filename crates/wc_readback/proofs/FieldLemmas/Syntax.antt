@@ -24,12 +24,12 @@ use Rattle.wc_readback.proofs.GrammarLemmas.Same.{tokens_of, whole as same}
 use Rattle.wc_readback.proofs.GrammarLemmas.Told.{head, tail}
 use Rattle.wc_readback.proofs.GrammarLemmas.Standing.{past}
 use Rattle.wc_readback.proofs.GrammarLemmas.Modules.{module-means}
-use Rattle.wc_text.specs.Kept.Texts.{Item}
-use Rattle.wc_text.specs.Standard.Kinds.{Each, none, more, HasKind}
-use Rattle.wc_text.specs.Standard.Meaning.{Syn}
-use Rattle.wc_text.specs.Kept.Folds.{StandsFor, IsItem, Folds}
-use Rattle.wc_text.proofs.Forms.{few-tokens}
-use Rattle.wc_text.proofs.Joined.{folds-say}
+use Rattle.wc_parse.specs.Kept.Texts.{Item}
+use Rattle.wc_parse.specs.Standard.Kinds.{Each, none, more, HasKind}
+use Rattle.wc_parse.specs.Standard.Meaning.{Syn}
+use Rattle.wc_parse.specs.Kept.Folds.{StandsFor, IsItem, Folds}
+use Rattle.wc_parse.proofs.Forms.{few-tokens}
+use Rattle.wc_parse.proofs.Joined.{folds-say}
 use Rattle.wc_readback.specs.Fields.Items.{bytes_in, item_as, item_before, items_from, items}
 use Rattle.wc_readback.specs.Fields.Surface.{text_fields}
 use Rattle.wc_readback.proofs.FieldLemmas.Whole.{whole}

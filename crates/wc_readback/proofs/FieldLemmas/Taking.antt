@@ -5,10 +5,10 @@ use Rattle.std.specs.List.{AllByRecursion, flat_map}
 use Rattle.wc_syntax.specs.declared.kind.Kind.TheVariants.{OtherWord}
 use Rattle.wc_surface.specs.declared.field.Field.{Field}
 use Rattle.wc_readback.specs.Grammar.Signs.{Sign}
-use Rattle.wc_fields.specs.declared.field_draft.FieldDraft.{FieldDraft}
-use Rattle.wc_text.specs.declared.text_draft.TextDraft.{TextDraft}
-use Rattle.wc_fields.specs.Drafting.Fields.{started}
-use Rattle.wc_text.specs.Kept.Texts.{Item, take_item, take_items}
+use Rattle.wc_parse_field.specs.declared.field_draft.FieldDraft.{FieldDraft}
+use Rattle.wc_parse.specs.declared.text_draft.TextDraft.{TextDraft}
+use Rattle.wc_parse_field.specs.Drafting.Fields.{started}
+use Rattle.wc_parse.specs.Kept.Texts.{Item, take_item, take_items}
 use Rattle.wc_readback.specs.Fields.Items.{item_as, item_before, items_from}
 use Rattle.wc_readback.specs.Fields.Surface.{along}
 

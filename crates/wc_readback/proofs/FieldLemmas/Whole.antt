@@ -11,8 +11,8 @@ use Rattle.wc_readback.specs.Grammar.FieldSigns.{type_signs, import_signs, func_
 use Rattle.wc_readback.specs.Grammar.FieldSigns.{global_signs, export_signs, start_signs, elem_signs, data_signs}
 use Rattle.wc_readback.specs.Grammar.Fitting.{FitsOptional, FitsLimits, FitsImport, FitsFunc, FitsGlobal, FitsExport}
 use Rattle.wc_readback.specs.Grammar.Fitting.{FitsElem, FitsData, Fits}
-use Rattle.wc_text.specs.declared.text_draft.TextDraft.{TextDraft}
-use Rattle.wc_text.specs.Kept.Texts.{said}
+use Rattle.wc_parse.specs.declared.text_draft.TextDraft.{TextDraft}
+use Rattle.wc_parse.specs.Kept.Texts.{said}
 use Rattle.wc_readback.specs.Fields.Items.{items}
 use Rattle.wc_readback.specs.Fields.Surface.{type_field, import_field, func_field, table_field, memory_field}
 use Rattle.wc_readback.specs.Fields.Surface.{global_field, export_field, start_field, elem_field, data_field}

@@ -11,8 +11,8 @@ use Rattle.wc_syntax.specs.Phrases.{token as token_phrase}
 use Rattle.wc_syntax.specs.Grammar.{body}
 use Rattle.wc_syntax.specs.Deriving.{Item, at, numbered, Event, Derives, empty, token, keeps, left, right, none}
 use Rattle.wc_syntax.specs.Deriving.{more, rule, then as in_turn}
-use Rattle.wc_words.specs.declared.symbol.Value.{Value}
-use Rattle.wc_words.specs.Symbols.{valued}
+use Rattle.wc_symbols.specs.declared.symbol.Value.{Value}
+use Rattle.wc_symbols.specs.Symbols.{valued}
 use Rattle.wc_print.specs.Printed.{Printed}
 use Rattle.wc_readback.specs.Grammar.Signs.{Sign, silent, spoken}
 use Rattle.wc_readback.specs.Grammar.Kept.{Said, said_as, said_before, said_from, event_of, kinds_of}

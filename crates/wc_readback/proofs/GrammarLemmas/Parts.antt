@@ -21,10 +21,10 @@ use Rattle.wc_syntax.specs.Phrases.{Keep, ◌·◌, ◌∣◌, Many, The, token,
 use Rattle.wc_syntax.specs.Types.{lp, rp, index, valtype}
 use Rattle.wc_syntax.specs.Instructions.{literal32, literal64, head}
 use Rattle.wc_syntax.specs.Fields.{strings, field_end, exported}
-use Rattle.wc_words.specs.declared.symbol.Value.{Value}
-use Rattle.wc_words.specs.declared.symbol.Value.TheVariants.{Nothing, Number, Instruction, ValType}
-use Rattle.wc_words.specs.Symbols.{valued}
-use Rattle.wc_words.specs.Names.{keyword, op_kind}
+use Rattle.wc_symbols.specs.declared.symbol.Value.{Value}
+use Rattle.wc_symbols.specs.declared.symbol.Value.TheVariants.{Nothing, Number, Instruction, ValType}
+use Rattle.wc_symbols.specs.Symbols.{valued}
+use Rattle.wc_symbols.specs.Names.{keyword, op_kind}
 use Rattle.wc_print.specs.Printed.{opening, closing, word, number, integer, quoted}
 use Rattle.wc_print.specs.Printable.{IsByte}
 use Rattle.wc_readback.specs.Grammar.Signs.{Sign, spoken, opens, closes, ends, key_word, key, kept_key, op_sign}

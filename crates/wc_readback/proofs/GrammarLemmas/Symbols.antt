@@ -15,15 +15,15 @@ use Rattle.wc_ops.specs.Standard.Opcodes.{row}
 use Rattle.wc_tokens.specs.Standard.Numbers.{Natural, Minus, Literal, bits_of, decimal as is_decimal}
 use Rattle.wc_syntax.specs.declared.kind.Kind.{Kind}
 use Rattle.wc_syntax.specs.declared.kind.Kind.TheVariants as kind
-use Rattle.wc_words.specs.declared.symbol.Symbol.{Symbol}
-use Rattle.wc_words.specs.declared.symbol.Value.TheVariants.{Number, Offset, Exponent, Instruction, ValType}
-use Rattle.wc_words.specs.Symbols.{bare, valued}
-use Rattle.wc_words.specs.Names.{keyword, op_kind, word as is_keyword, i32 as is_i32, i64 as is_i64}
-use Rattle.wc_words.specs.Names.{keyword_is, instruction}
-use Rattle.wc_words.specs.Numbers.{below_32, below_64, of_32, of_64, offset_number, align_power}
-use Rattle.wc_words.specs.Words.{WordIs, known, natural as says_natural, signed as says_signed, offset as says_offset}
-use Rattle.wc_words.specs.Words.{align as says_align, name as says_name}
-use Rattle.wc_words.specs.Tokens.{TokenIs, name as is_name, no_name}
+use Rattle.wc_symbols.specs.declared.symbol.Symbol.{Symbol}
+use Rattle.wc_symbols.specs.declared.symbol.Value.TheVariants.{Number, Offset, Exponent, Instruction, ValType}
+use Rattle.wc_symbols.specs.Symbols.{bare, valued}
+use Rattle.wc_symbols.specs.Names.{keyword, op_kind, word as is_keyword, i32 as is_i32, i64 as is_i64}
+use Rattle.wc_symbols.specs.Names.{keyword_is, instruction}
+use Rattle.wc_symbols.specs.Numbers.{below_32, below_64, of_32, of_64, offset_number, align_power}
+use Rattle.wc_symbols.specs.Words.{WordIs, known, natural as says_natural, signed as says_signed, offset as says_offset}
+use Rattle.wc_symbols.specs.Words.{align as says_align, name as says_name}
+use Rattle.wc_symbols.specs.Tokens.{TokenIs, name as is_name, no_name}
 use Rattle.wc_leb128.specs.Standard.Shortest.{HoldsSigned}
 use Rattle.wc_print.specs.Printed.{Printed, word, number, integer, part, quoted, kind_of, spelled}
 use Rattle.wc_print.specs.Printable.{IsByte}

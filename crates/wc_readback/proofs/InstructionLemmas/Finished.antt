@@ -16,9 +16,9 @@ use Rattle.wc_readback.specs.Grammar.Signs.{Sign}
 use Rattle.wc_readback.specs.Grammar.InstructionSigns.{code_signs}
 use Rattle.wc_readback.specs.Grammar.Kept.{said_from}
 use Rattle.wc_readback.proofs.GrammarLemmas.Codes.{tree, flat-same}
-use Rattle.wc_drafts.specs.declared.body_draft.BodyDraft.{BodyDraft}
-use Rattle.wc_drafts.specs.Drafting.Saying.{settled}
-use Rattle.wc_drafts.specs.Drafting.Ending.{nothing_said, all_closed, ended}
+use Rattle.wc_parse_code.specs.declared.body_draft.BodyDraft.{BodyDraft}
+use Rattle.wc_parse_code.specs.Drafting.Saying.{settled}
+use Rattle.wc_parse_code.specs.Drafting.Ending.{nothing_said, all_closed, ended}
 use Rattle.wc_readback.specs.Instructions.Words.{taken}
 use Rattle.wc_readback.specs.Instructions.Bodies.{Spot, start, behind_code, text_code, text_body}
 use Rattle.wc_readback.proofs.InstructionLemmas.Marks.{Holds}

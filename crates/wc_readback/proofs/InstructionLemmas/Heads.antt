@@ -19,12 +19,12 @@ use Rattle.wc_surface.specs.Standard.Marks.{begin_of}
 use Rattle.wc_readback.specs.Grammar.Signs.{natural}
 use Rattle.wc_readback.specs.Grammar.InstructionSigns.{block_signs}
 use Rattle.wc_readback.specs.Grammar.Kept.{said_as, said_from}
-use Rattle.wc_drafts.specs.declared.body_draft.BodyDraft.{BodyDraft}
-use Rattle.wc_drafts.specs.Drafting.Words.{index_by, place_behind}
-use Rattle.wc_drafts.specs.Drafting.Uses.{started_use}
-use Rattle.wc_drafts.specs.Drafting.Heads.{head_of}
-use Rattle.wc_drafts.specs.Drafting.Saying.{settled}
-use Rattle.wc_drafts.specs.Drafting.Opening.{await_head, turn_by, end_by}
+use Rattle.wc_parse_code.specs.declared.body_draft.BodyDraft.{BodyDraft}
+use Rattle.wc_parse_code.specs.Drafting.Words.{index_by, place_behind}
+use Rattle.wc_parse_code.specs.Drafting.Uses.{started_use}
+use Rattle.wc_parse_code.specs.Drafting.Heads.{head_of}
+use Rattle.wc_parse_code.specs.Drafting.Saying.{settled}
+use Rattle.wc_parse_code.specs.Drafting.Opening.{await_head, turn_by, end_by}
 use Rattle.wc_readback.specs.Instructions.Words.{word_of, taken}
 use Rattle.wc_readback.specs.Instructions.Bodies.{Spot, block_uses, head_type, behind_head, behind}
 use Rattle.wc_readback.proofs.InstructionLemmas.Marks.{Holds, number, said-of}

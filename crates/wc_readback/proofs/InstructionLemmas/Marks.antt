@@ -23,7 +23,7 @@ use Rattle.std.proofs.Math.Facts.{to_z-neg}
 use Rattle.std.proofs.lemmas.List.{append-nil}
 use Rattle.wc_tokens.specs.Standard.Numbers.{Minus, bits_of}
 use Rattle.wc_syntax.specs.declared.role.Role.TheVariants as role
-use Rattle.wc_words.specs.declared.symbol.Value.TheVariants.{Number}
+use Rattle.wc_symbols.specs.declared.symbol.Value.TheVariants.{Number}
 use Rattle.wc_surface.specs.declared.instr.Operand.{Operand}
 use Rattle.wc_surface.specs.declared.instr.Operand.TheVariants as operand
 use Rattle.wc_surface.specs.declared.instr.TextInstr.TheVariants as text
@@ -32,13 +32,13 @@ use Rattle.wc_readback.specs.Grammar.Signs.{op_sign, natural, offset_sign, align
 use Rattle.wc_surface.specs.declared.instr.TextInstr.{TextInstr}
 use Rattle.wc_readback.specs.Grammar.InstructionSigns.{mark_signs, naturals}
 use Rattle.wc_readback.specs.Grammar.Kept.{said_as, said_from}
-use Rattle.wc_drafts.specs.declared.body_draft.BodyDraft.{BodyDraft}
-use Rattle.wc_drafts.specs.Drafting.Words.{number_in, operand_by, ids_by, index_by, place_behind}
-use Rattle.wc_drafts.specs.Drafting.Uses.{started_use}
+use Rattle.wc_parse_code.specs.declared.body_draft.BodyDraft.{BodyDraft}
+use Rattle.wc_parse_code.specs.Drafting.Words.{number_in, operand_by, ids_by, index_by, place_behind}
+use Rattle.wc_parse_code.specs.Drafting.Uses.{started_use}
 use Rattle.wc_surface.specs.declared.type_use.User.TheVariants as user
-use Rattle.wc_drafts.specs.declared.awaiting.Awaiting.TheVariants as awaiting
-use Rattle.wc_drafts.specs.Drafting.Opening.{await}
-use Rattle.wc_drafts.specs.Drafting.Saying.{settled, table_of}
+use Rattle.wc_parse_code.specs.declared.awaiting.Awaiting.TheVariants as awaiting
+use Rattle.wc_parse_code.specs.Drafting.Opening.{await}
+use Rattle.wc_parse_code.specs.Drafting.Saying.{settled, table_of}
 use Rattle.wc_readback.specs.Instructions.Words.{word_of, taken}
 use Rattle.wc_readback.specs.Instructions.Bodies.{Spot, instr_uses, instr_labels, behind, text_instr}
 

@@ -16,9 +16,9 @@ use Rattle.wc_readback.specs.Grammar.InstructionSigns.{mark_signs}
 use Rattle.wc_readback.specs.Grammar.Kept.{Said, said_from}
 use Rattle.wc_readback.proofs.GrammarLemmas.Meaning.{said-append}
 use Rattle.wc_readback.proofs.GrammarLemmas.Codes.{else_signs, end_signs, tree}
-use Rattle.wc_drafts.specs.declared.body_draft.BodyDraft.{BodyDraft}
-use Rattle.wc_drafts.specs.Drafting.Words.{place_behind}
-use Rattle.wc_drafts.specs.Drafting.Taking.{take}
+use Rattle.wc_parse_code.specs.declared.body_draft.BodyDraft.{BodyDraft}
+use Rattle.wc_parse_code.specs.Drafting.Words.{place_behind}
+use Rattle.wc_parse_code.specs.Drafting.Taking.{take}
 use Rattle.wc_readback.specs.Instructions.Words.{word_of, taken}
 use Rattle.wc_readback.specs.Instructions.Bodies.{Spot, behind, behind_else, behind_code, text_instr, text_code}
 use Rattle.wc_readback.proofs.InstructionLemmas.Marks.{Holds, plains, said-of}

@@ -12,13 +12,13 @@ use Rattle.wc_surface.specs.declared.instr.TextInstr.{TextInstr}
 use Rattle.wc_surface.specs.declared.type_use.TypeUse.{TypeUse}
 use Rattle.wc_surface.specs.declared.type_use.User.{User}
 use Rattle.wc_spaces.specs.declared.noted.Fault.{Fault}
-use Rattle.wc_targets.specs.declared.why.NameWhy.{NameWhy}
-use Rattle.wc_targets.specs.Standard.Contexts.{Declared, Context}
-use Rattle.wc_targets.specs.Standard.Instructions.{resolved_instr}
-use Rattle.wc_targets.specs.Standard.Heads.{enter, resolved_head}
-use Rattle.wc_targets.specs.Standard.Bodies.{resolved, mark_faults, body_faults}
-use Rattle.wc_declared.specs.Standard.Uses.{use_index}
-use Rattle.wc_drafts.specs.Drafting.Words.{place_behind}
+use Rattle.wc_resolve_code.specs.declared.why.NameWhy.{NameWhy}
+use Rattle.wc_resolve_code.specs.Standard.Contexts.{Declared, Context}
+use Rattle.wc_resolve_code.specs.Standard.Instructions.{resolved_instr}
+use Rattle.wc_resolve_code.specs.Standard.Heads.{enter, resolved_head}
+use Rattle.wc_resolve_code.specs.Standard.Bodies.{resolved, mark_faults, body_faults}
+use Rattle.wc_declare.specs.Standard.Uses.{use_index}
+use Rattle.wc_parse_code.specs.Drafting.Words.{place_behind}
 use Rattle.wc_readback.specs.Instructions.Bodies.{Spot, start, use_at, behind, behind_else, behind_code, text_code}
 use Rattle.wc_readback.specs.Instructions.Bodies.{text_body}
 use Rattle.wc_readback.specs.Names.Known.{KnownInstr, KnownBlock, KnownCode}

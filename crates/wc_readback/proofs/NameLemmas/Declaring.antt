@@ -15,7 +15,7 @@ use Rattle.wc_ast.specs.declared.segment.Elem.{Elem}
 use Rattle.wc_ast.specs.declared.segment.Data.{Data}
 use Rattle.wc_ast.specs.declared.module.Module.{Module}
 use Rattle.wc_ast.specs.Standard.LocalGroups.{locals_limit}
-use Rattle.wc_targets.specs.declared.why.NameWhy.{NameWhy}
+use Rattle.wc_resolve_code.specs.declared.why.NameWhy.{NameWhy}
 use Rattle.wc_spaces.specs.declared.noted.Fault.{Fault}
 use Rattle.wc_surface.specs.Standard.Identifiers.{Identifier}
 use Rattle.wc_surface.specs.declared.local.Local.{Local}
@@ -23,12 +23,12 @@ use Rattle.wc_surface.specs.declared.field.Field.{Field}
 use Rattle.wc_surface.specs.declared.field.Field.TheVariants as field
 use Rattle.wc_surface.specs.declared.field.ImportDesc.{ImportDesc}
 use Rattle.wc_surface.specs.declared.field.ImportDesc.TheVariants as import
-use Rattle.wc_declared.specs.declared.kind.SpaceKind.{SpaceKind}
-use Rattle.wc_declared.specs.declared.kind.SpaceKind.TheVariants as kind
-use Rattle.wc_declared.specs.Standard.Spaces.{brings, declares, space, repeated_after, space_faults}
-use Rattle.wc_declared.specs.Standard.Order.{late_after, second_after}
-use Rattle.wc_declared.specs.Standard.Inner.{local_ids, token_beyond, too_many, inner_faults}
-use Rattle.wc_declared.specs.Standard.Stages.{declaration_faults}
+use Rattle.wc_declare.specs.declared.kind.SpaceKind.{SpaceKind}
+use Rattle.wc_declare.specs.declared.kind.SpaceKind.TheVariants as kind
+use Rattle.wc_declare.specs.Standard.Spaces.{brings, declares, space, repeated_after, space_faults}
+use Rattle.wc_declare.specs.Standard.Order.{late_after, second_after}
+use Rattle.wc_declare.specs.Standard.Inner.{local_ids, token_beyond, too_many, inner_faults}
+use Rattle.wc_declare.specs.Standard.Stages.{declaration_faults}
 use Rattle.wc_readback.specs.Grammar.FieldSigns.{type_signs, import_signs, func_signs, table_signs, memory_signs}
 use Rattle.wc_readback.specs.Grammar.FieldSigns.{global_signs, export_signs, start_signs, elem_signs, data_signs}
 use Rattle.wc_readback.specs.Fields.Surface.{type_field, import_field, func_field, table_field, memory_field}

@@ -16,23 +16,23 @@ use Rattle.wc_surface.specs.Standard.Keys.{key_of}
 use Rattle.wc_surface.specs.declared.local.Local.{Local}
 use Rattle.wc_surface.specs.declared.field.Field.{Field}
 use Rattle.wc_spaces.specs.declared.noted.Fault.{Fault}
-use Rattle.wc_targets.specs.declared.why.NameWhy.{NameWhy}
-use Rattle.wc_targets.specs.Standard.Contexts.{Declared}
-use Rattle.wc_declared.specs.declared.kind.SpaceKind.TheVariants as kind
-use Rattle.wc_declared.specs.Standard.Spaces.{space, texts}
-use Rattle.wc_declared.specs.Standard.Types.{types_of}
-use Rattle.wc_funcs.specs.Standard.Contexts.{context_of}
-use Rattle.wc_funcs.specs.Standard.Constants.{constant_of, constant_faults}
-use Rattle.wc_funcs.specs.Standard.Funcs.{func_context}
-use Rattle.wc_names.specs.declared.counts.Counts.{Counts}
-use Rattle.wc_names.specs.Standard.Counts.{counts_after}
-use Rattle.wc_names.specs.Standard.Counts.{along as counted}
-use Rattle.wc_names.specs.Standard.Indices.{declared_in, indices_of, unknown_of}
-use Rattle.wc_names.specs.Standard.Imports.{field_imports}
-use Rattle.wc_names.specs.Standard.Funcs.{field_funcs, field_func_faults}
-use Rattle.wc_names.specs.Standard.Globals.{field_globals, global_faults}
-use Rattle.wc_names.specs.Standard.Segments.{field_elems, elem_faults}
-use Rattle.wc_names.specs.Standard.Segments.{field_datas, data_faults}
+use Rattle.wc_resolve_code.specs.declared.why.NameWhy.{NameWhy}
+use Rattle.wc_resolve_code.specs.Standard.Contexts.{Declared}
+use Rattle.wc_declare.specs.declared.kind.SpaceKind.TheVariants as kind
+use Rattle.wc_declare.specs.Standard.Spaces.{space, texts}
+use Rattle.wc_declare.specs.Standard.Types.{types_of}
+use Rattle.wc_resolve_func.specs.Standard.Contexts.{context_of}
+use Rattle.wc_resolve_func.specs.Standard.Constants.{constant_of, constant_faults}
+use Rattle.wc_resolve_func.specs.Standard.Funcs.{func_context}
+use Rattle.wc_resolve.specs.declared.counts.Counts.{Counts}
+use Rattle.wc_resolve.specs.Standard.Counts.{counts_after}
+use Rattle.wc_resolve.specs.Standard.Counts.{along as counted}
+use Rattle.wc_resolve.specs.Standard.Indices.{declared_in, indices_of, unknown_of}
+use Rattle.wc_resolve.specs.Standard.Imports.{field_imports}
+use Rattle.wc_resolve.specs.Standard.Funcs.{field_funcs, field_func_faults}
+use Rattle.wc_resolve.specs.Standard.Globals.{field_globals, global_faults}
+use Rattle.wc_resolve.specs.Standard.Segments.{field_elems, elem_faults}
+use Rattle.wc_resolve.specs.Standard.Segments.{field_datas, data_faults}
 use Rattle.wc_syntax.specs.declared.kind.Kind.TheVariants as syntax
 use Rattle.wc_syntax.specs.declared.role.Role.TheVariants as role
 use Rattle.wc_readback.specs.Grammar.Signs.{Sign}

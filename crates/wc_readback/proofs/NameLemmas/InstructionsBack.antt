@@ -25,13 +25,13 @@ use Rattle.wc_surface.specs.declared.type_use.TypeUse.{TypeUse}
 use Rattle.wc_surface.specs.declared.type_use.User.{User}
 use Rattle.wc_surface.specs.declared.type_use.User.TheVariants as user
 use Rattle.wc_surface.specs.Standard.Identifiers.{Identifier}
-use Rattle.wc_targets.specs.Standard.Contexts.{Declared, Context}
-use Rattle.wc_targets.specs.Standard.Operands.{index_in, index_faults}
-use Rattle.wc_targets.specs.Standard.Instructions.{type_at, table, labels_at, resolved_instr, instr_faults}
-use Rattle.wc_targets.specs.Standard.Heads.{type_in, faults_in, resolved_head, head_faults}
+use Rattle.wc_resolve_code.specs.Standard.Contexts.{Declared, Context}
+use Rattle.wc_resolve_code.specs.Standard.Operands.{index_in, index_faults}
+use Rattle.wc_resolve_code.specs.Standard.Instructions.{type_at, table, labels_at, resolved_instr, instr_faults}
+use Rattle.wc_resolve_code.specs.Standard.Heads.{type_in, faults_in, resolved_head, head_faults}
 use Rattle.wc_readback.specs.Grammar.Signs.{exponent_of}
-use Rattle.wc_drafts.specs.Drafting.Words.{place_behind}
-use Rattle.wc_drafts.specs.Drafting.Heads.{head_of}
+use Rattle.wc_parse_code.specs.Drafting.Words.{place_behind}
+use Rattle.wc_parse_code.specs.Drafting.Heads.{head_of}
 use Rattle.wc_readback.specs.Instructions.Bodies.{Spot, use_at, instr_labels, head_type, unless_zero, unless_natural}
 use Rattle.wc_readback.specs.Instructions.Bodies.{text_instr, behind, behind_head}
 use Rattle.wc_readback.specs.Names.Known.{KnownInstr}

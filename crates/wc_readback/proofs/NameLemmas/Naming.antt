@@ -13,20 +13,20 @@ use Rattle.wc_ast.specs.declared.module.Module.{Module}
 use Rattle.wc_surface.specs.declared.field.Field.{Field}
 use Rattle.wc_spaces.specs.declared.noted.Fault.{Fault}
 use Rattle.wc_spaces.specs.Standard.Least.{least}
-use Rattle.wc_targets.specs.declared.why.NameWhy.{NameWhy}
-use Rattle.wc_declared.specs.Standard.Stages.{declaration_faults, all_use_faults, or_else}
-use Rattle.wc_names.specs.declared.counts.Counts.{Counts}
-use Rattle.wc_names.specs.Standard.Counts.{no_counts, counts_after}
-use Rattle.wc_names.specs.Standard.Counts.{along as counted}
-use Rattle.wc_names.specs.Standard.Imports.{field_imports}
-use Rattle.wc_names.specs.Standard.Funcs.{field_funcs, field_func_faults}
-use Rattle.wc_names.specs.Standard.Ranges.{field_tables, field_memories}
-use Rattle.wc_names.specs.Standard.Globals.{field_globals, global_faults}
-use Rattle.wc_names.specs.Standard.Exports.{field_exports, export_faults}
-use Rattle.wc_names.specs.Standard.Start.{start_from, start_faults}
-use Rattle.wc_names.specs.Standard.Segments.{field_elems, elem_faults}
-use Rattle.wc_names.specs.Standard.Segments.{field_datas, data_faults}
-use Rattle.wc_names.specs.Standard.Denoted.{denoted, reference_faults, Names}
+use Rattle.wc_resolve_code.specs.declared.why.NameWhy.{NameWhy}
+use Rattle.wc_declare.specs.Standard.Stages.{declaration_faults, all_use_faults, or_else}
+use Rattle.wc_resolve.specs.declared.counts.Counts.{Counts}
+use Rattle.wc_resolve.specs.Standard.Counts.{no_counts, counts_after}
+use Rattle.wc_resolve.specs.Standard.Counts.{along as counted}
+use Rattle.wc_resolve.specs.Standard.Imports.{field_imports}
+use Rattle.wc_resolve.specs.Standard.Funcs.{field_funcs, field_func_faults}
+use Rattle.wc_resolve.specs.Standard.Ranges.{field_tables, field_memories}
+use Rattle.wc_resolve.specs.Standard.Globals.{field_globals, global_faults}
+use Rattle.wc_resolve.specs.Standard.Exports.{field_exports, export_faults}
+use Rattle.wc_resolve.specs.Standard.Start.{start_from, start_faults}
+use Rattle.wc_resolve.specs.Standard.Segments.{field_elems, elem_faults}
+use Rattle.wc_resolve.specs.Standard.Segments.{field_datas, data_faults}
+use Rattle.wc_resolve.specs.Standard.Denoted.{denoted, reference_faults, Names}
 use Rattle.wc_readback.specs.Grammar.FieldSigns.{type_signs, import_signs, func_signs, table_signs, memory_signs}
 use Rattle.wc_readback.specs.Grammar.FieldSigns.{global_signs, export_signs, start_signs, elem_signs, data_signs}
 use Rattle.wc_readback.specs.Fields.Surface.{along, behind, start_along, type_field, import_field, func_field}

@@ -11,8 +11,8 @@ use Rattle.wc_readback.specs.Grammar.Fitting.{Fits}
 use Rattle.wc_readback.specs.Fields.Surface.{text_fields}
 use Rattle.wc_readback.proofs.FieldLemmas.Syntax.{syntax-of}
 use Rattle.wc_readback.specs.Names.Known.{HasFewLocals}
-use Rattle.wc_source.specs.Texts.{Txt}
-use Rattle.wc_source.proofs.Stages.{text-read}
+use Rattle.wc_read_text.specs.Texts.{Txt}
+use Rattle.wc_read_text.proofs.Stages.{text-read}
 use Rattle.wc_readback.proofs.NameLemmas.Counting.{signs-few, bodies-few}
 use Rattle.wc_readback.proofs.NameLemmas.Checked.{names-known}
 use Rattle.wc_readback.proofs.NameLemmas.Naming.{named}

@@ -15,7 +15,7 @@ use Rattle.wc_surface.specs.declared.instr.Operand.{Operand}
 use Rattle.wc_surface.specs.declared.type_use.TypeUse.{TypeUse}
 use Rattle.wc_readback.specs.Grammar.InstructionSigns.{mark_signs, code_signs}
 use Rattle.wc_readback.proofs.GrammarLemmas.Codes.{tree, flat-same}
-use Rattle.wc_drafts.specs.Drafting.Heads.{head_of}
+use Rattle.wc_parse_code.specs.Drafting.Heads.{head_of}
 use Rattle.wc_readback.specs.Instructions.Bodies.{Spot, start, instr_uses, instr_labels, block_uses, head_type}
 use Rattle.wc_readback.specs.Instructions.Bodies.{behind_head, behind, behind_else, behind_code, text_body}
 use Rattle.wc_readback.proofs.InstructionLemmas.Telling.{token-behind}

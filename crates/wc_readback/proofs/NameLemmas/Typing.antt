@@ -19,7 +19,7 @@ use Rattle.wc_ast.specs.declared.func.Global.{Global}
 use Rattle.wc_ast.specs.declared.segment.Elem.{Elem}
 use Rattle.wc_ast.specs.declared.segment.Data.{Data}
 use Rattle.wc_ast.specs.declared.module.Module.{Module}
-use Rattle.wc_targets.specs.declared.why.NameWhy.{NameWhy}
+use Rattle.wc_resolve_code.specs.declared.why.NameWhy.{NameWhy}
 use Rattle.wc_spaces.specs.declared.noted.Fault.{Fault}
 use Rattle.wc_surface.specs.Standard.Keys.{func_type, key_of}
 use Rattle.wc_surface.specs.declared.id.Index.{Index}
@@ -28,11 +28,11 @@ use Rattle.wc_surface.specs.declared.type_use.TypeUse.{TypeUse}
 use Rattle.wc_surface.specs.declared.type_use.User.{User}
 use Rattle.wc_surface.specs.declared.type_use.ParamName.{ParamName}
 use Rattle.wc_surface.specs.declared.field.Field.{Field}
-use Rattle.wc_declared.specs.declared.kind.SpaceKind.TheVariants as kind
-use Rattle.wc_declared.specs.Standard.Spaces.{space, texts}
-use Rattle.wc_declared.specs.Standard.Types.{written_types, uses_of, all_uses, with_use, with_uses, types_of}
-use Rattle.wc_declared.specs.Standard.Uses.{index_faults, param_faults, type_faults, use_faults}
-use Rattle.wc_declared.specs.Standard.Stages.{all_use_faults}
+use Rattle.wc_declare.specs.declared.kind.SpaceKind.TheVariants as kind
+use Rattle.wc_declare.specs.Standard.Spaces.{space, texts}
+use Rattle.wc_declare.specs.Standard.Types.{written_types, uses_of, all_uses, with_use, with_uses, types_of}
+use Rattle.wc_declare.specs.Standard.Uses.{index_faults, param_faults, type_faults, use_faults}
+use Rattle.wc_declare.specs.Standard.Stages.{all_use_faults}
 use Rattle.wc_readback.specs.Grammar.FieldSigns.{type_signs, import_signs, func_signs, table_signs, memory_signs}
 use Rattle.wc_readback.specs.Grammar.FieldSigns.{global_signs, export_signs, elem_signs, data_signs}
 use Rattle.wc_readback.specs.Instructions.Bodies.{Spot, start, instr_uses, block_uses, behind, behind_else, behind_code}

@@ -6,7 +6,7 @@ use Rattle.wc_print.specs.Printed.{Printed, opening, closing, word, number, inte
 use Rattle.wc_readback.specs.Grammar.Signs.{Sign}
 use Rattle.wc_readback.specs.Grammar.FieldSigns.{signs}
 use Rattle.wc_readback.specs.Grammar.Kept.{said_as}
-use Rattle.wc_text.specs.Kept.Texts.{Item}
+use Rattle.wc_parse.specs.Kept.Texts.{Item}
 use Rattle.wc_readback.specs.Instructions.Words.{word_of}
 
 -- what a string stands for; nothing, where it is no string

@@ -6,8 +6,8 @@ use Rattle.wc_syntax.specs.declared.kind.Kind.{Kind}
 use Rattle.wc_syntax.specs.declared.role.Role.{Role}
 use Rattle.wc_syntax.specs.Phrases.{word}
 use Rattle.wc_syntax.specs.Deriving.{at, Event, kept}
-use Rattle.wc_words.specs.declared.symbol.Symbol.{Symbol}
-use Rattle.wc_words.specs.Tokens.{TokenIs}
+use Rattle.wc_symbols.specs.declared.symbol.Symbol.{Symbol}
+use Rattle.wc_symbols.specs.Tokens.{TokenIs}
 use Rattle.wc_print.specs.Printed.{spelled}
 use Rattle.wc_readback.specs.Grammar.Signs.{Sign}
 use Rattle.wc_readback.specs.Grammar.FieldSigns.{signs}

@@ -10,10 +10,10 @@ use Rattle.wc_syntax.specs.declared.kind.Kind.{Kind}
 use Rattle.wc_syntax.specs.declared.kind.Kind.TheVariants as kind
 use Rattle.wc_syntax.specs.declared.role.Role.{Role}
 use Rattle.wc_syntax.specs.declared.role.Role.TheVariants as role
-use Rattle.wc_words.specs.declared.symbol.Symbol.{Symbol}
-use Rattle.wc_words.specs.declared.symbol.Value.TheVariants.{Number, Offset, Exponent, Instruction, ValType}
-use Rattle.wc_words.specs.Symbols.{bare, valued}
-use Rattle.wc_words.specs.Names.{keyword, op_kind}
+use Rattle.wc_symbols.specs.declared.symbol.Symbol.{Symbol}
+use Rattle.wc_symbols.specs.declared.symbol.Value.TheVariants.{Number, Offset, Exponent, Instruction, ValType}
+use Rattle.wc_symbols.specs.Symbols.{bare, valued}
+use Rattle.wc_symbols.specs.Names.{keyword, op_kind}
 use Rattle.wc_print.specs.Printed.{Printed, opening, closing, word, number, integer as signed_number, part, quoted}
 use Rattle.wc_print.specs.Lines.{bytes_of}
 

@@ -24,9 +24,9 @@ use Rattle.wc_surface.specs.declared.type_use.TypeUse.{TypeUse}
 use Rattle.wc_surface.specs.Standard.Keys.{func_type}
 use Rattle.wc_readback.specs.Grammar.Signs.{exponent_of}
 use Rattle.wc_readback.specs.Grammar.InstructionSigns.{mark_signs}
-use Rattle.wc_drafts.specs.Drafting.Words.{place_behind}
-use Rattle.wc_drafts.specs.Drafting.Heads.{head_of}
-use Rattle.wc_drafts.specs.Drafting.Saying.{table_of}
+use Rattle.wc_parse_code.specs.Drafting.Words.{place_behind}
+use Rattle.wc_parse_code.specs.Drafting.Heads.{head_of}
+use Rattle.wc_parse_code.specs.Drafting.Saying.{table_of}
 
 -- a place among instructions: the number of the token there, and the lists of the body so far
 pub record Spot : Type 0 where

@@ -6,7 +6,7 @@ ghost use Rattle.wc_check.specs.Standard.Broken.{broken};
 ghost use Rattle.wc_print.specs.Layout.{layout};
 ghost use Rattle.wc_print.specs.Printed.{text};
 ghost use Rattle.wc_tokens.specs.Standard.Lexemes.{longest};
-ghost use Rattle.wc_source.specs.Texts.{Txt};
+ghost use Rattle.wc_read_text.specs.Texts.{Txt};
 
 use crate::grammar::module_fits;
 use crate::names::few_locals::module_has_few_locals;

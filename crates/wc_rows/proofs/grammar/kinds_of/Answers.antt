@@ -1,4 +1,4 @@
-use Rattle.wc_words.proofs.Forms.{form-at}
+use Rattle.wc_symbols.proofs.Forms.{form-at}
 use Rattle.wc_rows.proofs.grammar.kinds_of.Goals as goal
 
 pub symbol_of-requires : goal.symbol_of-requires

@@ -1,6 +1,6 @@
 use Rattle.std.proofs.Common.{sym, subst, arith}
 use Rattle.wc_tokens.specs.Standard.Tokens.{InOrder}
-use Rattle.wc_words.proofs.Forms.{form-at}
+use Rattle.wc_symbols.proofs.Forms.{form-at}
 use Rattle.wc_rows.proofs.words.symbol_shown.Goals as goal
 
 pub symbol_of-kind-requires : goal.symbol_of-kind-requires

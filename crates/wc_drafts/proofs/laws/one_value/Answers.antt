@@ -1,5 +1,0 @@
-use Rattle.wc_drafts.proofs.OneValue.Same.{one_value}
-use Rattle.wc_drafts.proofs.laws.one_value.Goals as goal
-
-pub returns : goal.returns
-returns c = λ p q us x y a b. one_value a b

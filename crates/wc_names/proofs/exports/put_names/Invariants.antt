@@ -1,7 +1,0 @@
-use Rattle.std.proofs.Common.{◌≡◌, ◌++◌, drop}
-use Rattle.wc_names.specs.Standard.Exports.{exported_as}
-use Rattle.wc_names.proofs.exports.put_names.Given as goal
-
-abbrev pub invariant-loop-name : goal.invariant-loop-name
-invariant-loop-name l = l.out ++ exported_as l.kind l.index (drop l.name-index l.names)
-    ≡ l.initial.out ++ exported_as l.kind l.index l.names

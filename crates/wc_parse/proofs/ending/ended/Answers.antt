@@ -1,0 +1,27 @@
+use Rattle.std.proofs.Common.{List, sym, subst, ◌∙◌}
+use Rattle.wc_body.specs.Standard.Nested.{nesting_limit}
+use Rattle.wc_surface.specs.declared.field.Field.{Field}
+use Rattle.wc_parse.specs.Standard.Meaning.{Syn}
+use Rattle.wc_parse.proofs.Said.{said-whole, said-unended}
+use Rattle.wc_parse.proofs.Forms.{few-tokens}
+use Rattle.wc_parse.proofs.Few.{fewer-than-bytes}
+use Rattle.wc_parse.proofs.Joined.{folds-say}
+use Rattle.wc_parse.proofs.ending.ended.Goals as goal
+
+pub new-requires : goal.new-requires
+new-requires c =
+    let w = c.requires.1 in
+    rw c.into_fields.ensures (fewer-than-bytes c.requires.0 _ w.in_order
+    (said-whole w.said w.all
+    (c.is_text.ensures.text nesting_limit w.said.kinds w.said.es w.said.read c.if-is_text.true)))
+
+pub returns-then-is_text-clause-ok : goal.returns-then-is_text-clause-ok
+returns-then-is_text-clause-ok c = λ ts w.
+    subst (λ (fields : List Field). Syn ts fields) (sym (c.new.ensures ∙ c.into_fields.ensures))
+    (folds-say ts _ (few-tokens ts w.in_order) (said-whole w.said w.all
+    (c.is_text.ensures.text nesting_limit w.said.kinds w.said.es w.said.read c.if-is_text.true)))
+
+pub returns-clause-fault : goal.returns-clause-fault
+returns-clause-fault c = λ ts w.
+    said-unended w.said w.all
+    (c.is_text.ensures.fault nesting_limit w.said.kinds w.said.es w.said.read c.if-is_text.false)

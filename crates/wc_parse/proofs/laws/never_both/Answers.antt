@@ -1,0 +1,5 @@
+use Rattle.wc_parse.proofs.Answering.{never-both}
+use Rattle.wc_parse.proofs.laws.never_both.Goals as goal
+
+pub returns : goal.returns
+returns c = never-both

@@ -1,0 +1,5 @@
+use Rattle.wc_parse.proofs.Written.{one-written}
+use Rattle.wc_parse.proofs.laws.one_written_list.Goals as goal
+
+pub returns : goal.returns
+returns c = one-written

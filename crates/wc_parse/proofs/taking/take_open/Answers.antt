@@ -1,0 +1,24 @@
+use Rattle.std.proofs.Common.{subst, OnOk}
+use Rattle.wc_tokens.specs.Standard.Tokens.{lexeme_of}
+use Rattle.wc_body.specs.Standard.Nested.{nesting_limit}
+use Rattle.wc_syntax.specs.Reading.{Standing}
+use Rattle.wc_parse.specs.Kept.SaidSoFar.{SaysMore}
+use Rattle.wc_parse.proofs.Said.{said-count}
+use Rattle.wc_parse.proofs.Usual.{open-token, said-open}
+use Rattle.wc_parse.proofs.taking.take_open.Goals as goal
+
+pub returns-then-take_open-clause-said : goal.returns-then-take_open-clause-said
+returns-then-take_open-clause-said c = λ ts rest w e.
+    said-open w _ rest _ _ e c.requires.kind
+    (open-token _ _ _ c.requires.kind c.bare-symbol.ensures)
+    (c.take_open.ensures.read c.if-take_open.true nesting_limit c.args.at w.kinds w.es w.read (said-count w _ rest e))
+
+pub returns-clause-said : goal.returns-clause-said
+returns-clause-said c =
+    subst
+    (λ (s : Standing). OnOk c.take_any.result
+    (SaysMore (lexeme_of c.args.token.now) c.args.at s c.args.draft.now c.take_any.new.reading c.take_any.new.draft))
+    (c.take_open.ensures.stays c.if-take_open.false) c.take_any.ensures.said
+
+pub take_any-requires-clause-symbol : goal.take_any-requires-clause-symbol
+take_any-requires-clause-symbol c = open-token _ _ _ c.requires.kind c.bare-symbol.ensures

@@ -1,0 +1,26 @@
+use Rattle.std.proofs.Common.{◌++◌, ◌∷◌, [], Some, sym, subst, OnOk}
+use Rattle.wc_tokens.specs.Standard.Tokens.{lexeme_of}
+use Rattle.wc_body.specs.Standard.Nested.{nesting_limit}
+use Rattle.wc_syntax.specs.Reading.{Standing, IsRead, kept_as}
+use Rattle.wc_syntax.specs.declared.kind.Kind.{Kind}
+use Rattle.wc_syntax.specs.declared.role.Role.TheVariants as role
+use Rattle.wc_parse.specs.Kept.SaidSoFar.{SaysMore}
+use Rattle.wc_parse.proofs.Said.{said-count}
+use Rattle.wc_parse.proofs.Usual.{said-word}
+use Rattle.wc_parse.proofs.words.take_end.Goals as goal
+
+pub returns-then-take_end-clause-said : goal.returns-then-take_end-clause-said
+returns-then-take_end-clause-said c = λ ts rest w e.
+    said-word w _ rest _ role.End _ _ e c.requires.kind c.requires.symbol
+    (subst
+    (λ (k : Kind). IsRead nesting_limit (w.kinds ++ k ∷ []) (w.es ++ kept_as (Some role.End) c.args.at k) c.take_end.new.self)
+    (sym c.requires.end)
+    (c.take_end.ensures.read c.if-take_end.true nesting_limit c.args.at w.kinds w.es w.read (said-count w _ rest e)))
+    c.in_ok-keep.ensures
+
+pub returns-clause-said : goal.returns-clause-said
+returns-clause-said c =
+    subst
+    (λ (s : Standing). OnOk c.take_any.result
+    (SaysMore (lexeme_of c.args.token.now) c.args.at s c.args.draft.now c.take_any.new.reading c.take_any.new.draft))
+    (c.take_end.ensures.stays c.if-take_end.false) c.take_any.ensures.said

@@ -1,0 +1,30 @@
+use Rattle.std.proofs.Common.{sym, subst, ◌∙◌, OnOk}
+use Rattle.wc_tokens.specs.Standard.Tokens.{lexeme_of}
+use Rattle.wc_body.specs.Standard.Nested.{nesting_limit}
+use Rattle.wc_syntax.specs.Reading.{Standing, IsRead}
+use Rattle.wc_syntax.specs.declared.role.Role.TheVariants as role
+use Rattle.wc_parse.specs.Kept.SaidSoFar.{SaysMore}
+use Rattle.wc_parse.proofs.Said.{said-count}
+use Rattle.wc_parse.proofs.Usual.{said-word}
+use Rattle.wc_parse.proofs.words.take_name.Goals as goal
+
+pub returns-then-take_plain-clause-said : goal.returns-then-take_plain-clause-said
+returns-then-take_plain-clause-said c = λ ts rest w e.
+    said-word w _ rest _ role.Plain _ _ e c.requires.kind c.requires.symbol
+    (c.take_plain.ensures.read c.if-take_plain.true nesting_limit c.args.at w.kinds w.es w.read (said-count w _ rest e))
+    c.in_ok-keep.ensures
+
+pub returns-then-branch-clause-said : goal.returns-then-branch-clause-said
+returns-then-branch-clause-said c = λ ts rest w e.
+    said-word w _ rest _ role.HeldPlain _ _ e c.requires.kind c.requires.symbol
+    (c.in_ok-take_held.ensures.read c.if-branch.true nesting_limit c.args.at w.kinds w.es
+    (subst (λ (s : Standing). IsRead nesting_limit w.kinds w.es s) (sym (c.take_plain.ensures.stays c.if-take_plain.false)) w.read)
+    (said-count w _ rest e))
+    c.in_ok-keep-2.ensures
+
+pub returns-clause-said : goal.returns-clause-said
+returns-clause-said c =
+    subst
+    (λ (s : Standing). OnOk c.take_begin.result
+    (SaysMore (lexeme_of c.args.token.now) c.args.at s c.args.draft.now c.take_begin.new.reading c.take_begin.new.draft))
+    (c.in_ok-take_held.ensures.stays c.if-branch.false ∙ c.take_plain.ensures.stays c.if-take_plain.false) c.take_begin.ensures.said

@@ -1,6 +1,0 @@
-use Rattle.std.proofs.Common.{rules}
-use Rattle.wc_targets.proofs.table.last_of.Goals as goal
-
--- written out, so that a wrong body is refused by this search alone
-pub returns : goal.returns
-returns c = search rules

@@ -1,5 +1,0 @@
-use Rattle.wc_text.proofs.Written.{always-written, always-said}
-use Rattle.wc_text.proofs.laws.always_written.Goals as goal
-
-pub returns : goal.returns
-returns c = record { written = always-written; said = always-said }
