@@ -20,7 +20,8 @@ mod vector;
 
 ghost use Rattle.std.specs.Prelude.{◌≡◌, ◌≤◌, ◌++◌, length, IfSome, IfErr, OnOk, Some, false, ℕ};
 ghost use Rattle.std.specs.Io.KnownBytes.{IsAtEnd};
-ghost use Rattle.wc_device.specs.Device.{device_inner, failed_at, has_failed, has_ended, was_asked_again, read_count};
+ghost use Rattle.wc_device.specs.Standard.Device.{device_inner, failed_at, has_failed, has_ended, was_asked_again};
+ghost use Rattle.wc_device.specs.Standard.Device.{read_count};
 ghost use Rattle.wc_binary.specs.Standard.Decoding.{buffer_size, Decodes, DecodesOnly, DecodesOnlyFault, DecodesNear};
 ghost use Rattle.wc_binary.specs.Standard.Decoding.{DecodesCut, is_read_fault};
 

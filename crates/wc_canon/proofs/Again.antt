@@ -6,16 +6,16 @@ use Rattle.wc_ast.specs.declared.module.Module.{Module}
 use Rattle.wc_check.specs.Standard.Broken.{broken}
 use Rattle.wc_tokens.specs.Standard.Lexemes.{longest}
 use Rattle.wc_binary.specs.Standard.Module.{Canon}
-use Rattle.wc_binary.proofs.spelling.Modules.{canon-only}
-use Rattle.wc_print.specs.Layout.{layout}
-use Rattle.wc_print.specs.Printed.{text}
-use Rattle.wc_read_text.specs.Texts.{Txt}
+use Rattle.wc_binary.proofs.spelling.whole.Modules.{canon-only}
+use Rattle.wc_print.specs.Standard.Layout.{layout}
+use Rattle.wc_print.specs.Standard.Printed.{text}
+use Rattle.wc_read_text.specs.Standard.Texts.{Txt}
 use Rattle.wc_readback.proofs.NameLemmas.Reading.{text-of}
 use Rattle.wc_canon.specs.declared.fault.RunFault.{RunFault}
 use Rattle.wc_canon.specs.declared.running.Job.TheVariants as job
-use Rattle.wc_canon.specs.Input.{KeepsRules, Means, HasAnswer}
-use Rattle.wc_canon.specs.Printing.{HasText}
-use Rattle.wc_canon.specs.Run.{IsOutputOf, HasSameAnswer, SendsAlike}
+use Rattle.wc_canon.specs.Standard.Input.{KeepsRules, Means, HasAnswer}
+use Rattle.wc_canon.specs.Standard.Printing.{HasText}
+use Rattle.wc_canon.specs.Standard.Run.{IsOutputOf, HasSameAnswer, SendsAlike}
 use Rattle.wc_canon.proofs.Laws.{text-denotes, means-kept, means-canon, means-answered, has-answer, answer-canonical}
 use Rattle.wc_canon.proofs.Fitted.{fitted, few-locals}
 use Rattle.wc_canon.proofs.Spelled.{fits-printable}

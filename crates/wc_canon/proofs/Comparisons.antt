@@ -8,10 +8,10 @@ use Rattle.wc_canon.specs.declared.comparing.Comparison.{Comparison}
 use Rattle.wc_canon.specs.declared.comparing.Comparison.TheVariants.{Same, Different}
 use Rattle.wc_canon.specs.declared.comparing.Side.{Side}
 use Rattle.wc_canon.specs.declared.comparing.Side.TheVariants.{A, B}
-use Rattle.wc_canon.specs.Input.{Means, HasAnswer, HasFault, IsAccepted, IsRefused}
-use Rattle.wc_canon.specs.Run.{IsAnswerOf}
-use Rattle.wc_canon.specs.Inner.Sides.{ComparesBytes}
-use Rattle.wc_canon.specs.Comparing.{IsSame, IsDifferent, Compares, IsSideRefused}
+use Rattle.wc_canon.specs.Standard.Input.{Means, HasAnswer, HasFault, IsAccepted, IsRefused}
+use Rattle.wc_canon.specs.Standard.Run.{IsAnswerOf}
+use Rattle.wc_canon.specs.Answering.Sides.{ComparesBytes}
+use Rattle.wc_canon.specs.Standard.Comparing.{IsSame, IsDifferent, Compares, IsSideRefused}
 use Rattle.wc_canon.proofs.Laws.{same-bytes-same-module, one-meaning, meant-or-fault}
 use Rattle.wc_canon.proofs.Judged.{never-meant, that-fault}
 

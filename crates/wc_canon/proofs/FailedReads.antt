@@ -3,7 +3,7 @@ use Rattle.std.proofs.Common.{◌≡◌, ◌≤◌, ℕ, zero, suc, List, [], �
 use Rattle.std.proofs.Common.{true, false, length, subst, sym, refl, ◌∙◌}
 use Rattle.std.specs.Option.{is_some}
 use Rattle.std.proofs.lemmas.List.{length-take-le}
-use Rattle.wc_device.specs.Device.{first_failure}
+use Rattle.wc_device.specs.Standard.Device.{first_failure}
 use Rattle.wc_binary.specs.declared.fault.BinFault.{BinFault}
 use Rattle.wc_binary.specs.declared.fault.BinFault.TheVariants.{Bad, Read as Unread, Memory as NoMemoryToDecode}
 use Rattle.wc_binary.specs.Standard.Decoding.{DecodesCut}
@@ -12,9 +12,9 @@ use Rattle.wc_canon.specs.declared.fault.Refusal.TheVariants.{Binary, Lex, Synta
 use Rattle.wc_canon.specs.declared.fault.Refusal.TheVariants.{Memory as NoMemory}
 use Rattle.wc_canon.specs.declared.fault.RunFault.{RunFault}
 use Rattle.wc_canon.specs.declared.fault.RunFault.TheVariants.{Refused, Read, Write, Memory}
-use Rattle.wc_canon.specs.Inner.Faults.{decoding_fault, refusing_fault}
-use Rattle.wc_canon.specs.Input.{is_binary}
-use Rattle.wc_canon.specs.Run.{IsCut, ReadsCut}
+use Rattle.wc_canon.specs.Answering.Faults.{decoding_fault, refusing_fault}
+use Rattle.wc_canon.specs.Standard.Input.{is_binary}
+use Rattle.wc_canon.specs.Standard.Run.{IsCut, ReadsCut}
 
 -- ---- the first read
 

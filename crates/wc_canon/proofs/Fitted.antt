@@ -17,7 +17,7 @@ use Rattle.wc_ast.specs.Standard.LocalGroups.{locals_limit}
 use Rattle.wc_binary.specs.Standard.Module.{type_of, code_of}
 use Rattle.wc_binary.specs.Writing.Values as values
 use Rattle.wc_binary.specs.Writing.Contents as contents
-use Rattle.wc_binary.proofs.spelling.ModuleBytes.{FitsModule}
+use Rattle.wc_binary.proofs.spelling.whole.ModuleBytes.{FitsModule}
 use Rattle.wc_readback.specs.Grammar.Fitting.{FitsOptional, FitsLimits, FitsDesc, FitsImport, FitsFunc, FitsGlobal}
 use Rattle.wc_readback.specs.Grammar.Fitting.{FitsExport, FitsElem, FitsData, Fits}
 use Rattle.wc_readback.specs.Names.Known.{HasFewLocals}

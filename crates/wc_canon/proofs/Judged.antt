@@ -4,21 +4,22 @@ use Rattle.std.proofs.Common.{IfOk, IsErrAnd, OnOk}
 use Rattle.std.proofs.Common.{MatchResult, IfErr, subst, sym, refl, ap, ◌⊎◌, inl, inr}
 use Rattle.wc_ast.specs.declared.module.Module.{Module}
 use Rattle.wc_binary.specs.Standard.Module.{Bin, Canon, IsShortestOf, IsOrLonger}
-use Rattle.wc_binary.proofs.spelling.Modules.{bin-canon}
+use Rattle.wc_binary.proofs.spelling.whole.Modules.{bin-canon}
 use Rattle.wc_check.specs.declared.fault.CheckFault.{CheckFault}
 use Rattle.wc_check.specs.declared.fault.CheckFault.TheVariants.{Broken, Memory as NoMemoryToCheck}
 use Rattle.wc_check.specs.Standard.Rules.{IsFirstOf}
 use Rattle.wc_check.specs.Standard.Broken.{broken}
-use Rattle.wc_print.specs.Layout.{layout}
-use Rattle.wc_print.specs.Printed.{text as text_of}
+use Rattle.wc_print.specs.Standard.Layout.{layout}
+use Rattle.wc_print.specs.Standard.Printed.{text as text_of}
 use Rattle.wc_read_text.specs.declared.fault.TextFault.{TextFault}
-use Rattle.wc_read_text.specs.Faults.{IsFault}
+use Rattle.wc_read_text.specs.Standard.Faults.{IsFault}
 use Rattle.wc_canon.specs.declared.fault.Refusal.{Refusal}
 use Rattle.wc_canon.specs.declared.fault.Refusal.TheVariants.{Binary, Lex, Syntax, Names, Check, Oversize, Memory as NoMemory}
-use Rattle.wc_canon.specs.Inner.Faults.{reading_refusal, checking_refusal}
-use Rattle.wc_canon.specs.Input.{is_binary, Denotes, KeepsRules, BreaksFirst, Means, HasAnswer, HasFault, IsRefused}
-use Rattle.wc_canon.specs.Printing.{HasText}
-use Rattle.wc_canon.specs.Inner.Steps.{IsModuleFault, IsSized}
+use Rattle.wc_canon.specs.Answering.Faults.{reading_refusal, checking_refusal}
+use Rattle.wc_canon.specs.Standard.Input.{is_binary, Denotes, KeepsRules, BreaksFirst, Means, HasAnswer, HasFault}
+use Rattle.wc_canon.specs.Standard.Input.{IsRefused}
+use Rattle.wc_canon.specs.Standard.Printing.{HasText}
+use Rattle.wc_canon.specs.Answering.Steps.{IsModuleFault, IsSized}
 use Rattle.wc_canon.proofs.Laws.{denotes-binary, denoted-means, has-answer, has-text-fault, has-broken-rule}
 use Rattle.wc_canon.proofs.Laws.{has-oversize, answer-canonical, meant-or-fault, never-both, one-fault}
 

@@ -13,17 +13,17 @@ use Rattle.wc_binary.proofs.sections.Order.{bin-rises}
 use Rattle.wc_binary.proofs.sections.OneModule.{rises-one, rises-or-stop, one-fault as one-stop}
 use Rattle.wc_binary.proofs.sections.Total.{bin-judged}
 use Rattle.wc_binary.proofs.phrases.Freed.{canon-bin}
-use Rattle.wc_binary.proofs.spelling.Modules.{one-canonical, bin-canon, canon-only}
+use Rattle.wc_binary.proofs.spelling.whole.Modules.{one-canonical, bin-canon, canon-only}
 use Rattle.wc_read_text.specs.declared.fault.TextFault.{TextFault}
 use Rattle.wc_read_text.specs.declared.fault.TextFault.TheVariants as text
-use Rattle.wc_read_text.specs.Texts.{Txt}
-use Rattle.wc_read_text.specs.Faults.{FirstFault as FirstTextFault}
+use Rattle.wc_read_text.specs.Standard.Texts.{Txt}
+use Rattle.wc_read_text.specs.Standard.Faults.{FirstFault as FirstTextFault}
 use Rattle.wc_read_text.proofs.Laws as source
 use Rattle.wc_canon.specs.declared.fault.Refusal.{Refusal}
 use Rattle.wc_canon.specs.declared.fault.Refusal.TheVariants.{Binary, Lex, Syntax, Names, Check, Oversize, Memory}
-use Rattle.wc_canon.specs.Input.{is_binary, DenotesBy, Denotes, KeepsRules, BreaksFirst, Means, IsAccepted, HasAnswer}
-use Rattle.wc_canon.specs.Input.{IsBinaryFault, IsTextFault, IsRefusedFor, HasFault}
-use Rattle.wc_canon.specs.Inner.Faults.{reading_refusal}
+use Rattle.wc_canon.specs.Standard.Input.{is_binary, DenotesBy, Denotes, KeepsRules, BreaksFirst, Means, IsAccepted}
+use Rattle.wc_canon.specs.Standard.Input.{HasAnswer, IsBinaryFault, IsTextFault, IsRefusedFor, HasFault}
+use Rattle.wc_canon.specs.Answering.Faults.{reading_refusal}
 use Rattle.wc_canon.proofs.Sizes.{canon-judged}
 
 -- ---- of the binary format

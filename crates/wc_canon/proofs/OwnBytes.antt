@@ -5,9 +5,9 @@ use Rattle.std.proofs.lemmas.Bool.{eqb-true}
 use Rattle.wc_ast.specs.declared.module.Module.{Module}
 use Rattle.wc_binary.specs.Standard.Module.{IsOrLonger, Canon}
 use Rattle.wc_binary.specs.Standard.Encoding.{HasLength}
-use Rattle.wc_binary.proofs.spelling.Modules.{shortest-and-only}
-use Rattle.wc_canon.specs.Input.{is_binary, Denotes, KeepsRules}
-use Rattle.wc_canon.specs.Fixed.{IsNotCanonical, TellsCanonical}
+use Rattle.wc_binary.proofs.spelling.whole.Modules.{shortest-and-only}
+use Rattle.wc_canon.specs.Standard.Input.{is_binary, Denotes, KeepsRules}
+use Rattle.wc_canon.specs.Standard.Fixed.{IsNotCanonical, TellsCanonical}
 use Rattle.wc_canon.proofs.Laws.{denotes-binary, canon-is-binary, has-answer}
 
 both-formats : {A : Type 0} (s : Bool) → s ≡ true → s ≡ false → A

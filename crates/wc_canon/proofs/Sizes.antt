@@ -34,8 +34,8 @@ use Rattle.wc_binary.specs.Writing.Values.{table_type_bytes, limits_bytes, expor
 use Rattle.wc_binary.specs.Writing.Contents.{FitsGlobal, FitsElem, FitsData, FitsCode, global_bytes}
 use Rattle.wc_binary.specs.Writing.Contents.{elem_bytes, data_bytes, func_bytes, code_bytes}
 use Rattle.wc_binary.specs.Writing.Sections.{FitsHeld, FitsFrom}
-use Rattle.wc_binary.proofs.spelling.ModuleBytes.{module_bytes, FitsModule}
-use Rattle.wc_binary.proofs.spelling.Modules.{bin-longer, canon-written}
+use Rattle.wc_binary.proofs.spelling.whole.ModuleBytes.{module_bytes, FitsModule}
+use Rattle.wc_binary.proofs.spelling.whole.Modules.{bin-longer, canon-written}
 
 -- it holds, or it doesn't
 abbrev pub Decided : Type 0 → Type 0

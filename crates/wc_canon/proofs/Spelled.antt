@@ -29,17 +29,18 @@ use Rattle.wc_ast.specs.declared.segment.Elem.{Elem}
 use Rattle.wc_ast.specs.declared.segment.Data.{Data}
 use Rattle.wc_ast.specs.declared.module.Module.{Module}
 use Rattle.wc_tokens.specs.Standard.Lexemes.{is_idchar}
-use Rattle.wc_print.specs.Printed.{Printed, opening, closing, word, number, integer, part, quoted}
-use Rattle.wc_print.specs.Printed.{Item, next, after, below}
-use Rattle.wc_print.specs.Printable.{is_word, IsSpelled, AreSpelled, IsPrintable}
-use Rattle.wc_print.specs.Lines.{type_item, type_use_items, block_items, number_items, bytes_of, instr_word, instr_rest}
-use Rattle.wc_print.specs.Lines.{region_word, mark_items, body_items, expr_items}
-use Rattle.wc_print.specs.Layout.{values_items, type_items, max_items, limits_items, global_type_items, desc_items}
-use Rattle.wc_print.specs.Layout.{import_items, func_items, table_items, memory_items, global_items, kind_word}
-use Rattle.wc_print.specs.Layout.{export_items, start_items, place_items, elem_items, data_items, field_items, layout}
-use Rattle.wc_print.proofs.Naming.{simple-word, index-word, memory-word, kind-word, type-spelled}
-use Rattle.wc_print.proofs.Putting.{spelled-append}
-use Rattle.wc_print.proofs.Whole.{layout-printable}
+use Rattle.wc_print.specs.Standard.Printed.{Printed, opening, closing, word, number, integer, part, quoted}
+use Rattle.wc_print.specs.Standard.Printed.{Item, next, after, below}
+use Rattle.wc_print.specs.Standard.Printable.{is_word, IsSpelled, AreSpelled, IsPrintable}
+use Rattle.wc_print.specs.Standard.Lines.{type_item, type_use_items, block_items, number_items, bytes_of, instr_word}
+use Rattle.wc_print.specs.Standard.Lines.{instr_rest, region_word, mark_items, body_items, expr_items}
+use Rattle.wc_print.specs.Standard.Layout.{values_items, type_items, max_items, limits_items, global_type_items}
+use Rattle.wc_print.specs.Standard.Layout.{desc_items, import_items, func_items, table_items, memory_items}
+use Rattle.wc_print.specs.Standard.Layout.{global_items, kind_word, export_items, start_items, place_items, elem_items}
+use Rattle.wc_print.specs.Standard.Layout.{data_items, field_items, layout}
+use Rattle.wc_print.proofs.Reading.Naming.{simple-word, index-word, memory-word, kind-word, type-spelled}
+use Rattle.wc_print.proofs.Writing.Putting.{spelled-append}
+use Rattle.wc_print.proofs.Writing.Whole.{layout-printable}
 use Rattle.wc_readback.specs.Grammar.Fitting.{FitsOptional, FitsLimits, FitsDesc, FitsImport, FitsFunc, FitsGlobal}
 use Rattle.wc_readback.specs.Grammar.Fitting.{FitsExport, FitsElem, FitsData, Fits}
 use Rattle.wc_readback.proofs.GrammarLemmas.Utf8Bytes.{bytes}

@@ -8,22 +8,22 @@ use Rattle.wc_binary.specs.declared.fault.BinFault.{BinFault}
 use Rattle.wc_binary.specs.declared.fault.BinFault.TheVariants.{Bad, Read as Unread, Memory as NoMemoryToDecode}
 use Rattle.wc_binary.specs.Standard.Module.{Bin, Canon}
 use Rattle.wc_binary.specs.Standard.Decoding.{Decodes, DecodesNear}
-use Rattle.wc_print.specs.Layout.{layout}
-use Rattle.wc_print.specs.Printed.{text as text_of}
+use Rattle.wc_print.specs.Standard.Layout.{layout}
+use Rattle.wc_print.specs.Standard.Printed.{text as text_of}
 use Rattle.wc_read_text.specs.declared.fault.TextFault.{TextFault}
 use Rattle.wc_read_text.specs.declared.fault.TextFault.TheVariants as text
-use Rattle.wc_read_text.specs.Texts.{Txt}
-use Rattle.wc_read_text.specs.Faults.{IsFault}
+use Rattle.wc_read_text.specs.Standard.Texts.{Txt}
+use Rattle.wc_read_text.specs.Standard.Faults.{IsFault}
 use Rattle.wc_canon.specs.declared.fault.Refusal.{Refusal}
 use Rattle.wc_canon.specs.declared.fault.Refusal.TheVariants.{Binary, Lex, Syntax, Names, Check, Oversize, Memory as NoMemory}
 use Rattle.wc_canon.specs.declared.fault.RunFault.{RunFault}
 use Rattle.wc_canon.specs.declared.fault.RunFault.TheVariants.{Refused, Read, Write, Memory}
 use Rattle.wc_canon.specs.declared.running.Job.TheVariants as job
 use Rattle.wc_canon.specs.declared.from_reader.Found.{Found}
-use Rattle.wc_canon.specs.Input.{is_binary, Denotes, KeepsRules, IsAccepted}
-use Rattle.wc_canon.specs.Run.{IsAnswerOf, IsOutputOf, Judges, RefusesNear}
-use Rattle.wc_canon.specs.Inner.Faults.{reading_refusal, decoding_fault, refusing_fault}
-use Rattle.wc_canon.specs.Inner.Steps.{IsModuleFault, IsSized, JudgesModule, ReadsNear}
+use Rattle.wc_canon.specs.Standard.Input.{is_binary, Denotes, KeepsRules, IsAccepted}
+use Rattle.wc_canon.specs.Standard.Run.{IsAnswerOf, IsOutputOf, Judges, RefusesNear}
+use Rattle.wc_canon.specs.Answering.Faults.{reading_refusal, decoding_fault, refusing_fault}
+use Rattle.wc_canon.specs.Answering.Steps.{IsModuleFault, IsSized, JudgesModule, ReadsNear}
 use Rattle.wc_canon.proofs.Laws.{binary-denotes, text-denotes, canon-denotes, denoted-means, has-answer, has-binary-fault}
 use Rattle.wc_canon.proofs.Laws.{has-text-fault, has-broken-rule, has-oversize}
 use Rattle.wc_canon.proofs.Judged.{binary-meant, has-text}

@@ -1,7 +1,7 @@
 //! Whether an input is accepted.
 
 ghost use Rattle.std.specs.Prelude.{OnOk, IfErr};
-ghost use Rattle.wc_canon.specs.Input.{IsAccepted, IsRefused};
+ghost use Rattle.wc_canon.specs.Standard.Input.{IsAccepted, IsRefused};
 
 use crate::denoted::accepted_module;
 use crate::fault::Refusal;

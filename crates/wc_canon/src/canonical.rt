@@ -2,8 +2,8 @@
 
 ghost use Rattle.std.specs.Prelude.{IfOk, IfErr, OnOk, false};
 ghost use Rattle.wc_binary.specs.Standard.Module.{Canon, IsShortestOf};
-ghost use Rattle.wc_canon.specs.Input.{KeepsRules};
-ghost use Rattle.wc_canon.specs.Inner.Steps.{IsModuleFault, IsSized};
+ghost use Rattle.wc_canon.specs.Standard.Input.{KeepsRules};
+ghost use Rattle.wc_canon.specs.Answering.Steps.{IsModuleFault, IsSized};
 
 use crate::fault::Refusal;
 use std::alloc::Global;

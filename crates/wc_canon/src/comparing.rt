@@ -3,9 +3,9 @@
 ghost use Rattle.std.specs.Prelude.{◌≡◌, ◌≢◌, ◌⊎◌, IfOk, IfErr, MatchResult};
 ghost use Rattle.wc_ast.specs.declared.module.Module.{Module};
 ghost use Rattle.wc_canon.specs.declared.fault.Refusal.TheVariants as refusals;
-ghost use Rattle.wc_canon.specs.Input.{Means, HasAnswer, HasFault, IsRefused};
-ghost use Rattle.wc_canon.specs.Comparing.{Compares, IsSideRefused};
-ghost use Rattle.wc_canon.specs.Inner.Sides.{ComparesBytes};
+ghost use Rattle.wc_canon.specs.Standard.Input.{Means, HasAnswer, HasFault, IsRefused};
+ghost use Rattle.wc_canon.specs.Standard.Comparing.{Compares, IsSideRefused};
+ghost use Rattle.wc_canon.specs.Answering.Sides.{ComparesBytes};
 
 use crate::fault::Refusal;
 use crate::normalising::normalise;

@@ -2,11 +2,12 @@
 
 ghost use Rattle.std.specs.Prelude.{ℕ, ◌≡◌, ◌≢◌, IfErr, IfOk, IfSome, OnOk, Some, false};
 ghost use Rattle.std.specs.Io.KnownBytes.{IsAtEnd};
-ghost use Rattle.wc_device.specs.Device.{device_inner, failed_at, has_failed, has_ended, was_asked_again, read_count};
+ghost use Rattle.wc_device.specs.Standard.Device.{device_inner, failed_at, has_failed, has_ended, was_asked_again};
+ghost use Rattle.wc_device.specs.Standard.Device.{read_count};
 ghost use Rattle.wc_canon.specs.declared.fault.Refusal.TheVariants as refusals;
-ghost use Rattle.wc_canon.specs.Run.{RefusesNear, ReadsCut, is_read_fault};
-ghost use Rattle.wc_canon.specs.Comparing.{ComparesFrom, OfSide, WasJudged, GoesOver, is_read_fault_of};
-ghost use Rattle.wc_canon.specs.Inner.Sides.{IsJudgedFrom, IsUnjudged};
+ghost use Rattle.wc_canon.specs.Standard.Run.{RefusesNear, ReadsCut, is_read_fault};
+ghost use Rattle.wc_canon.specs.Standard.Comparing.{ComparesFrom, OfSide, WasJudged, GoesOver, is_read_fault_of};
+ghost use Rattle.wc_canon.specs.Answering.Sides.{IsJudgedFrom, IsUnjudged};
 
 use crate::comparing::{Comparison, Side, tell_apart};
 use crate::fault::{Refusal, RunFault};

@@ -1,7 +1,7 @@
 //! The module that an input denotes.
 
 ghost use Rattle.std.specs.Prelude.{◌≡◌, IfOk, IfErr, true, false};
-ghost use Rattle.wc_canon.specs.Input.{is_binary as begins_with_zero, Denotes, Means, IsRefused};
+ghost use Rattle.wc_canon.specs.Standard.Input.{is_binary as begins_with_zero, Denotes, Means, IsRefused};
 
 use crate::canonical::{judge_module, judge_spelled};
 use crate::fault::Refusal;

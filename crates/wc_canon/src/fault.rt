@@ -51,7 +51,7 @@ pub enum RunFault {
 
 impl fmt::Display for RunFault {
     ghost use Rattle.std.specs.Prelude.{Some};
-    ghost use Rattle.wc_canon.specs.Text.{fault_text};
+    ghost use Rattle.wc_canon.specs.Standard.Text.{fault_text};
 
     ghost output = { λ fault. Some (fault_text fault) };
 
@@ -78,7 +78,7 @@ impl From<AllocError> for Refusal {
 
 impl From<TextFault> for Refusal {
     ghost use Rattle.std.specs.Prelude.{◌≡◌};
-    ghost use Rattle.wc_canon.specs.Inner.Faults.{reading_refusal};
+    ghost use Rattle.wc_canon.specs.Answering.Faults.{reading_refusal};
 
     ghost from_gives = { λ fault refusal. refusal ≡ reading_refusal fault };
 
@@ -94,7 +94,7 @@ impl From<TextFault> for Refusal {
 
 impl From<CheckFault> for Refusal {
     ghost use Rattle.std.specs.Prelude.{◌≡◌};
-    ghost use Rattle.wc_canon.specs.Inner.Faults.{checking_refusal};
+    ghost use Rattle.wc_canon.specs.Answering.Faults.{checking_refusal};
 
     ghost from_gives = { λ fault refusal. refusal ≡ checking_refusal fault };
 
@@ -108,7 +108,7 @@ impl From<CheckFault> for Refusal {
 
 impl From<EncFault> for Refusal {
     ghost use Rattle.std.specs.Prelude.{◌≡◌};
-    ghost use Rattle.wc_canon.specs.Inner.Faults.{encoding_refusal};
+    ghost use Rattle.wc_canon.specs.Answering.Faults.{encoding_refusal};
 
     ghost from_gives = { λ fault refusal. refusal ≡ encoding_refusal fault };
 
@@ -133,7 +133,7 @@ impl From<AllocError> for RunFault {
 
 impl From<Refusal> for RunFault {
     ghost use Rattle.std.specs.Prelude.{◌≡◌};
-    ghost use Rattle.wc_canon.specs.Inner.Faults.{refusing_fault};
+    ghost use Rattle.wc_canon.specs.Answering.Faults.{refusing_fault};
 
     ghost from_gives = { λ refusal run_fault. run_fault ≡ refusing_fault refusal };
 
@@ -147,7 +147,7 @@ impl From<Refusal> for RunFault {
 
 impl From<TextFault> for RunFault {
     ghost use Rattle.std.specs.Prelude.{◌≡◌};
-    ghost use Rattle.wc_canon.specs.Inner.Faults.{reading_refusal, refusing_fault};
+    ghost use Rattle.wc_canon.specs.Answering.Faults.{reading_refusal, refusing_fault};
 
     ghost from_gives = { λ fault run_fault. run_fault ≡ refusing_fault (reading_refusal fault) };
 
@@ -158,7 +158,7 @@ impl From<TextFault> for RunFault {
 
 impl From<BinFault> for RunFault {
     ghost use Rattle.std.specs.Prelude.{◌≡◌};
-    ghost use Rattle.wc_canon.specs.Inner.Faults.{decoding_fault};
+    ghost use Rattle.wc_canon.specs.Answering.Faults.{decoding_fault};
 
     ghost from_gives = { λ fault run_fault. run_fault ≡ decoding_fault fault };
 

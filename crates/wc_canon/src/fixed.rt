@@ -1,8 +1,8 @@
 //! Whether an input is its own canonical bytes.
 
 ghost use Rattle.std.specs.Prelude.{IfOk, IfErr};
-ghost use Rattle.wc_canon.specs.Input.{IsRefused};
-ghost use Rattle.wc_canon.specs.Fixed.{TellsCanonical};
+ghost use Rattle.wc_canon.specs.Standard.Input.{IsRefused};
+ghost use Rattle.wc_canon.specs.Standard.Fixed.{TellsCanonical};
 
 use crate::canonical::judge_module;
 use crate::denoted::{denoted_module, is_binary};

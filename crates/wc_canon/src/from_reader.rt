@@ -4,13 +4,14 @@ ghost use Rattle.std.specs.Prelude.{ℕ, List, Option as Maybe, ◌≡◌, ◌�
 ghost use Rattle.std.specs.Prelude.{IfErr, IfSome, IsErrOf, OnOk};
 ghost use Rattle.std.specs.Prelude.{[], Some, true, false};
 ghost use Rattle.std.specs.Io.KnownBytes.{Consumes, IsAtEnd};
-ghost use Rattle.wc_device.specs.Device.{device_inner, failed_at, has_failed, has_ended, was_asked_again, read_count};
+ghost use Rattle.wc_device.specs.Standard.Device.{device_inner, failed_at, has_failed, has_ended, was_asked_again};
+ghost use Rattle.wc_device.specs.Standard.Device.{read_count};
 ghost use Rattle.wc_binary.specs.Standard.Decoding.{buffer_size};
 ghost use Rattle.wc_canon.specs.declared.fault.Refusal.{Refusal};
 ghost use Rattle.wc_canon.specs.declared.fault.Refusal.TheVariants as refusals;
-ghost use Rattle.wc_canon.specs.Input.{is_binary as begins_with_zero};
-ghost use Rattle.wc_canon.specs.Run.{ReadsCut, is_read_fault, is_write_fault};
-ghost use Rattle.wc_canon.specs.Inner.Steps.{JudgesModule, ReadsNear};
+ghost use Rattle.wc_canon.specs.Standard.Input.{is_binary as begins_with_zero};
+ghost use Rattle.wc_canon.specs.Standard.Run.{ReadsCut, is_read_fault, is_write_fault};
+ghost use Rattle.wc_canon.specs.Answering.Steps.{JudgesModule, ReadsNear};
 
 use crate::denoted::is_binary;
 use crate::fault::RunFault;

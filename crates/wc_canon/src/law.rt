@@ -5,8 +5,8 @@ ghost use Rattle.wc_ast.specs.declared.module.Module.{Module};
 ghost use Rattle.wc_binary.specs.Standard.Module.{Bin};
 ghost use Rattle.wc_tokens.specs.Standard.Lexemes.{longest};
 ghost use Rattle.wc_canon.specs.declared.fault.Refusal.{Refusal};
-ghost use Rattle.wc_canon.specs.Input.{is_binary, Means, HasAnswer, HasFault};
-ghost use Rattle.wc_canon.specs.Printing.{HasText};
+ghost use Rattle.wc_canon.specs.Standard.Input.{is_binary, Means, HasAnswer, HasFault};
+ghost use Rattle.wc_canon.specs.Standard.Printing.{HasText};
 
 /// An input denotes at most one module.
 pub fn one_meaning()

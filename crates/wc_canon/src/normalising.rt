@@ -3,7 +3,7 @@
 ghost use Rattle.std.specs.Prelude.{◌≡◌, ◌⊎◌, IfOk, IfErr, MatchResult, true};
 ghost use Rattle.wc_ast.specs.declared.module.Module.{Module};
 ghost use Rattle.wc_binary.specs.Standard.Module.{Canon, IsOrLonger};
-ghost use Rattle.wc_canon.specs.Input.{is_binary, Means, HasAnswer, HasFault, IsRefused};
+ghost use Rattle.wc_canon.specs.Standard.Input.{is_binary, Means, HasAnswer, HasFault, IsRefused};
 
 use crate::canonical::canonical_bytes;
 use crate::denoted::denoted_module;

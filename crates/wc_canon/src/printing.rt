@@ -3,11 +3,11 @@
 ghost use Rattle.std.specs.Prelude.{◌≡◌, ◌⊎◌, ◌≤◌, ℕ, List, length, IfOk, IfErr, MatchResult};
 ghost use Rattle.std.specs.String.{string_bytes};
 ghost use Rattle.wc_ast.specs.declared.module.Module.{Module};
-ghost use Rattle.wc_print.specs.Layout.{layout};
-ghost use Rattle.wc_print.specs.Printed.{text as printed_text};
+ghost use Rattle.wc_print.specs.Standard.Layout.{layout};
+ghost use Rattle.wc_print.specs.Standard.Printed.{text as printed_text};
 ghost use Rattle.wc_tokens.specs.Standard.Lexemes.{longest};
-ghost use Rattle.wc_canon.specs.Input.{Means, HasAnswer, HasFault, IsRefused};
-ghost use Rattle.wc_canon.specs.Printing.{HasText};
+ghost use Rattle.wc_canon.specs.Standard.Input.{Means, HasAnswer, HasFault, IsRefused};
+ghost use Rattle.wc_canon.specs.Standard.Printing.{HasText};
 
 use crate::denoted::accepted_module;
 use crate::fault::Refusal;

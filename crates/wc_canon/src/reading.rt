@@ -2,15 +2,16 @@
 
 ghost use Rattle.std.specs.Prelude.{ℕ, ◌≡◌, ◌≤◌, length, IfOk, IfErr, IfSome, IsErrOf, OnOk, Some, false};
 ghost use Rattle.std.specs.Io.KnownBytes.{IsAtEnd};
-ghost use Rattle.wc_device.specs.Device.{device_inner, failed_at, has_failed, has_ended, was_asked_again, read_count};
+ghost use Rattle.wc_device.specs.Standard.Device.{device_inner, failed_at, has_failed, has_ended, was_asked_again};
+ghost use Rattle.wc_device.specs.Standard.Device.{read_count};
 ghost use Rattle.wc_canon.specs.declared.fault.Refusal.TheVariants as refusals;
-ghost use Rattle.wc_canon.specs.Input.{KeepsRules, IsAccepted};
+ghost use Rattle.wc_canon.specs.Standard.Input.{KeepsRules, IsAccepted};
 ghost use Rattle.wc_canon.specs.declared.running.Job.{Job};
-ghost use Rattle.wc_canon.specs.Run.{Judges, IsAnswerOf, IsOutputOf, HasSameAnswer, RefusesNear};
-ghost use Rattle.wc_canon.specs.Run.{ReadsCut, is_read_fault, is_write_fault};
-ghost use Rattle.wc_canon.specs.Inner.Steps.{IsModuleFault, IsSized};
-ghost use Rattle.wc_print.specs.Layout.{layout};
-ghost use Rattle.wc_print.specs.Printed.{text};
+ghost use Rattle.wc_canon.specs.Standard.Run.{Judges, IsAnswerOf, IsOutputOf, HasSameAnswer, RefusesNear};
+ghost use Rattle.wc_canon.specs.Standard.Run.{ReadsCut, is_read_fault, is_write_fault};
+ghost use Rattle.wc_canon.specs.Answering.Steps.{IsModuleFault, IsSized};
+ghost use Rattle.wc_print.specs.Standard.Layout.{layout};
+ghost use Rattle.wc_print.specs.Standard.Printed.{text};
 ghost use Rattle.wc_tokens.specs.Standard.Lexemes.{longest};
 ghost use Rattle.std.specs.String.{string_bytes};
 

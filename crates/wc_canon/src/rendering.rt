@@ -1,9 +1,9 @@
 //! The texts of refusals.
 
 ghost use Rattle.std.specs.Prelude.{◌≡◌, ◌++◌, IfOk, Some, codes, string_bytes};
-ghost use Rattle.wc_canon.specs.Text.{reason_text, character_text, grammar_text, name_text, rule_text};
-ghost use Rattle.wc_canon.specs.Text.{numbered, at_token, at_instruction, broken_text, refusal_text};
-ghost use Rattle.wc_canon.specs.Text.{piece_text, pieces_text};
+ghost use Rattle.wc_canon.specs.Standard.Text.{reason_text, character_text, grammar_text, name_text, rule_text};
+ghost use Rattle.wc_canon.specs.Standard.Text.{numbered, at_token, at_instruction, broken_text, refusal_text};
+ghost use Rattle.wc_canon.specs.Standard.Text.{piece_text, pieces_text};
 
 use crate::fault::Refusal;
 use std::alloc::{AllocError, Global};

@@ -2,12 +2,13 @@
 
 ghost use Rattle.std.specs.Prelude.{ℕ, ◌≡◌, ◌≤◌, length, take, IfOk, IfErr, IfSome, IsErrOf, OnOk, OnErr, Some, false};
 ghost use Rattle.std.specs.Io.KnownBytes.{Appends, IsAtEnd};
-ghost use Rattle.wc_device.specs.Device.{device_inner, failed_at, has_failed, has_ended, was_asked_again, read_count};
-ghost use Rattle.wc_print.specs.Layout.{layout};
-ghost use Rattle.wc_print.specs.Printed.{text};
+ghost use Rattle.wc_device.specs.Standard.Device.{device_inner, failed_at, has_failed, has_ended, was_asked_again};
+ghost use Rattle.wc_device.specs.Standard.Device.{read_count};
+ghost use Rattle.wc_print.specs.Standard.Layout.{layout};
+ghost use Rattle.wc_print.specs.Standard.Printed.{text};
 ghost use Rattle.wc_canon.specs.declared.fault.Refusal.TheVariants as refusals;
-ghost use Rattle.wc_canon.specs.Run.{Answers, FlushesBehind, FlushesOnce, SendsAlike, RefusesNear, ReadsCut, IsQuiet};
-ghost use Rattle.wc_canon.specs.Run.{is_read_fault, is_write_fault};
+ghost use Rattle.wc_canon.specs.Standard.Run.{Answers, FlushesBehind, FlushesOnce, SendsAlike, RefusesNear, ReadsCut};
+ghost use Rattle.wc_canon.specs.Standard.Run.{IsQuiet, is_read_fault, is_write_fault};
 
 use crate::fault::RunFault;
 use crate::reading::{accepted_from, normalise_from};

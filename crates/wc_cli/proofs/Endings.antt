@@ -1,7 +1,7 @@
 -- From what was read, compared and said to what a line comes to.
 use Rattle.std.proofs.Common.{◌≡◌, ℕ, List, Bool, Option, Some, None, Result, Ok, Err, IsErrAnd, refl, sym, subst}
 use Rattle.wc_device.specs.declared.io_device.Device.{Device}
-use Rattle.wc_canon.specs.Run.{IsOutputOf}
+use Rattle.wc_canon.specs.Standard.Run.{IsOutputOf}
 use Rattle.wc_canon.specs.declared.running.Job.{Job}
 use Rattle.wc_canon.specs.declared.running.Job.TheVariants as jobs
 use Rattle.wc_canon.proofs.Again.{told-alike}
@@ -9,8 +9,8 @@ use Rattle.wc_cli.specs.declared.command_line.Line.{Line}
 use Rattle.wc_cli.specs.declared.failure.Failure.{Failure}
 use Rattle.wc_cli.specs.declared.failure.Failure.TheVariants.{Refused, CannotRead, CannotWrite, NotText}
 use Rattle.wc_cli.specs.declared.failure.Failure.TheVariants.{NoSubcommand, Terminal, OutOfMemory}
-use Rattle.wc_cli.specs.Acting.{AreRead, IsMade, IsAnswer, Ends, goes_to}
-use Rattle.wc_cli.specs.Inner.Reading.{Says}
+use Rattle.wc_cli.specs.Standard.Acting.{AreRead, IsMade, IsAnswer, Ends, goes_to}
+use Rattle.wc_cli.specs.Answering.Reading.{Says}
 
 -- what a job writes of an input is made of it
 pub made : (j : Job) (x : Option (List ℕ)) (text : List ℕ) → IsOutputOf j x text → IsMade j x text

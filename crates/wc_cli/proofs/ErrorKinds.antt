@@ -1,7 +1,7 @@
 -- The kinds of error of the program's command line.
 use Rattle.std.proofs.Common.{◌≡◌, List, true, refl, subst, sym}
 use Rattle.clap.specs.Words.{App, Text, Kinds, fault_of, is_simple_and_free}
-use Rattle.wc_cli.specs.Program.{program}
+use Rattle.wc_cli.specs.Standard.Program.{program}
 
 -- no argument of the program has a rule on another
 simple : is_simple_and_free program ≡ true

@@ -3,7 +3,7 @@ use Rattle.std.proofs.Common.{◌≡◌, ℕ, List, Option, Result, sym, subst}
 use Rattle.wc_device.specs.declared.io_device.Device.{Device}
 use Rattle.wc_cli.specs.declared.command_line.Line.{Line}
 use Rattle.wc_cli.specs.declared.failure.Failure.{Failure}
-use Rattle.wc_cli.specs.Looking.{LooksAt}
+use Rattle.wc_cli.specs.Standard.Looking.{LooksAt}
 
 module _ {R S : Type 0} (of_a : R → Option (List ℕ)) (of_b : S → Option (List ℕ)) (a a' : Option (Device R))
     (b b' : Option (Device S)) where

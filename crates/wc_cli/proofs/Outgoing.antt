@@ -8,8 +8,8 @@ use Rattle.std.proofs.lemmas.List.{take_more, take-append-le}
 use Rattle.std.proofs.KnownBytes.{Appends-trans}
 use Rattle.std.specs.Io.KnownBytes.{Appends}
 use Rattle.wc_device.specs.declared.io_device.Device.{Device}
-use Rattle.wc_device.specs.Device.{device_inner, has_failed}
-use Rattle.wc_cli.specs.Failing.{GoesOut}
+use Rattle.wc_device.specs.Standard.Device.{device_inner, has_failed}
+use Rattle.wc_cli.specs.Standard.Failing.{GoesOut}
 
 -- one of two
 decided : (b : Bool) (P : Type 0) → (b ≡ true → P) → (b ≡ false → P) → P

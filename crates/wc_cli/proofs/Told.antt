@@ -2,8 +2,8 @@
 use Rattle.std.proofs.Common.{◌≡◌, ℕ, List, Bool, Option, Some, None, Result, Ok, Err, inl, inr}
 use Rattle.wc_device.specs.declared.io_device.Device.{Device}
 use Rattle.wc_canon.specs.declared.fault.Refusal.{Refusal}
-use Rattle.wc_canon.specs.Input.{IsAccepted}
-use Rattle.wc_canon.specs.Printing.{HasText}
+use Rattle.wc_canon.specs.Standard.Input.{IsAccepted}
+use Rattle.wc_canon.specs.Standard.Printing.{HasText}
 use Rattle.wc_canon.specs.declared.running.Job.{Job}
 use Rattle.wc_canon.specs.declared.running.Job.TheVariants as jobs
 use Rattle.wc_canon.proofs.Comparisons.{answer-accepted}
@@ -13,8 +13,8 @@ use Rattle.wc_cli.specs.declared.command_line.Line.TheVariants.{Make, Tell, Comp
 use Rattle.wc_cli.specs.declared.failure.Failure.{Failure}
 use Rattle.wc_cli.specs.declared.failure.Failure.TheVariants.{Refused, CannotRead, CannotWrite, NotText}
 use Rattle.wc_cli.specs.declared.failure.Failure.TheVariants.{NoSubcommand, Terminal, OutOfMemory}
-use Rattle.wc_cli.specs.Acting.{IsMade, IsAnswer, IsRefusedAt, Ends, IsTold}
-use Rattle.wc_cli.specs.Status.{TellsLine}
+use Rattle.wc_cli.specs.Standard.Acting.{IsMade, IsAnswer, IsRefusedAt, Ends, IsTold}
+use Rattle.wc_cli.specs.Standard.Status.{TellsLine}
 
 -- 2 says nothing of the inputs
 two-tells : (line : Line) (x y : Option (List ℕ)) (status : ℕ) → status ≡ 2 → TellsLine line status x y

@@ -3,9 +3,9 @@ use Rattle.std.proofs.Common.{◌≡◌, ℕ, zero, suc, ◌+◌, ◌<◌, max, 
 use Rattle.std.proofs.Common.{Option, sym, subst, arith}
 use Rattle.std.proofs.lemmas.List.{take_more}
 use Rattle.wc_device.specs.declared.io_device.Device.{Device}
-use Rattle.wc_device.specs.Device.{has_failed}
+use Rattle.wc_device.specs.Standard.Device.{has_failed}
 use Rattle.wc_cli.specs.declared.command_line.Line.{Line}
-use Rattle.wc_cli.specs.Turns.{GoesOn, TakesTurn, ActsEach, next}
+use Rattle.wc_cli.specs.Standard.Turns.{GoesOn, TakesTurn, ActsEach, next}
 
 goes-on : {W : Type 0} (i : ℕ) (lines : List Line) (w : Device W) → (0 < i → has_failed w ≡ false)
     → GoesOn (take i lines) w

@@ -1,11 +1,2 @@
-pub mod Program
-pub mod Asked
-pub mod Failing
-pub mod Telling
-pub mod Acting
-pub mod Looking
-pub mod Carrying
-pub mod Status
-pub mod Turns
-pub mod Inner
-pub mod Inputs
+pub mod Standard
+pub mod Answering

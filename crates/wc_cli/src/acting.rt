@@ -1,13 +1,13 @@
 //! A command line is carried out.
 
 ghost use Rattle.std.specs.Prelude.{◌≡◌, ◌≤◌, ℕ, List, Bool, Option, Result, Err, false, true};
-ghost use Rattle.wc_device.specs.Device.{has_failed, was_asked_again};
-ghost use Rattle.wc_cli.specs.Acting.{Ends};
-ghost use Rattle.wc_cli.specs.Carrying.{AreNew, CarriesOut, Acts, used_alone, used_before};
-ghost use Rattle.wc_cli.specs.Inputs.{input_bytes, is_unread, is_new_input, IsNewInput, StaysThere};
-ghost use Rattle.wc_cli.specs.Looking.{ReadsOne, ReadsAsk, ReadsBoth, LooksAt};
-ghost use Rattle.wc_cli.specs.Status.{TellsLine};
-ghost use Rattle.wc_cli.specs.Inner.Reading.{Says, ComparesInputs};
+ghost use Rattle.wc_device.specs.Standard.Device.{has_failed, was_asked_again};
+ghost use Rattle.wc_cli.specs.Standard.Acting.{Ends};
+ghost use Rattle.wc_cli.specs.Standard.Carrying.{AreNew, CarriesOut, Acts, used_alone, used_before};
+ghost use Rattle.wc_cli.specs.Standard.Inputs.{input_bytes, is_unread, is_new_input, IsNewInput, StaysThere};
+ghost use Rattle.wc_cli.specs.Standard.Looking.{ReadsOne, ReadsAsk, ReadsBoth, LooksAt};
+ghost use Rattle.wc_cli.specs.Standard.Status.{TellsLine};
+ghost use Rattle.wc_cli.specs.Answering.Reading.{Says, ComparesInputs};
 
 use crate::command_line::{Ask, Line};
 use crate::failure::{DONE, Failure, REFUSED, ended, report};

@@ -1,7 +1,7 @@
 //! What a command line asks for.
 
 ghost use Rattle.std.specs.Prelude.{◌≡◌};
-ghost use Rattle.wc_cli.specs.Acting.{is_raw};
+ghost use Rattle.wc_cli.specs.Standard.Acting.{is_raw};
 
 use wc_canon::Job;
 

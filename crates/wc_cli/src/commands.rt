@@ -3,8 +3,8 @@
 ghost use Rattle.std.specs.Prelude.{◌≡◌, IfOk, IfSome, false, codes};
 ghost use Rattle.clap.specs.Words.{app_of, rule_of};
 ghost use Rattle.clap.specs.declared.Command.TheViews.{out-Command as fields_of};
-ghost use Rattle.wc_cli.specs.Program.{path_rule, paths_rule, output_rule, top_app, make_app};
-ghost use Rattle.wc_cli.specs.Program.{each_app, compare_app, program};
+ghost use Rattle.wc_cli.specs.Standard.Program.{path_rule, paths_rule, output_rule, top_app, make_app};
+ghost use Rattle.wc_cli.specs.Standard.Program.{each_app, compare_app, program};
 
 use clap::{Arg, ArgAction, Command};
 use std::alloc::{AllocError, Global};

@@ -1,11 +1,11 @@
 //! Why the words of a command line came to nothing, and how that is told.
 
 ghost use Rattle.std.specs.Prelude.{◌≡◌};
-ghost use Rattle.wc_canon.specs.Text.{pieces_text};
+ghost use Rattle.wc_canon.specs.Standard.Text.{pieces_text};
 ghost use Rattle.wc_cli.specs.declared.failure.Failure.{Failure};
-ghost use Rattle.wc_cli.specs.Inner.Reading.{refusal_failure, run_failure};
-ghost use Rattle.wc_cli.specs.Failing.{failure_status, failure_line, line_of, line_about, place_text};
-ghost use Rattle.wc_cli.specs.Failing.{GoesOut, Reports};
+ghost use Rattle.wc_cli.specs.Answering.Reading.{refusal_failure, run_failure};
+ghost use Rattle.wc_cli.specs.Standard.Failing.{failure_status, failure_line, line_of, line_about, place_text};
+ghost use Rattle.wc_cli.specs.Standard.Failing.{GoesOut, Reports};
 
 use crate::writing::put_pieces;
 use std::io::Write;

@@ -3,9 +3,9 @@
 ghost use Rattle.std.specs.Prelude.{◌≡◌, ◌≢◌, [], ◌∷◌, IfOk, IfErr, true, map, option_map};
 ghost use Rattle.clap.specs.Words.{rows_of, found_of, first_of, all_of, subcommand_of, takes, kind_of};
 ghost use Rattle.clap.specs.Words.{FailsBy, fault_of};
-ghost use Rattle.wc_cli.specs.Program.{program};
-ghost use Rattle.wc_cli.specs.Asked.{asked_by, asked_in, asked_at, asked_of, told_of};
-ghost use Rattle.wc_cli.specs.Asked.{make_of, each_of, compare_of};
+ghost use Rattle.wc_cli.specs.Standard.Program.{program};
+ghost use Rattle.wc_cli.specs.Standard.Asked.{asked_by, asked_in, asked_at, asked_of, told_of};
+ghost use Rattle.wc_cli.specs.Standard.Asked.{make_of, each_of, compare_of};
 
 use crate::command_line::{Ask, Line};
 use crate::commands::wcanon;

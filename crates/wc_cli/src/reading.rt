@@ -2,10 +2,10 @@
 
 ghost use Rattle.std.specs.Prelude.{◌≡◌, [], length, IfSome, OnOk, Some, false, true, not};
 ghost use Rattle.std.specs.Io.KnownBytes.{IsAtEnd};
-ghost use Rattle.wc_device.specs.Device.{device_inner, has_failed, has_ended, was_asked_again, read_count};
-ghost use Rattle.wc_cli.specs.Inner.Reading.{Reads};
-ghost use Rattle.wc_cli.specs.Inputs.{is_new_input};
-ghost use Rattle.wc_cli.specs.Looking.{IsCutOff, IsBroken, IsLookedAt};
+ghost use Rattle.wc_device.specs.Standard.Device.{device_inner, has_failed, has_ended, was_asked_again, read_count};
+ghost use Rattle.wc_cli.specs.Answering.Reading.{Reads};
+ghost use Rattle.wc_cli.specs.Standard.Inputs.{is_new_input};
+ghost use Rattle.wc_cli.specs.Standard.Looking.{IsCutOff, IsBroken, IsLookedAt};
 
 use crate::failure::Failure;
 use std::alloc::Global;

@@ -1,14 +1,14 @@
 //! What is told of one input, in one line.
 
 ghost use Rattle.std.specs.Prelude.{◌≡◌, ◌++◌, Bool, IfOk, IfErr, OnOk, OnErr, Some, false};
-ghost use Rattle.wc_device.specs.Device.{device_inner, has_failed, has_ended, was_asked_again, read_count};
+ghost use Rattle.wc_device.specs.Standard.Device.{device_inner, has_failed, has_ended, was_asked_again, read_count};
 ghost use Rattle.sha2.specs.Sha256.{sha256};
 ghost use Rattle.hex.specs.Hex.{encode_lower};
 ghost use Rattle.wc_cli.specs.declared.failure.Failure.{Failure};
-ghost use Rattle.wc_cli.specs.Inputs.{input_bytes, is_unread, IsNewInput, StaysThere};
-ghost use Rattle.wc_cli.specs.Looking.{ReadsOne, ReadsWhole, ReadsAsk};
-ghost use Rattle.wc_cli.specs.Telling.{told_line, escaped, escaped_byte, hash_line};
-ghost use Rattle.wc_cli.specs.Inner.Reading.{AnswersBytes, Finds};
+ghost use Rattle.wc_cli.specs.Standard.Inputs.{input_bytes, is_unread, IsNewInput, StaysThere};
+ghost use Rattle.wc_cli.specs.Standard.Looking.{ReadsOne, ReadsWhole, ReadsAsk};
+ghost use Rattle.wc_cli.specs.Standard.Telling.{told_line, escaped, escaped_byte, hash_line};
+ghost use Rattle.wc_cli.specs.Answering.Reading.{AnswersBytes, Finds};
 
 use crate::command_line::Ask;
 use crate::failure::{DONE, Failure, REFUSED, ended, refused};

@@ -2,9 +2,9 @@
 
 ghost use Rattle.std.specs.Prelude.{◌≡◌, ◌<◌, ◌≤◌, ℕ, List, Option, max, length, take, true, ⊤};
 ghost use Rattle.wc_device.specs.declared.io_device.Device.{Device};
-ghost use Rattle.wc_device.specs.Device.{has_failed};
-ghost use Rattle.wc_cli.specs.Inputs.{IsNewInput};
-ghost use Rattle.wc_cli.specs.Turns.{OpensInputs, TakesTurn, ActsEach};
+ghost use Rattle.wc_device.specs.Standard.Device.{has_failed};
+ghost use Rattle.wc_cli.specs.Standard.Inputs.{IsNewInput};
+ghost use Rattle.wc_cli.specs.Standard.Turns.{OpensInputs, TakesTurn, ActsEach};
 
 use crate::acting::act;
 use crate::command_line::Line;

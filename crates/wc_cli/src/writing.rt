@@ -1,7 +1,7 @@
 //! A text in pieces, to a writer whose failure is dropped.
 
-ghost use Rattle.wc_canon.specs.Text.{piece_text, pieces_text};
-ghost use Rattle.wc_cli.specs.Failing.{GoesOut};
+ghost use Rattle.wc_canon.specs.Standard.Text.{piece_text, pieces_text};
+ghost use Rattle.wc_cli.specs.Standard.Failing.{GoesOut};
 
 use itoa::Buffer;
 use std::io::Write;

@@ -3,7 +3,7 @@ use Rattle.std.proofs.Common.{◌≡◌, ℕ, ◌+◌, ◌-◌, ◌<◌, List, t
 use Rattle.std.proofs.Common.{arith, length-drop}
 use Rattle.std.proofs.lemmas.List.{take_all}
 use Rattle.std.specs.declared.io.Error.{Error}
-use Rattle.wc_device.specs.WriteCalls.{Taken, more}
+use Rattle.wc_device.specs.Standard.WriteCalls.{Taken, more}
 
 -- what stands behind the first bytes
 rest : (n : ℕ) (xs : List ℕ) → take (length xs - n) (drop n xs) ≡ drop n xs

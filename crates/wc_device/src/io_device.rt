@@ -1,7 +1,7 @@
 //! A reader or writer with its counts and its failure.
 ghost use Rattle.std.specs.Prelude.{◌≡◌, None, false};
-ghost use Rattle.wc_device.specs.Device.{device_inner, failed_at, first_failure, has_failed, read_count};
-ghost use Rattle.wc_device.specs.Device.{was_asked_again, has_ended, flush_count, is_unflushed, has_lost};
+ghost use Rattle.wc_device.specs.Standard.Device.{device_inner, failed_at, first_failure, has_failed, read_count};
+ghost use Rattle.wc_device.specs.Standard.Device.{was_asked_again, has_ended, flush_count, is_unflushed, has_lost};
 
 mod reading;
 mod writing;

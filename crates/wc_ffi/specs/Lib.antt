@@ -1,2 +1,1 @@
-pub mod Memory
-pub mod Calls
+pub mod Standard

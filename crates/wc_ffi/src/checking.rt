@@ -1,7 +1,7 @@
 //! Whether an input is accepted.
 
 ghost use Rattle.std.specs.Prelude.{◌≡◌, ◌≤◌};
-ghost use Rattle.wc_ffi.specs.Calls.{Checks};
+ghost use Rattle.wc_ffi.specs.Standard.Calls.{Checks};
 
 use crate::putting::put;
 use crate::status::{DONE, NO_MEMORY, REFUSED};

@@ -1,7 +1,7 @@
 //! Whether two inputs denote the same module.
 
 ghost use Rattle.std.specs.Prelude.{◌≡◌};
-ghost use Rattle.wc_ffi.specs.Calls.{CompareTells, IsComparison};
+ghost use Rattle.wc_ffi.specs.Standard.Calls.{CompareTells, IsComparison};
 
 use crate::status::{A_REFUSED, B_REFUSED, DIFFERENT, DONE, NO_MEMORY};
 use std::alloc::Global;

@@ -1,8 +1,8 @@
 //! The canonical bytes of an input.
 
 ghost use Rattle.std.specs.Prelude.{◌≡◌, ◌≢◌, ◌≤◌, length, true};
-ghost use Rattle.wc_canon.specs.Input.{is_binary};
-ghost use Rattle.wc_ffi.specs.Calls.{Normalises, refusal_status};
+ghost use Rattle.wc_canon.specs.Standard.Input.{is_binary};
+ghost use Rattle.wc_ffi.specs.Standard.Calls.{Normalises, refusal_status};
 
 use crate::putting::put;
 use crate::status::{DONE, NO_MEMORY, REFUSED, SHORT};

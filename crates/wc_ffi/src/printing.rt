@@ -2,8 +2,8 @@
 
 ghost use Rattle.std.specs.Prelude.{◌≡◌, ◌≤◌, ℕ, List, length, take};
 ghost use Rattle.wc_tokens.specs.Standard.Lexemes.{longest};
-ghost use Rattle.wc_canon.specs.Input.{HasAnswer};
-ghost use Rattle.wc_ffi.specs.Calls.{Prints};
+ghost use Rattle.wc_canon.specs.Standard.Input.{HasAnswer};
+ghost use Rattle.wc_ffi.specs.Standard.Calls.{Prints};
 
 use crate::normalising::refused;
 use crate::putting::put;

@@ -1,7 +1,7 @@
 //! Bytes are put into memory of the caller.
 
 ghost use Rattle.std.specs.Prelude.{◌≡◌, length, nat_le};
-ghost use Rattle.wc_ffi.specs.Memory.{told};
+ghost use Rattle.wc_ffi.specs.Standard.Memory.{told};
 
 /// Puts bytes at the front, where there is room for them, and tells how many there are. Whether there was room.
 pub(crate) fn put(out: &mut [u8], needed: &mut usize, bytes: &[u8]) -> bool

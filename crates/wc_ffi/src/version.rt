@@ -1,7 +1,7 @@
 //! The version.
 
 ghost use Rattle.std.specs.Prelude.{◌≡◌, length};
-ghost use Rattle.wc_ffi.specs.Memory.{told};
+ghost use Rattle.wc_ffi.specs.Standard.Memory.{told};
 
 use crate::putting::put;
 use wc_canon::VERSION;

@@ -31,13 +31,13 @@ use Rattle.wc_meaning.specs.Standard.Ranges.{field_tables, field_memories}
 use Rattle.wc_meaning.specs.Standard.Segments.{field_elems, elem_faults, field_datas, data_faults}
 use Rattle.wc_meaning.specs.Standard.Denoted.{context_of, denoted_in, declaration_faults, all_use_faults}
 use Rattle.wc_meaning.specs.Standard.Denoted.{reference_faults, first_fault, FirstFault, Means}
-use Rattle.wc_meaning.specs.Placed.{FieldPlaced, ArePlaced}
+use Rattle.wc_meaning.specs.Stored.Placed.{FieldPlaced, ArePlaced}
 use Rattle.wc_meaning.proofs.Lists.{both, flat-mapped, flat-where}
-use Rattle.wc_meaning.proofs.Repeated.{inner-stored}
+use Rattle.wc_meaning.proofs.Code.Repeated.{inner-stored}
 use Rattle.wc_meaning.proofs.Spaced.{space-faults-stored}
 use Rattle.wc_meaning.proofs.Ordered.{late-stored, second-stored}
-use Rattle.wc_meaning.proofs.Typed.{types-same}
-use Rattle.wc_meaning.proofs.Judged.{uses-judged}
+use Rattle.wc_meaning.proofs.Types.Typed.{types-same}
+use Rattle.wc_meaning.proofs.Types.Judged.{uses-judged}
 use Rattle.wc_meaning.proofs.Listed.{along-same, imports-stored, funcs-stored, tables-stored, memories-stored}
 use Rattle.wc_meaning.proofs.Listed.{globals-stored, exports-stored, start-found, elems-stored, datas-stored}
 use Rattle.wc_meaning.proofs.Listed.{globals-judged, exports-judged, starts-judged, elems-judged, datas-judged}

@@ -51,11 +51,11 @@ use Rattle.wc_meaning.specs.Standard.Ranges.{exactly, field_tables, field_memori
 use Rattle.wc_meaning.specs.Standard.Segments.{elem, segment, target, field_elems, elem_faults, field_datas}
 use Rattle.wc_meaning.specs.Standard.Segments.{data_faults}
 use Rattle.wc_meaning.specs.Standard.Denoted.{context_of}
-use Rattle.wc_meaning.specs.Placed.{FieldPlaced, ArePlaced}
+use Rattle.wc_meaning.specs.Stored.Placed.{FieldPlaced, ArePlaced}
 use Rattle.wc_meaning.proofs.Lists.{both, mapped-same, flat-mapped}
 use Rattle.wc_meaning.proofs.Spaced.{declares-stored, space-texts}
-use Rattle.wc_meaning.proofs.Judged.{use-indexed}
-use Rattle.wc_meaning.proofs.Functions.{func-same, func-judged, constant-same, constant-judged}
+use Rattle.wc_meaning.proofs.Types.Judged.{use-indexed}
+use Rattle.wc_meaning.proofs.Code.Functions.{func-same, func-judged, constant-same, constant-judged}
 
 -- ---- what is declared before a field
 

@@ -1,2 +1,2 @@
 pub mod Standard
-pub mod Placed
+pub mod Stored

@@ -9,7 +9,7 @@ ghost use Rattle.wc_parse_field.specs.Stored.Fields.{field_as};
 ghost use Rattle.wc_parse.specs.Standard.Productions.{SaysFields};
 ghost use Rattle.wc_resolve.specs.Standard.Denoted.{Names, FirstFault as FirstStored};
 ghost use Rattle.wc_meaning.specs.Standard.Denoted.{Means, FirstFault};
-ghost use Rattle.wc_meaning.specs.Placed.{ArePlaced};
+ghost use Rattle.wc_meaning.specs.Stored.Placed.{ArePlaced};
 
 /// Written fields denote at most one module, have at most one first fault, never both, and always one.
 pub fn one_answer()

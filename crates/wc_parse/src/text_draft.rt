@@ -1,7 +1,7 @@
 //! Texts that are being said.
 
 ghost use Rattle.std.specs.Prelude.{◌≡◌, OnOk};
-ghost use Rattle.wc_symbols.specs.Strings.{bytes_in};
+ghost use Rattle.wc_symbols.specs.Standard.Strings.{bytes_in};
 ghost use Rattle.wc_parse.specs.Kept.Texts.{nothing, with_word, take_by};
 
 use std::alloc::{AllocError, Global};

@@ -8,7 +8,7 @@ ghost use Rattle.wc_tokens.specs.Standard.Lexemes.{HasForm};
 ghost use Rattle.wc_tokens.specs.Standard.Tokens.{lexeme_of};
 ghost use Rattle.wc_tokens.specs.declared.token.TokenKind.TheVariants as tokens;
 ghost use Rattle.wc_syntax.specs.declared.kind.Kind.TheVariants as kinds;
-ghost use Rattle.wc_symbols.specs.Tokens.{TokenIs};
+ghost use Rattle.wc_symbols.specs.Standard.Tokens.{TokenIs};
 ghost use Rattle.wc_parse.specs.Kept.SaidSoFar.{SaysMore, Refuses};
 
 use crate::fault::SynFault;

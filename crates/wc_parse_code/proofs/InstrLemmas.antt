@@ -8,12 +8,13 @@ use Rattle.wc_syntax.specs.declared.kind.Kind.{Kind as TokenKind}
 use Rattle.wc_syntax.specs.declared.kind.Kind.TheVariants as token
 use Rattle.wc_syntax.specs.declared.role.Role.{Role}
 use Rattle.wc_syntax.specs.declared.role.Role.TheVariants as role
-use Rattle.wc_syntax.specs.Phrases.{Nonterminal, instr, foldedinstr, typeuse, param, result, Keep, ◌·◌, The, Maybe}
-use Rattle.wc_syntax.specs.Types.{lp, rp, index}
-use Rattle.wc_syntax.specs.Instructions.{plaininstr, literal32, literal64, head, end_id, instrs, instr_body}
-use Rattle.wc_syntax.specs.Instructions.{foldedinstr_body}
-use Rattle.wc_syntax.specs.Grammar.{body}
-use Rattle.wc_syntax.specs.Deriving.{Item, Event, Derives}
+use Rattle.wc_syntax.specs.Standard.Phrases.{Nonterminal, instr, foldedinstr, typeuse, param, result, Keep, ◌·◌, The}
+use Rattle.wc_syntax.specs.Standard.Phrases.{Maybe}
+use Rattle.wc_syntax.specs.Standard.Types.{lp, rp, index}
+use Rattle.wc_syntax.specs.Standard.Instructions.{plaininstr, literal32, literal64, head, end_id, instrs, instr_body}
+use Rattle.wc_syntax.specs.Standard.Instructions.{foldedinstr_body}
+use Rattle.wc_syntax.specs.Standard.Grammar.{body}
+use Rattle.wc_syntax.specs.Standard.Deriving.{Item, Event, Derives}
 use Rattle.wc_ops.specs.declared.op.SimpleOp.{SimpleOp}
 use Rattle.wc_ops.specs.declared.op.IndexOp.{IndexOp}
 use Rattle.wc_ops.specs.declared.op.MemOp.{MemOp}

@@ -4,12 +4,12 @@ use Rattle.std.proofs.Common.{refl, sym, ap, ◌∙◌, subst, ◌&&◌}
 use Rattle.wc_syntax.specs.declared.kind.Kind.{Kind}
 use Rattle.wc_syntax.specs.declared.role.Role.{Role}
 use Rattle.wc_syntax.specs.declared.role.Role.TheVariants as role
-use Rattle.wc_syntax.specs.Phrases.{Terminal, word, Nonterminal, instr, foldedinstr, typeuse, param, result}
-use Rattle.wc_syntax.specs.Phrases.{Phrase, Empty, Token, Keep, ◌·◌, ◌∣◌, Many, The}
-use Rattle.wc_syntax.specs.Grammar.{body}
-use Rattle.wc_syntax.specs.Deriving.{Item, at, terminal_of, Event, kept, Derives, empty, token, keeps, then, left, right}
-use Rattle.wc_syntax.specs.Deriving.{none, more, rule}
-use Rattle.wc_symbols.specs.Ranges.{FitsKind}
+use Rattle.wc_syntax.specs.Standard.Phrases.{Terminal, word, Nonterminal, instr, foldedinstr, typeuse, param, result}
+use Rattle.wc_syntax.specs.Standard.Phrases.{Phrase, Empty, Token, Keep, ◌·◌, ◌∣◌, Many, The}
+use Rattle.wc_syntax.specs.Standard.Grammar.{body}
+use Rattle.wc_syntax.specs.Standard.Deriving.{Item, at, terminal_of, Event, kept, Derives, empty, token, keeps, then}
+use Rattle.wc_syntax.specs.Standard.Deriving.{left, right, none, more, rule}
+use Rattle.wc_symbols.specs.Standard.Ranges.{FitsKind}
 use Rattle.wc_body.specs.Standard.Nested.{nesting_limit}
 use Rattle.wc_body.specs.Standard.Draft.{Frame}
 use Rattle.wc_surface.specs.declared.instr.TextInstr.{TextInstr}

@@ -6,7 +6,7 @@ use Rattle.std.proofs.lemmas.Bool.{lt-ltb}
 use Rattle.wc_syntax.specs.declared.kind.Kind.{Kind as TokenKind}
 use Rattle.wc_syntax.specs.declared.kind.Kind.TheVariants as token
 use Rattle.wc_syntax.specs.declared.role.Role.TheVariants as role
-use Rattle.wc_syntax.specs.Instructions.{head, end_id, instrs}
+use Rattle.wc_syntax.specs.Standard.Instructions.{head, end_id, instrs}
 use Rattle.wc_ops.specs.declared.op.Op.TheVariants as op
 use Rattle.wc_ops.specs.declared.val_type.ValType.{ValType as ValueType}
 use Rattle.wc_symbols.specs.declared.symbol.Value.{Value}

@@ -2,9 +2,9 @@
 
 ghost use Rattle.std.specs.Prelude.{◌≡◌, ℕ, ◌≤◌, ◌+◌, ◌^◌, List, [], length, None};
 ghost use Rattle.wc_syntax.specs.declared.role.Role.{Role};
-ghost use Rattle.wc_syntax.specs.Phrases.{◌·◌, Many, The, foldedinstr, typeuse, param, result as result_rule};
-ghost use Rattle.wc_syntax.specs.Instructions.{instrs};
-ghost use Rattle.wc_syntax.specs.Deriving.{Item, Event, Derives, numbered};
+ghost use Rattle.wc_syntax.specs.Standard.Phrases.{◌·◌, Many, The, foldedinstr, typeuse, param, result as result_rule};
+ghost use Rattle.wc_syntax.specs.Standard.Instructions.{instrs};
+ghost use Rattle.wc_syntax.specs.Standard.Deriving.{Item, Event, Derives, numbered};
 ghost use Rattle.wc_syntax.specs.declared.kind.Kind.{Kind};
 ghost use Rattle.wc_body.specs.Standard.Nested.{nesting_limit};
 ghost use Rattle.wc_body.specs.Standard.Draft.{Frame};

@@ -1,7 +1,7 @@
 //! What stands in segments.
 
 ghost use Rattle.std.specs.Prelude.{◌≡◌, OnOk};
-ghost use Rattle.wc_symbols.specs.Strings.{bytes_in};
+ghost use Rattle.wc_symbols.specs.Standard.Strings.{bytes_in};
 ghost use Rattle.wc_parse_field.specs.Drafting.Fields.{no_contents, with_bytes, take_content};
 
 use std::alloc::{AllocError, Global};

@@ -1,7 +1,7 @@
 //! Fields that are being said.
 
 ghost use Rattle.std.specs.Prelude.{◌≡◌, OnOk};
-ghost use Rattle.wc_symbols.specs.Strings.{bytes_in};
+ghost use Rattle.wc_symbols.specs.Standard.Strings.{bytes_in};
 ghost use Rattle.wc_parse_field.specs.Drafting.Fields.{started, begun, take_string, take_word};
 
 use crate::code_draft::CodeDraft;

@@ -1,7 +1,7 @@
 //! Strings as names.
 
 ghost use Rattle.std.specs.Prelude.{◌≡◌};
-ghost use Rattle.wc_symbols.specs.Strings.{bytes_in};
+ghost use Rattle.wc_symbols.specs.Standard.Strings.{bytes_in};
 ghost use Rattle.wc_parse_field.specs.Drafting.Fields.{name_of};
 
 use wc_surface::TextName;

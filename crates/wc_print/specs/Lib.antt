@@ -1,8 +1,2 @@
-pub mod Going
-pub mod Inner
-pub mod Layout
-pub mod Lines
-pub mod Printable
-pub mod Printed
-pub mod ReadAs
-pub mod Sending
+pub mod Standard
+pub mod Writing

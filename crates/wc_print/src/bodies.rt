@@ -4,12 +4,12 @@ ghost use Rattle.std.specs.Prelude.{◌≡◌, ◌≤◌, ◌∷◌, [], ◌++�
 ghost use Rattle.wc_body.specs.Standard.Entries.{mark, begin_of};
 ghost use Rattle.wc_body.specs.Standard.Nested.{flatten, plain};
 ghost use Rattle.wc_ops.specs.Standard.Opcodes.{memory};
-ghost use Rattle.wc_print.specs.Printed.{Printed, number, after, below, printed};
-ghost use Rattle.wc_print.specs.Printable.{IsSpelled};
-ghost use Rattle.wc_print.specs.Going.{Puts};
-ghost use Rattle.wc_print.specs.Lines.{block_items, number_items, offset_items, bytes_of, align_items, mark_items};
-ghost use Rattle.wc_print.specs.Lines.{told, expr_items};
-ghost use Rattle.wc_print.specs.Inner.Places.{item_at};
+ghost use Rattle.wc_print.specs.Standard.Printed.{Printed, number, after, below, printed};
+ghost use Rattle.wc_print.specs.Standard.Printable.{IsSpelled};
+ghost use Rattle.wc_print.specs.Standard.Going.{Puts};
+ghost use Rattle.wc_print.specs.Standard.Lines.{block_items, number_items, offset_items, bytes_of, align_items};
+ghost use Rattle.wc_print.specs.Standard.Lines.{mark_items, told, expr_items};
+ghost use Rattle.wc_print.specs.Writing.Places.{item_at};
 
 use crate::lines::{Row, head_line, op_line};
 use crate::numbers::{put_integer, put_natural, put_number};

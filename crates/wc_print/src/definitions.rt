@@ -1,8 +1,8 @@
 //! Functions, tables, memories and globals (Core 1.0, 6.6.5 to 6.6.8).
 
 ghost use Rattle.std.specs.List.{flat_map};
-ghost use Rattle.wc_print.specs.Going.{Puts};
-ghost use Rattle.wc_print.specs.Layout.{func_items, table_items, memory_items, global_items};
+ghost use Rattle.wc_print.specs.Standard.Going.{Puts};
+ghost use Rattle.wc_print.specs.Standard.Layout.{func_items, table_items, memory_items, global_items};
 
 use crate::bodies::put_inline;
 use crate::field::Field;

@@ -2,8 +2,8 @@
 
 ghost use Rattle.std.specs.Prelude.{◌≡◌, ◌≤◌, ◌<◌, ◌+◌, ◌∷◌, [], ◌++◌, length, take};
 ghost use Rattle.std.specs.Fmt.{decimal};
-ghost use Rattle.wc_print.specs.Printed.{number, after};
-ghost use Rattle.wc_print.specs.Printable.{Put};
+ghost use Rattle.wc_print.specs.Standard.Printed.{number, after};
+ghost use Rattle.wc_print.specs.Standard.Printable.{Put};
 
 /// The first index that isn't short: one of more than six digits.
 pub const LIMIT: u32 = 1_000_000;

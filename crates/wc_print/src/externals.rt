@@ -2,9 +2,9 @@
 
 ghost use Rattle.std.specs.Prelude.{◌≡◌, ◌∷◌, []};
 ghost use Rattle.std.specs.List.{flat_map};
-ghost use Rattle.wc_print.specs.Printed.{next, opening, after, word, printed};
-ghost use Rattle.wc_print.specs.Going.{Puts};
-ghost use Rattle.wc_print.specs.Layout.{desc_items, import_items, kind_word, export_items};
+ghost use Rattle.wc_print.specs.Standard.Printed.{next, opening, after, word, printed};
+ghost use Rattle.wc_print.specs.Standard.Going.{Puts};
+ghost use Rattle.wc_print.specs.Standard.Layout.{desc_items, import_items, kind_word, export_items};
 
 use crate::numbers::put_number;
 use crate::short::{is_short_export, is_short_import, put_short_export, put_short_import};

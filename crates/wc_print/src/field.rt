@@ -2,8 +2,8 @@
 
 ghost use Rattle.std.specs.Prelude.{List as Seq};
 ghost use Rattle.std.specs.List.{flat_map};
-ghost use Rattle.wc_print.specs.Printed.{Item};
-ghost use Rattle.wc_print.specs.Going.{Puts};
+ghost use Rattle.wc_print.specs.Standard.Printed.{Item};
+ghost use Rattle.wc_print.specs.Standard.Going.{Puts};
 
 use crate::sink::Sink;
 

@@ -2,10 +2,10 @@
 //! lines of the instructions.
 
 ghost use Rattle.std.specs.Prelude.{◌≤◌, ◌<◌, ◌+◌, [], ◌++◌, codes, take};
-ghost use Rattle.wc_print.specs.Printable.{Put};
-ghost use Rattle.wc_print.specs.Going.{Puts, Behind};
-ghost use Rattle.wc_print.specs.Layout.{values_items};
-ghost use Rattle.wc_print.specs.Inner.Short.{function_head};
+ghost use Rattle.wc_print.specs.Standard.Printable.{Put};
+ghost use Rattle.wc_print.specs.Standard.Going.{Puts, Behind};
+ghost use Rattle.wc_print.specs.Standard.Layout.{values_items};
+ghost use Rattle.wc_print.specs.Writing.Short.{function_head};
 
 use crate::digits::{LIMIT, write_index};
 use crate::pages::{PAGE, write_row};

@@ -7,9 +7,9 @@ ghost use lib.Signed.{mag};
 ghost use Rattle.wc_tokens.specs.Standard.Lexemes.{Lexes, longest};
 ghost use Rattle.wc_tokens.specs.Standard.Numbers.{Natural, Literal};
 ghost use Rattle.wc_tokens.specs.Standard.Strings.{IsString};
-ghost use Rattle.wc_print.specs.Printed.{Item, quoted, spelled, text, lexemes};
-ghost use Rattle.wc_print.specs.Printable.{IsByte, IsPrintable};
-ghost use Rattle.wc_print.specs.ReadAs.{read_as};
+ghost use Rattle.wc_print.specs.Standard.Printed.{Item, quoted, spelled, text, lexemes};
+ghost use Rattle.wc_print.specs.Standard.Printable.{IsByte, IsPrintable};
+ghost use Rattle.wc_print.specs.Standard.ReadAs.{read_as};
 
 /// A text of printable items that isn't too long has the tokens of its items, and no others (Core 1.0, 6.3).
 pub fn printed_lexes()

@@ -2,9 +2,9 @@
 
 ghost use Rattle.std.specs.Prelude.{◌≡◌, ◌≤◌, ◌∷◌, [], slice_index};
 ghost use Rattle.wc_ops.specs.Standard.Opcodes.{row};
-ghost use Rattle.wc_print.specs.Printed.{below, word, printed};
-ghost use Rattle.wc_print.specs.Lines.{told, head_word};
-ghost use Rattle.wc_print.specs.Inner.Briefly.{IsLine};
+ghost use Rattle.wc_print.specs.Standard.Printed.{below, word, printed};
+ghost use Rattle.wc_print.specs.Standard.Lines.{told, head_word};
+ghost use Rattle.wc_print.specs.Writing.Briefly.{IsLine};
 
 use wc_ast::{Kind, Op};
 

@@ -2,9 +2,9 @@
 
 ghost use Rattle.std.specs.Prelude.{◌≡◌, IfOk};
 ghost use Rattle.std.specs.String.{string_bytes};
-ghost use Rattle.wc_print.specs.Printed.{text};
-ghost use Rattle.wc_print.specs.Printable.{IsPrintable};
-ghost use Rattle.wc_print.specs.Layout.{layout};
+ghost use Rattle.wc_print.specs.Standard.Printed.{text};
+ghost use Rattle.wc_print.specs.Standard.Printable.{IsPrintable};
+ghost use Rattle.wc_print.specs.Standard.Layout.{layout};
 
 use crate::printing::put_module;
 use crate::sink::Sink;

@@ -2,8 +2,8 @@
 
 ghost use Rattle.std.specs.Prelude.{◌≡◌, ◌∷◌, []};
 ghost use Rattle.std.specs.Fmt.{decimal, signed_decimal};
-ghost use Rattle.wc_print.specs.Printed.{number, integer, after};
-ghost use Rattle.wc_print.specs.Going.{Says, Puts};
+ghost use Rattle.wc_print.specs.Standard.Printed.{number, integer, after};
+ghost use Rattle.wc_print.specs.Standard.Going.{Says, Puts};
 
 use crate::sink::Sink;
 use itoa::Buffer;

@@ -1,8 +1,8 @@
 //! The operands of brief entries as texts.
 
 ghost use Rattle.std.specs.Prelude.{◌≡◌, ◌≤◌, ◌<◌, slice_index};
-ghost use Rattle.wc_print.specs.Printed.{printed};
-ghost use Rattle.wc_print.specs.Inner.Briefly.{told_text, operand_items};
+ghost use Rattle.wc_print.specs.Standard.Printed.{printed};
+ghost use Rattle.wc_print.specs.Writing.Briefly.{told_text, operand_items};
 
 use crate::offsets::OFFSETS;
 

@@ -1,13 +1,14 @@
 //! A text on its way to a writer.
 
 ghost use Rattle.std.specs.Prelude.{◌≡◌, ◌≤◌, [], ℕ, List, Option, length, is_err, OnOk, IfErr, false};
-ghost use Rattle.wc_device.specs.Device.{device_inner, has_failed, was_asked_again, FlushedOnce, FlushedBehindAll};
+ghost use Rattle.wc_device.specs.Standard.Device.{device_inner, has_failed, was_asked_again, FlushedOnce};
+ghost use Rattle.wc_device.specs.Standard.Device.{FlushedBehindAll};
 ghost use Rattle.wc_device.specs.declared.io_device.Device.{Device};
-ghost use Rattle.wc_print.specs.Inner.Flows.{FlowsUnless, OnlyWrites};
-ghost use Rattle.wc_print.specs.Printed.{text};
-ghost use Rattle.wc_print.specs.Sending.{Sends};
-ghost use Rattle.wc_print.specs.Printable.{IsPrintable};
-ghost use Rattle.wc_print.specs.Layout.{layout};
+ghost use Rattle.wc_print.specs.Writing.Flows.{FlowsUnless, OnlyWrites};
+ghost use Rattle.wc_print.specs.Standard.Printed.{text};
+ghost use Rattle.wc_print.specs.Standard.Sending.{Sends};
+ghost use Rattle.wc_print.specs.Standard.Printable.{IsPrintable};
+ghost use Rattle.wc_print.specs.Standard.Layout.{layout};
 
 use crate::printing::put_module;
 use crate::sink::Sink;
@@ -75,11 +76,12 @@ pub struct Outlet<'a, W> {
 
 impl<W: Write> Outlet<'_, W> {
     ghost use Rattle.std.specs.Prelude.{◌≡◌, ℕ, List, [], length, is_err, OnOk, IfErr};
-    ghost use Rattle.wc_device.specs.Device.{device_inner, has_failed, was_asked_again, FlushedOnce, FlushedBehindAll};
+    ghost use Rattle.wc_device.specs.Standard.Device.{device_inner, has_failed, was_asked_again, FlushedOnce};
+    ghost use Rattle.wc_device.specs.Standard.Device.{FlushedBehindAll};
     ghost use Rattle.wc_print.specs.declared.outlet.Outlet.{Outlet};
-    ghost use Rattle.wc_print.specs.Going.{Says};
-    ghost use Rattle.wc_print.specs.Sending.{Sends};
-    ghost use Rattle.wc_print.specs.Inner.Outlet.{HasSent};
+    ghost use Rattle.wc_print.specs.Standard.Going.{Says};
+    ghost use Rattle.wc_print.specs.Standard.Sending.{Sends};
+    ghost use Rattle.wc_print.specs.Writing.Outlet.{HasSent};
 
     /// Sends those that wait.
     fn empty(&mut self)
@@ -130,7 +132,7 @@ impl<W: Write> Outlet<'_, W> {
 }
 
 impl<W: Write> Sink for Outlet<'_, W> {
-    ghost use Rattle.wc_print.specs.Inner.Outlet.{HasSent};
+    ghost use Rattle.wc_print.specs.Writing.Outlet.{HasSent};
 
     ghost Has = { HasSent W.contents };
 

@@ -7,12 +7,12 @@ ghost use Rattle.wc_ops.specs.Standard.Opcodes.{memory};
 ghost use Rattle.wc_body.specs.declared.entry.Entry.{Entry};
 ghost use Rattle.wc_body.specs.Standard.Entries.{mark};
 ghost use Rattle.wc_body.specs.Standard.Walks.Brief.{brief_entry};
-ghost use Rattle.wc_print.specs.Printed.{below, closing, word};
-ghost use Rattle.wc_print.specs.Printable.{Put};
-ghost use Rattle.wc_print.specs.Going.{Puts, Behind};
-ghost use Rattle.wc_print.specs.Lines.{told, offset_items, body_items};
-ghost use Rattle.wc_print.specs.Inner.Places.{line_items, LeavesLines};
-ghost use Rattle.wc_print.specs.Inner.Briefly.{told_text};
+ghost use Rattle.wc_print.specs.Standard.Printed.{below, closing, word};
+ghost use Rattle.wc_print.specs.Standard.Printable.{Put};
+ghost use Rattle.wc_print.specs.Standard.Going.{Puts, Behind};
+ghost use Rattle.wc_print.specs.Standard.Lines.{told, offset_items, body_items};
+ghost use Rattle.wc_print.specs.Writing.Places.{line_items, LeavesLines};
+ghost use Rattle.wc_print.specs.Writing.Briefly.{told_text};
 
 use crate::bodies::{Place, put_entry};
 use crate::digits::write_few_digits;

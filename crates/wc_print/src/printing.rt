@@ -1,9 +1,9 @@
 //! Whole modules.
 
-ghost use Rattle.wc_print.specs.Printed.{text};
-ghost use Rattle.wc_print.specs.Printable.{IsPrintable};
-ghost use Rattle.wc_print.specs.Going.{Says, Puts};
-ghost use Rattle.wc_print.specs.Layout.{field_items, layout};
+ghost use Rattle.wc_print.specs.Standard.Printed.{text};
+ghost use Rattle.wc_print.specs.Standard.Printable.{IsPrintable};
+ghost use Rattle.wc_print.specs.Standard.Going.{Says, Puts};
+ghost use Rattle.wc_print.specs.Standard.Layout.{field_items, layout};
 
 use crate::definitions::{put_funcs, put_memories, put_tables};
 use crate::externals::{put_exports, put_imports};

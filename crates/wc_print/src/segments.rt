@@ -1,10 +1,10 @@
 //! The start function and the segments (Core 1.0, 6.6.10 to 6.6.12).
 
 ghost use Rattle.std.specs.Prelude.{◌∷◌, [], ◌++◌};
-ghost use Rattle.wc_print.specs.Printed.{next, closing};
-ghost use Rattle.wc_print.specs.Going.{Puts};
-ghost use Rattle.wc_print.specs.Lines.{number_items};
-ghost use Rattle.wc_print.specs.Layout.{place_items, start_items, elem_items, data_items};
+ghost use Rattle.wc_print.specs.Standard.Printed.{next, closing};
+ghost use Rattle.wc_print.specs.Standard.Going.{Puts};
+ghost use Rattle.wc_print.specs.Standard.Lines.{number_items};
+ghost use Rattle.wc_print.specs.Standard.Layout.{place_items, start_items, elem_items, data_items};
 
 use crate::bodies::put_inline;
 use crate::field::Field;

@@ -2,10 +2,10 @@
 //! together in a small room before they are put behind the others.
 
 ghost use Rattle.std.specs.Prelude.{◌≡◌, ◌≤◌, ◌<◌, ◌+◌, ◌∷◌, [], ◌++◌, IsTrue, length, take};
-ghost use Rattle.wc_print.specs.Printed.{quoted, after};
-ghost use Rattle.wc_print.specs.Printable.{Put};
-ghost use Rattle.wc_print.specs.Going.{Puts};
-ghost use Rattle.wc_print.specs.Inner.Short.{IsShort, function_import, function_export};
+ghost use Rattle.wc_print.specs.Standard.Printed.{quoted, after};
+ghost use Rattle.wc_print.specs.Standard.Printable.{Put};
+ghost use Rattle.wc_print.specs.Standard.Going.{Puts};
+ghost use Rattle.wc_print.specs.Writing.Short.{IsShort, function_import, function_export};
 
 use crate::digits::{LIMIT, write_index};
 use crate::sink::Sink;

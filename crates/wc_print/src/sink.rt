@@ -1,7 +1,7 @@
 //! Where a text goes.
 
 ghost use Rattle.std.specs.Prelude.{ℕ, List};
-ghost use Rattle.wc_print.specs.Going.{Says};
+ghost use Rattle.wc_print.specs.Standard.Going.{Says};
 
 /// Where bytes are put, one piece behind another. Putting never fails by itself: what couldn't be kept is remembered.
 pub trait Sink: Sized {

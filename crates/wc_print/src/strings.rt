@@ -3,9 +3,9 @@
 ghost use Rattle.std.specs.Prelude.{◌≡◌, ◌≤◌, ◌<◌, ◌+◌, ◌-◌, ◌∷◌, [], ◌++◌, ℕ, true, IsTrue};
 ghost use Rattle.std.specs.Prelude.{length, take, slice_index};
 ghost use Rattle.std.specs.List.{flat_map};
-ghost use Rattle.wc_print.specs.Printed.{stands, escaped, quoted, after};
-ghost use Rattle.wc_print.specs.Going.{Puts, LeavesEscaped};
-ghost use Rattle.wc_print.specs.Inner.Short.{AllStand};
+ghost use Rattle.wc_print.specs.Standard.Printed.{stands, escaped, quoted, after};
+ghost use Rattle.wc_print.specs.Standard.Going.{Puts, LeavesEscaped};
+ghost use Rattle.wc_print.specs.Writing.Short.{AllStand};
 
 use crate::escapes::ESCAPES;
 use crate::sink::Sink;

@@ -1,11 +1,11 @@
 //! Types (Core 1.0, 6.4).
 
 ghost use Rattle.std.specs.Prelude.{◌≡◌, ◌∷◌, [], ◌++◌, ℕ, true, List as Seq, codes, map, replicate};
-ghost use Rattle.wc_print.specs.Printed.{word, next, opening, closing, after, printed};
-ghost use Rattle.wc_print.specs.Printable.{is_word};
-ghost use Rattle.wc_print.specs.Going.{Puts};
-ghost use Rattle.wc_print.specs.Lines.{type_item, type_use_items};
-ghost use Rattle.wc_print.specs.Layout.{values_items, type_items, limits_items, global_type_items};
+ghost use Rattle.wc_print.specs.Standard.Printed.{word, next, opening, closing, after, printed};
+ghost use Rattle.wc_print.specs.Standard.Printable.{is_word};
+ghost use Rattle.wc_print.specs.Standard.Going.{Puts};
+ghost use Rattle.wc_print.specs.Standard.Lines.{type_item, type_use_items};
+ghost use Rattle.wc_print.specs.Standard.Layout.{values_items, type_items, limits_items, global_type_items};
 ghost use Rattle.wc_ast.specs.Standard.LocalGroups.{written_out};
 
 use crate::field::Field;

@@ -12,15 +12,15 @@ use Rattle.wc_parse_field.specs.Stored.Fields.{field_as}
 use Rattle.wc_parse.specs.Standard.Productions.{SaysFields}
 use Rattle.wc_parse.specs.Standard.Meaning.{Syn}
 use Rattle.wc_parse.specs.Standard.Faults.{FirstFault as FirstSyntaxFault}
-use Rattle.wc_parse.proofs.Written.{one-written}
-use Rattle.wc_parse.proofs.Answering as grammar
+use Rattle.wc_parse.proofs.Saying.Written.{one-written}
+use Rattle.wc_parse.proofs.Saying.Answering as grammar
 use Rattle.wc_resolve_code.specs.declared.why.NameWhy.{NameWhy}
 use Rattle.wc_meaning.specs.Standard.Denoted.{FirstFault as FirstNameFault, Means}
 use Rattle.wc_meaning.proofs.Single as names
 use Rattle.wc_read_text.specs.declared.fault.TextFault.{TextFault}
 use Rattle.wc_read_text.specs.declared.fault.TextFault.TheVariants.{Lex, Syntax, Names, Memory}
-use Rattle.wc_read_text.specs.Texts.{Txt}
-use Rattle.wc_read_text.specs.Faults.{byte_of, IsSyntaxFault, IsNameFault, FirstFault}
+use Rattle.wc_read_text.specs.Standard.Texts.{Txt}
+use Rattle.wc_read_text.specs.Standard.Faults.{byte_of, IsSyntaxFault, IsNameFault, FirstFault}
 use Rattle.wc_read_text.proofs.Stored.{in-order, as-stored}
 
 -- ---- each stage says one thing

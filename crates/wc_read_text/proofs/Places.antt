@@ -9,7 +9,7 @@ use Rattle.wc_tokens.specs.Standard.Streams.{Unread, unread, Gives}
 use Rattle.wc_tokens.proofs.Lexing.LexLaws.{Lexes-same, Lexes-FirstFault}
 use Rattle.wc_tokens.proofs.Lexing.StreamLaws.{IsReading, IsReading-start, IsReading-token, IsReading-end}
 use Rattle.wc_tokens.proofs.Lexing.StreamLaws.{IsReading-rest, IsReading-stop}
-use Rattle.wc_read_text.specs.Faults.{start_or, byte_of}
+use Rattle.wc_read_text.specs.Standard.Faults.{start_or, byte_of}
 
 -- whichever tokens the text has, so many of them were read
 abbrev pub IsAt : List ℕ → ℕ → Unread → Type 0

@@ -9,8 +9,8 @@ use Rattle.wc_resolve_code.specs.declared.why.NameWhy.{NameWhy}
 use Rattle.wc_resolve.specs.Standard.Denoted.{Names as Denote, FirstFault as FirstStored}
 use Rattle.wc_read_text.specs.declared.fault.TextFault.{TextFault}
 use Rattle.wc_read_text.specs.declared.fault.TextFault.TheVariants.{Names, Memory}
-use Rattle.wc_read_text.specs.Texts.{Txt}
-use Rattle.wc_read_text.specs.Faults.{byte_of, FirstFault, IsFault}
+use Rattle.wc_read_text.specs.Standard.Texts.{Txt}
+use Rattle.wc_read_text.specs.Standard.Faults.{byte_of, FirstFault, IsFault}
 use Rattle.wc_read_text.proofs.Stored.{stored-text, stored-named}
 use Rattle.wc_read_text.proofs.Laws.{one-module, one-fault, never-both}
 

@@ -10,14 +10,14 @@ use Rattle.wc_parse_field.specs.Stored.Fields.{field_as}
 use Rattle.wc_parse.specs.Standard.Productions.{SaysFields}
 use Rattle.wc_parse.specs.Standard.Meaning.{Syn}
 use Rattle.wc_parse.specs.Standard.Wholes.{SaysText}
-use Rattle.wc_parse.proofs.Forms.{few-tokens}
+use Rattle.wc_parse.proofs.Tokens.Forms.{few-tokens}
 use Rattle.wc_resolve_code.specs.declared.why.NameWhy.{NameWhy}
 use Rattle.wc_resolve.specs.Standard.Denoted.{Names as Denote, FirstFault as FirstStored}
-use Rattle.wc_meaning.specs.Placed.{ArePlaced}
+use Rattle.wc_meaning.specs.Stored.Placed.{ArePlaced}
 use Rattle.wc_meaning.proofs.Joined.{means-stored, stored-means, fault-stored, stored-fault}
-use Rattle.wc_meaning.proofs.Placing.{text-placed}
-use Rattle.wc_read_text.specs.Texts.{Txt}
-use Rattle.wc_read_text.specs.Faults.{byte_of, IsNameFault}
+use Rattle.wc_meaning.proofs.Code.Placing.{text-placed}
+use Rattle.wc_read_text.specs.Standard.Texts.{Txt}
+use Rattle.wc_read_text.specs.Standard.Faults.{byte_of, IsNameFault}
 
 pub in-order : (text : List ℕ) (ts : List Lexeme) → Lexes text ts → InOrder 0 ts
 in-order text ts p = InOrder-Lexed p.lexed p.short (omega arith) 0 (omega arith)

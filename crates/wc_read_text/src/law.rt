@@ -3,8 +3,8 @@
 ghost use Rattle.std.specs.Prelude.{◌≡◌, ◌⊎◌, ℕ, List};
 ghost use Rattle.wc_ast.specs.declared.module.Module.{Module};
 ghost use Rattle.wc_read_text.specs.declared.fault.TextFault.{TextFault};
-ghost use Rattle.wc_read_text.specs.Texts.{Txt};
-ghost use Rattle.wc_read_text.specs.Faults.{FirstFault};
+ghost use Rattle.wc_read_text.specs.Standard.Texts.{Txt};
+ghost use Rattle.wc_read_text.specs.Standard.Faults.{FirstFault};
 
 /// A text denotes at most one module.
 pub fn one_module()

@@ -2,7 +2,7 @@
 
 ghost use Rattle.std.specs.Prelude.{◌≡◌, List, IfOk, IfErr};
 ghost use Rattle.wc_tokens.specs.Standard.Lexemes.{Lexeme, Lexes};
-ghost use Rattle.wc_read_text.specs.Faults.{byte_of as place_of};
+ghost use Rattle.wc_read_text.specs.Standard.Faults.{byte_of as place_of};
 
 use wc_tokens::{Lexer, Stop};
 

@@ -5,8 +5,8 @@ ghost use Rattle.wc_ast.specs.declared.module.Module.{Module as ModuleValue};
 ghost use Rattle.wc_parse.specs.Standard.Wholes.{SaysText};
 ghost use Rattle.wc_read_text.specs.declared.fault.TextFault.{TextFault as Fault};
 ghost use Rattle.wc_read_text.specs.declared.fault.TextFault.TheVariants.{Memory};
-ghost use Rattle.wc_read_text.specs.Texts.{Txt};
-ghost use Rattle.wc_read_text.specs.Faults.{FirstFault, IsFault};
+ghost use Rattle.wc_read_text.specs.Standard.Texts.{Txt};
+ghost use Rattle.wc_read_text.specs.Standard.Faults.{FirstFault, IsFault};
 
 use crate::fault::TextFault;
 use crate::place::byte_of;

@@ -3,9 +3,9 @@
 ghost use Rattle.std.specs.Prelude.{◌≡◌, ℕ, ◌≤◌, length};
 ghost use Rattle.wc_tokens.specs.Standard.Lexemes.{longest};
 ghost use Rattle.wc_ast.specs.declared.module.Module.{Module};
-ghost use Rattle.wc_print.specs.Layout.{layout};
-ghost use Rattle.wc_print.specs.Printable.{IsPrintable};
-ghost use Rattle.wc_print.specs.Printed.{text, lexemes};
+ghost use Rattle.wc_print.specs.Standard.Layout.{layout};
+ghost use Rattle.wc_print.specs.Standard.Printable.{IsPrintable};
+ghost use Rattle.wc_print.specs.Standard.Printed.{text, lexemes};
 ghost use Rattle.wc_readback.specs.Grammar.Fitting.{Fits};
 ghost use Rattle.wc_parse.specs.Standard.Meaning.{Syn};
 ghost use Rattle.wc_parse.specs.Kept.Folds.{Folds};

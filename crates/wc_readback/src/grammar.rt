@@ -6,9 +6,9 @@ mod fitting;
 ghost use Rattle.std.specs.List.{AllByRecursion};
 ghost use Rattle.wc_ast.specs.declared.module.Module.{Module};
 ghost use Rattle.wc_body.specs.Standard.Nested.{nesting_limit};
-ghost use Rattle.wc_syntax.specs.Parsing.{IsText};
-ghost use Rattle.wc_print.specs.Printed.{lexemes};
-ghost use Rattle.wc_print.specs.Layout.{layout};
+ghost use Rattle.wc_syntax.specs.Standard.Parsing.{IsText};
+ghost use Rattle.wc_print.specs.Standard.Printed.{lexemes};
+ghost use Rattle.wc_print.specs.Standard.Layout.{layout};
 ghost use Rattle.wc_readback.specs.Grammar.Fitting.{Fits};
 ghost use Rattle.wc_readback.specs.Grammar.Kept.{AreSymbols, StandsIn, symbols, kinds, said, events};
 

@@ -13,18 +13,18 @@ use Rattle.wc_syntax.specs.declared.kind.Kind.{Kind}
 use Rattle.wc_syntax.specs.declared.kind.Kind.TheVariants as kind
 use Rattle.wc_symbols.specs.declared.symbol.Symbol.{Symbol}
 use Rattle.wc_symbols.specs.declared.symbol.Value.TheVariants.{Nothing, Number, Instruction}
-use Rattle.wc_symbols.specs.Numbers.{NaturalIs, below_32, below_64, above, HasSign, SignedIs, of_32, of_64, beyond}
-use Rattle.wc_symbols.specs.Numbers.{OffsetIs, offset_number, offset_range, offset_form}
-use Rattle.wc_symbols.specs.Numbers.{AlignIs, align_power, align_no_power, align_range, align_form}
-use Rattle.wc_symbols.specs.Names.{op_kind, keyword, KeywordIs, word, i32, i64, f32, f64, NameIs, keyword_is}
-use Rattle.wc_symbols.specs.Names.{instruction, float}
-use Rattle.wc_symbols.specs.Words.{natural, signed, offset, align, name, WordIs, known, other}
-use Rattle.wc_symbols.specs.Tokens.{StringIs, name as string_name, no_name, TokenIs}
-use Rattle.wc_symbols.specs.Ranges.{FitsKind}
-use Rattle.wc_symbols.specs.Literals.{IsLiteral32, IsLiteral64}
-use Rattle.wc_symbols.proofs.NumberLemmas.{complement}
-use Rattle.wc_symbols.proofs.SameSymbols.{WordIs-same}
-use Rattle.wc_symbols.proofs.StringLemmas.{StringIs-same}
+use Rattle.wc_symbols.specs.Standard.Numbers.{NaturalIs, below_32, below_64, above, HasSign, SignedIs, of_32, of_64}
+use Rattle.wc_symbols.specs.Standard.Numbers.{beyond, OffsetIs, offset_number, offset_range, offset_form, AlignIs}
+use Rattle.wc_symbols.specs.Standard.Numbers.{align_power, align_no_power, align_range, align_form}
+use Rattle.wc_symbols.specs.Standard.Names.{op_kind, keyword, KeywordIs, word, i32, i64, f32, f64, NameIs, keyword_is}
+use Rattle.wc_symbols.specs.Standard.Names.{instruction, float}
+use Rattle.wc_symbols.specs.Standard.Words.{natural, signed, offset, align, name, WordIs, known, other}
+use Rattle.wc_symbols.specs.Standard.Tokens.{StringIs, name as string_name, no_name, TokenIs}
+use Rattle.wc_symbols.specs.Standard.Ranges.{FitsKind}
+use Rattle.wc_symbols.specs.Standard.Literals.{IsLiteral32, IsLiteral64}
+use Rattle.wc_symbols.proofs.Spelling.NumberLemmas.{complement}
+use Rattle.wc_symbols.proofs.OneValue.SameSymbols.{WordIs-same}
+use Rattle.wc_symbols.proofs.Spelling.StringLemmas.{StringIs-same}
 
 fits-natural : {text : List ℕ} {s : Symbol} → NaturalIs text s → FitsKind s.kind s.value
 fits-natural (below_32 {n = n} d l) = (n, refl, l)

@@ -1,9 +1,2 @@
-pub mod Inner
-pub mod Literals
-pub mod Names
-pub mod Numbers
-pub mod Ranges
-pub mod Symbols
-pub mod Strings
-pub mod Tokens
-pub mod Words
+pub mod Standard
+pub mod Reading

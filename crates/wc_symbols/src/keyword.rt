@@ -3,8 +3,8 @@
 ghost use Rattle.std.specs.Prelude.{◌≡◌, length, MatchOption};
 ghost use Rattle.wc_ops.specs.declared.val_type.ValType.{ValType as ValueType};
 ghost use Rattle.wc_syntax.specs.declared.kind.Kind.{Kind as TokenKind};
-ghost use Rattle.wc_symbols.specs.Names.{KeywordIs};
-ghost use Rattle.wc_symbols.specs.Symbols.{bare, valued};
+ghost use Rattle.wc_symbols.specs.Standard.Names.{KeywordIs};
+ghost use Rattle.wc_symbols.specs.Standard.Symbols.{bare, valued};
 ghost use Rattle.wc_symbols.specs.declared.symbol.Symbol.{Symbol as Token};
 
 use crate::symbol::{Symbol, Value, bare, valued};

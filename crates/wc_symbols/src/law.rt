@@ -5,9 +5,9 @@ ghost use Rattle.std.specs.List.{AllByRecursion};
 ghost use Rattle.wc_tokens.specs.Standard.Numbers.{Signed, Literal, FitsBits};
 ghost use Rattle.wc_tokens.specs.Standard.Lexemes.{Lexeme, HasForm, Lexes};
 ghost use Rattle.wc_tokens.specs.declared.token.TokenKind.{TokenKind};
-ghost use Rattle.wc_symbols.specs.Literals.{IsLiteral32, IsLiteral64};
-ghost use Rattle.wc_symbols.specs.Tokens.{TokenIs};
-ghost use Rattle.wc_symbols.specs.Words.{WordIs};
+ghost use Rattle.wc_symbols.specs.Standard.Literals.{IsLiteral32, IsLiteral64};
+ghost use Rattle.wc_symbols.specs.Standard.Tokens.{TokenIs};
+ghost use Rattle.wc_symbols.specs.Standard.Words.{WordIs};
 ghost use Rattle.wc_symbols.specs.declared.symbol.Symbol.{Symbol};
 
 /// A token has one kind and one value.

@@ -1,8 +1,8 @@
 //! Words that are names.
 
 ghost use Rattle.std.specs.Prelude.{◌≡◌};
-ghost use Rattle.wc_symbols.specs.Names.{NameIs, op_kind};
-ghost use Rattle.wc_symbols.specs.Symbols.{OrOther};
+ghost use Rattle.wc_symbols.specs.Standard.Names.{NameIs, op_kind};
+ghost use Rattle.wc_symbols.specs.Standard.Symbols.{OrOther};
 
 use crate::keyword::keyword;
 use crate::symbol::{Symbol, Value, bare, valued};

@@ -3,8 +3,8 @@
 ghost use Rattle.std.specs.Prelude.{◌≡◌, ◌≢◌, ℕ, ◌^◌, ◌<◌, ◌∷◌, ◌⊎◌, List, MatchOption};
 ghost use Rattle.wc_tokens.specs.Standard.Numbers.{Natural};
 ghost use Rattle.wc_tokens.specs.Reading.Numbers.{IsNum};
-ghost use Rattle.wc_symbols.specs.Numbers.{NaturalIs, SignedIs, OffsetIs, AlignIs};
-ghost use Rattle.wc_symbols.specs.Symbols.{OrOther};
+ghost use Rattle.wc_symbols.specs.Standard.Numbers.{NaturalIs, SignedIs, OffsetIs, AlignIs};
+ghost use Rattle.wc_symbols.specs.Standard.Symbols.{OrOther};
 
 use crate::digits::short_decimal;
 use crate::symbol::{Symbol, Value, bare, valued};

@@ -1,7 +1,7 @@
 //! What a word may say by its first characters.
 
 ghost use Rattle.std.specs.Prelude.{◌≡◌};
-ghost use Rattle.wc_symbols.specs.Inner.Shapes.{shape_of};
+ghost use Rattle.wc_symbols.specs.Reading.Shapes.{shape_of};
 
 /// What a word may say by its first characters.
 #[derive(Clone, Copy)]

@@ -3,8 +3,8 @@
 ghost use Rattle.std.specs.Prelude.{◌≡◌, ◌++◌, ℕ, List, IsTrue, IsUtf8, ◌↔◌};
 ghost use Rattle.wc_tokens.specs.Reading.Elements.{bytes_of};
 ghost use Rattle.wc_tokens.specs.Standard.Strings.{IsString};
-ghost use Rattle.wc_symbols.specs.Inner.Reading.{Tracks};
-ghost use Rattle.wc_symbols.specs.Tokens.{StringIs};
+ghost use Rattle.wc_symbols.specs.Reading.Utf8.{Tracks};
+ghost use Rattle.wc_symbols.specs.Standard.Tokens.{StringIs};
 
 use crate::symbol::{Symbol, bare};
 use crate::utf8::{Tail, followed, is_whole, nothing_read};

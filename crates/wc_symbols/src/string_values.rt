@@ -2,8 +2,8 @@
 
 ghost use Rattle.std.specs.Prelude.{◌≡◌, ℕ, List, IfOk, IfSome};
 ghost use Rattle.wc_tokens.specs.Standard.Strings.{IsString};
-ghost use Rattle.wc_symbols.specs.Strings.{bytes_in};
-ghost use Rattle.wc_symbols.specs.Tokens.{StringIs};
+ghost use Rattle.wc_symbols.specs.Standard.Strings.{bytes_in};
+ghost use Rattle.wc_symbols.specs.Standard.Tokens.{StringIs};
 
 use crate::symbol::{Symbol, bare};
 use std::alloc::{AllocError, Global};

@@ -1,7 +1,7 @@
 //! What a token is to the parser.
 
 ghost use Rattle.std.specs.Prelude.{◌≡◌};
-ghost use Rattle.wc_symbols.specs.Symbols.{bare, valued};
+ghost use Rattle.wc_symbols.specs.Standard.Symbols.{bare, valued};
 
 use wc_ops::{Op, ValType};
 use wc_syntax::Kind;

@@ -2,8 +2,8 @@
 
 ghost use Rattle.std.specs.Prelude.{◌≡◌};
 ghost use Rattle.wc_tokens.specs.Standard.Lexemes.{HasForm};
-ghost use Rattle.wc_symbols.specs.Ranges.{FitsKind};
-ghost use Rattle.wc_symbols.specs.Tokens.{TokenIs};
+ghost use Rattle.wc_symbols.specs.Standard.Ranges.{FitsKind};
+ghost use Rattle.wc_symbols.specs.Standard.Tokens.{TokenIs};
 ghost use Rattle.wc_symbols.specs.declared.symbol.Symbol.{Symbol as Meaning};
 
 use crate::string::string;

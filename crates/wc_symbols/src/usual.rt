@@ -2,9 +2,9 @@
 //! for all that it may say.
 
 ghost use Rattle.std.specs.Prelude.{◌≡◌, IfSome};
-ghost use Rattle.wc_symbols.specs.Names.{op_kind};
-ghost use Rattle.wc_symbols.specs.Symbols.{bare, valued};
-ghost use Rattle.wc_symbols.specs.Words.{WordIs};
+ghost use Rattle.wc_symbols.specs.Standard.Names.{op_kind};
+ghost use Rattle.wc_symbols.specs.Standard.Symbols.{bare, valued};
+ghost use Rattle.wc_symbols.specs.Standard.Words.{WordIs};
 
 use crate::digits::short_decimal;
 use crate::keyword::{keyword_kind, type_named};

@@ -2,7 +2,7 @@
 
 ghost use Rattle.std.specs.Prelude.{◌≡◌, ◌++◌, ◌∷◌, [], ℕ, List, IsTrue, IsUtf8, ◌↔◌};
 ghost use Rattle.simdutf8.specs.Steps.{least_after, most_after};
-ghost use Rattle.wc_symbols.specs.Inner.Reading.{is_closed, is_continuation, may_follow, Tracks};
+ghost use Rattle.wc_symbols.specs.Reading.Utf8.{is_closed, is_continuation, may_follow, Tracks};
 
 /// The last three bytes of what was read, which say what may follow; zeros before the first byte.
 #[derive(Clone, Copy)]

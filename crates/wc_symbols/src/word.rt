@@ -1,6 +1,6 @@
 //! What each word says.
 
-ghost use Rattle.wc_symbols.specs.Words.{WordIs};
+ghost use Rattle.wc_symbols.specs.Standard.Words.{WordIs};
 
 use crate::name::name;
 use crate::number::{alignment, minus, natural, offset, plus};

@@ -1,11 +1,2 @@
-pub mod Deriving
-pub mod Fields
-pub mod Grammar
-pub mod Inner
-pub mod Instead
-pub mod Instructions
-pub mod Parsing
-pub mod Phrases
-pub mod Reading
-pub mod Reasons
-pub mod Types
+pub mod Standard
+pub mod Tables

@@ -1,9 +1,9 @@
 //! The kept tokens of a text.
 
 ghost use Rattle.std.specs.Prelude.{◌≡◌, ◌⊎◌, ℕ, List, IfOk, IfErr, IsErrAnd, MatchResult};
-ghost use Rattle.wc_syntax.specs.Deriving.{Event};
-ghost use Rattle.wc_syntax.specs.Parsing.{events, IsText, IsRefusal};
-ghost use Rattle.wc_syntax.specs.Reasons.{FirstFault};
+ghost use Rattle.wc_syntax.specs.Standard.Deriving.{Event};
+ghost use Rattle.wc_syntax.specs.Standard.Parsing.{events, IsText, IsRefusal};
+ghost use Rattle.wc_syntax.specs.Standard.Reasons.{FirstFault};
 ghost use Rattle.wc_syntax.specs.declared.why.SynWhy.{SynWhy as Reason};
 
 use crate::kind::Kind;

@@ -1,9 +1,9 @@
 //! Laws of texts and faults.
 
 ghost use Rattle.std.specs.Prelude.{◌≡◌, ◌⊎◌, ℕ, List};
-ghost use Rattle.wc_syntax.specs.Deriving.{Event};
-ghost use Rattle.wc_syntax.specs.Parsing.{IsText};
-ghost use Rattle.wc_syntax.specs.Reasons.{FirstFault};
+ghost use Rattle.wc_syntax.specs.Standard.Deriving.{Event};
+ghost use Rattle.wc_syntax.specs.Standard.Parsing.{IsText};
+ghost use Rattle.wc_syntax.specs.Standard.Reasons.{FirstFault};
 ghost use Rattle.wc_syntax.specs.declared.kind.Kind.{Kind as TokenKind};
 ghost use Rattle.wc_syntax.specs.declared.why.SynWhy.{SynWhy as Reason};
 

@@ -4,10 +4,10 @@ mod parts;
 mod usual;
 
 ghost use Rattle.std.specs.Prelude.{◌≡◌, ◌++◌, ◌∷◌, [], ℕ, List, length, true, false, IfOk, IfErr, OnOk, OnErr};
-ghost use Rattle.wc_syntax.specs.Deriving.{Event};
-ghost use Rattle.wc_syntax.specs.Parsing.{IsText, IsRefusal};
-ghost use Rattle.wc_syntax.specs.Reading.{IsRead, start, moved, is_deep, kept_as};
-ghost use Rattle.wc_syntax.specs.Reasons.{FirstFault};
+ghost use Rattle.wc_syntax.specs.Standard.Deriving.{Event};
+ghost use Rattle.wc_syntax.specs.Standard.Parsing.{IsText, IsRefusal};
+ghost use Rattle.wc_syntax.specs.Standard.Reading.{IsRead, start, moved, is_deep, kept_as};
+ghost use Rattle.wc_syntax.specs.Standard.Reasons.{FirstFault};
 ghost use Rattle.wc_syntax.specs.declared.place.Move.TheVariants.{Out};
 ghost use Rattle.wc_syntax.specs.declared.kind.Kind.{Kind as TokenKind};
 ghost use Rattle.wc_syntax.specs.declared.why.SynWhy.TheVariants.{End};
@@ -34,7 +34,7 @@ pub struct Reading {
 
 impl Model for Reading {
     ghost use Rattle.std.specs.Prelude.{reverse};
-    ghost use Rattle.wc_syntax.specs.Reading.{Standing, standing};
+    ghost use Rattle.wc_syntax.specs.Standard.Reading.{Standing, standing};
 
     ghost Value = { Standing };
 

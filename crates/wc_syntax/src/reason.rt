@@ -1,9 +1,9 @@
 //! Why a token is refused.
 
 ghost use Rattle.std.specs.Prelude.{◌≡◌};
-ghost use Rattle.wc_syntax.specs.Reasons.{wrong};
-ghost use Rattle.wc_syntax.specs.Inner.Table.{leads_to, reason_of};
-ghost use Rattle.wc_syntax.specs.Instead.{terminal_or_mark, wrongs};
+ghost use Rattle.wc_syntax.specs.Standard.Reasons.{wrong};
+ghost use Rattle.wc_syntax.specs.Tables.Table.{leads_to, reason_of};
+ghost use Rattle.wc_syntax.specs.Standard.Instead.{terminal_or_mark, wrongs};
 
 use crate::kind::Kind;
 use crate::place::{Action, Frame, Move, Place};

@@ -5,7 +5,7 @@ mod frames;
 mod places;
 
 ghost use Rattle.std.specs.Prelude.{◌≡◌};
-ghost use Rattle.wc_syntax.specs.Inner.Table.{rest_of, takes_instrs, takes_folded, names_instr, step, is_end, resume};
+ghost use Rattle.wc_syntax.specs.Tables.Table.{rest_of, takes_instrs, takes_folded, names_instr, step, is_end, resume};
 
 use crate::kind::Kind;
 use crate::place::{Action, Frame, Place};

@@ -7,7 +7,7 @@ use Rattle.wc_binary.specs.declared.fault.BinWhy.TheVariants.{End}
 use Rattle.wc_binary.specs.Standard.Phrase.{Halt, halt, Phrase, ◌>>=◌}
 use Rattle.wc_binary.specs.Reading.Reading.{Got, got, ◌and_then◌, read}
 use Rattle.wc_binary.specs.Reading.Source.{Input, up_to, GoesOn, NextGives, Fails, Gave}
-use Rattle.wc_binary.proofs.reading.Fronts.{bytes_to, IsWithin, within-before, bytes-split, phrase-to}
+use Rattle.wc_binary.proofs.reading.ahead.Fronts.{bytes_to, IsWithin, within-before, bytes-split, phrase-to}
 use Rattle.wc_binary.proofs.reading.Going.{GoesOn-trans, Stopped-behind, ReadFailed-behind}
 
 -- what is still read from new on gives what is read from old on, of all bytes and of those up to any place

@@ -25,7 +25,7 @@ use Rattle.wc_binary.specs.Standard.Expression.{Begun, plain_op, region_op, if_o
 use Rattle.wc_binary.specs.declared.fault.BinWhy.{BinWhy}
 use Rattle.wc_ops.specs.declared.op.Op.{Op}
 use Rattle.wc_binary.specs.Reading.NextMark.{standing_behind, mark_behind, GaveEntry, GivesEntry, MayStand, AddsNext}
-use Rattle.wc_binary.proofs.reading.Fronts.{bytes_to, IsWithin, within-before, bytes-split, phrase-to}
+use Rattle.wc_binary.proofs.reading.ahead.Fronts.{bytes_to, IsWithin, within-before, bytes-split, phrase-to}
 use Rattle.wc_binary.proofs.reading.Going.{EndsAt, GoesOn-refl, GoesOn-stops, GoesOn-trans, Stopped-behind}
 use Rattle.wc_binary.proofs.reading.Going.{ReadFailed-behind}
 use Rattle.wc_binary.proofs.phrases.Laws.{read-told}

@@ -7,7 +7,7 @@ use Rattle.wc_binary.specs.declared.fault.BinWhy.TheVariants.{End}
 use Rattle.wc_binary.specs.Standard.Phrase.{Halt, halt}
 use Rattle.wc_binary.specs.Reading.Reading.{Got}
 use Rattle.wc_binary.specs.Reading.Source.{Input, GoesOn, Stopped, ReadFailed, ByteGives, Fails}
-use Rattle.wc_binary.proofs.reading.Fronts.{bytes_to, IsWithin}
+use Rattle.wc_binary.proofs.reading.ahead.Fronts.{bytes_to, IsWithin}
 
 pub GoesOn-refl : (i : Input) → GoesOn i i
 GoesOn-refl i = record { forward = omega arith; failed = refl; spent = refl; asked = λ e. refl; lender = refl }

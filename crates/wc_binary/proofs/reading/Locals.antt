@@ -13,7 +13,7 @@ use Rattle.wc_binary.specs.Reading.Source.{Input, Fails, Gave}
 use Rattle.wc_binary.specs.Standard.Values.{u32}
 use Rattle.wc_binary.specs.Standard.Locals.{group, groups, locals, locals_fault}
 use Rattle.wc_binary.specs.Standard.Types.{value_type}
-use Rattle.wc_binary.proofs.reading.Fronts.{bytes_to, within-before, phrase-to}
+use Rattle.wc_binary.proofs.reading.ahead.Fronts.{bytes_to, within-before, phrase-to}
 use Rattle.wc_binary.proofs.reading.Going.{GoesOn-trans}
 use Rattle.wc_binary.proofs.reading.Behind.{Leads, leads-fail, leads-done, first-fails, first-of, behind-fails}
 

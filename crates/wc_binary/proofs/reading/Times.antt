@@ -15,7 +15,7 @@ use Rattle.wc_binary.specs.Standard.Values.{times, any_byte, exactly, only, IsBy
 use Rattle.wc_binary.specs.declared.fault.BinWhy.{BinWhy}
 use Rattle.wc_binary.specs.Standard.Sections.{skip}
 use Rattle.wc_binary.proofs.phrases.AnyByte.{byte-stands}
-use Rattle.wc_binary.proofs.reading.Fronts.{bytes_to, within-before, bytes-split, phrase-to}
+use Rattle.wc_binary.proofs.reading.ahead.Fronts.{bytes_to, within-before, bytes-split, phrase-to}
 use Rattle.wc_binary.proofs.reading.Going.{EndsAt, GoesOn-trans}
 use Rattle.wc_binary.proofs.reading.Behind.{Leads, leads-trans, leads-fail, leads-done, first-fails, behind-leads}
 

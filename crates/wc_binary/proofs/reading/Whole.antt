@@ -19,7 +19,7 @@ use Rattle.wc_binary.specs.Standard.Sections.{id_of, content, after, put}
 use Rattle.wc_binary.specs.Standard.Module.{preamble, parts_of, FirstFault}
 use Rattle.wc_binary.specs.Standard.Decoding.{IsCutShort}
 use Rattle.wc_binary.specs.Reading.Modules.{CutsSections, SectionsGive, ModuleGives}
-use Rattle.wc_binary.proofs.reading.Fronts.{front, bytes-split}
+use Rattle.wc_binary.proofs.reading.ahead.Fronts.{front, bytes-split}
 use Rattle.wc_binary.proofs.reading.Going.{GoesOn-trans, GoesOn-stops, Stopped-behind, ReadFailed-behind}
 use Rattle.wc_binary.proofs.phrases.Laws.{read-told}
 use Rattle.wc_binary.proofs.sections.Order.{rises-bin}

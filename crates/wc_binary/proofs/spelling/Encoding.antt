@@ -9,15 +9,15 @@ use Rattle.wc_binary.specs.declared.fault.EncFault.TheVariants.{Oversize, Memory
 use Rattle.wc_binary.specs.Standard.Module.{parts_of, Canon, IsShortestOf}
 use Rattle.wc_body.specs.Standard.ValueBytes.{FitsVector}
 use Rattle.wc_binary.specs.Writing.Sections.{held_bytes, FitsHeld, bytes_from, FitsFrom, sections_bytes}
-use Rattle.wc_binary.proofs.spelling.ModuleBytes.{module_bytes}
+use Rattle.wc_binary.proofs.spelling.whole.ModuleBytes.{module_bytes}
 use Rattle.wc_binary.specs.Writing.Sections.{FitsSections}
-use Rattle.wc_binary.proofs.spelling.ModuleBytes.{FitsModule}
+use Rattle.wc_binary.proofs.spelling.whole.ModuleBytes.{FitsModule}
 use Rattle.wc_binary.specs.declared.parts.Parts.{Parts}
 use Rattle.wc_binary.specs.declared.section.SectionKind.{SectionKind}
 use Rattle.wc_binary.specs.Standard.Sections.{held_by}
 use Rattle.wc_binary.specs.Standard.Encoding.{EncodesModule}
 use Rattle.wc_binary.specs.Writing.Writes.{Writes}
-use Rattle.wc_binary.proofs.spelling.Modules.{canon-written, shortest-and-only, bin-longer}
+use Rattle.wc_binary.proofs.spelling.whole.Modules.{canon-written, shortest-and-only, bin-longer}
 
 -- where a part doesn't fit, nothing that has it does
 pub part-fails : (F G : Type 0) → (G → F) → (mid new bytes old last whole : List ℕ) (e : EncFault)

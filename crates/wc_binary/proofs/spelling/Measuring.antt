@@ -9,8 +9,8 @@ use Rattle.wc_binary.specs.Standard.Module.{parts_of}
 use Rattle.wc_binary.specs.Standard.Encoding.{HasLength}
 use Rattle.wc_binary.specs.Writing.Sections.{held_bytes, FitsHeld, bytes_from, FitsFrom, sections_bytes, FitsSections}
 use Rattle.wc_binary.specs.Writing.Writes.{MeasuresWithin, section_limit, sections_limit}
-use Rattle.wc_binary.proofs.spelling.ModuleBytes.{preamble_bytes, module_bytes}
-use Rattle.wc_binary.proofs.spelling.Modules.{canon-written, bin-longer}
+use Rattle.wc_binary.proofs.spelling.whole.ModuleBytes.{preamble_bytes, module_bytes}
+use Rattle.wc_binary.proofs.spelling.whole.Modules.{canon-written, bin-longer}
 
 -- ---- sections one after the other
 

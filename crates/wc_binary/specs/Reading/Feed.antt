@@ -1,7 +1,7 @@
 -- What a buffered reader is to contracts.
 use Rattle.std.specs.Prelude.{ℕ, ◌-◌, ◌||◌, ◌++◌, List, [], take, drop, Option}
 use Rattle.std.specs.Option.{is_some, unwrap_or}
-use Rattle.wc_device.specs.Device.{device_inner, failed_at, has_failed, has_ended, was_asked_again, read_count}
+use Rattle.wc_device.specs.Standard.Device.{device_inner, failed_at, has_failed, has_ended, was_asked_again, read_count}
 use Rattle.wc_binary.specs.declared.source.feed.Feed.{Feed}
 use Rattle.wc_binary.specs.Reading.Source.{Input}
 

@@ -1,7 +1,7 @@
 //! The bytes of a reader, by a buffer.
 
 ghost use Rattle.std.specs.Prelude.{◌≤◌, ◌-◌};
-ghost use Rattle.wc_device.specs.Device.{read_count};
+ghost use Rattle.wc_device.specs.Standard.Device.{read_count};
 ghost use Rattle.wc_binary.specs.Standard.Decoding.{buffer_size};
 
 use crate::byte_range::are_bytes;

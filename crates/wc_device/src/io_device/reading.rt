@@ -3,8 +3,9 @@ ghost use Rattle.std.specs.Prelude.{◌≡◌, ◌+◌, ◌<◌, ◌||◌, lengt
 ghost use Rattle.std.specs.Io.{ReadsAtMost};
 ghost use Rattle.std.specs.Io.KnownBytes.{ReadConsumes};
 ghost use Rattle.std.specs.IoError.{error_kind};
-ghost use Rattle.wc_device.specs.Device.{device_inner, failed_at, first_failure, has_failed, read_count, countable};
-ghost use Rattle.wc_device.specs.Device.{was_asked_again, has_ended, flush_count, is_unflushed, has_lost};
+ghost use Rattle.wc_device.specs.Standard.Device.{device_inner, failed_at, first_failure, has_failed, read_count};
+ghost use Rattle.wc_device.specs.Standard.Device.{countable, was_asked_again, has_ended, flush_count, is_unflushed};
+ghost use Rattle.wc_device.specs.Standard.Device.{has_lost};
 
 use super::Device;
 use crate::calls::Reader;

@@ -3,10 +3,10 @@ ghost use Rattle.std.specs.Prelude.{◌≡◌, ◌<◌, ◌≤◌, ◌+◌, ◌-
 ghost use Rattle.std.specs.Prelude.{IfOk, IfErr, OnOk, OnErr, true, false};
 ghost use Rattle.std.specs.Io.{WritesAtMost};
 ghost use Rattle.std.specs.Io.KnownBytes.{Appends, WriteAppends, Keeps};
-ghost use Rattle.wc_device.specs.Device.{device_inner, failed_at, first_failure, has_failed, read_count, countable};
-ghost use Rattle.wc_device.specs.Device.{was_asked_again, has_ended, flush_count, one_more, is_unflushed, has_lost};
-ghost use Rattle.wc_device.specs.Device.{FlushedOnce, FlushedBehindAll, LosesBehind};
-ghost use Rattle.wc_device.specs.WriteCalls.{WritesAll, WritesBehind, SendsAll};
+ghost use Rattle.wc_device.specs.Standard.Device.{device_inner, failed_at, first_failure, has_failed, read_count};
+ghost use Rattle.wc_device.specs.Standard.Device.{countable, was_asked_again, has_ended, flush_count, one_more};
+ghost use Rattle.wc_device.specs.Standard.Device.{is_unflushed, has_lost, FlushedOnce, FlushedBehindAll, LosesBehind};
+ghost use Rattle.wc_device.specs.Standard.WriteCalls.{WritesAll, WritesBehind, SendsAll};
 
 use super::Device;
 use crate::calls::Writer;

@@ -1,24 +1,4 @@
 -- Whole texts.
-mod Tokens
-mod Reading
-mod Words
-mod Strings
-mod Grammar
-mod Absent
-mod Layout
-mod Repeated
-mod Constants
-mod TypeUses
-mod Labels
-mod BlockTypes
-mod Calls
-mod Folded
-mod Imports
-mod Exports
-mod Limits
-mod Segments
-mod Comments
-mod Printed
-mod Deep
-mod DeepFolded
-mod Empty
+mod Code
+mod Parts
+mod Lexed

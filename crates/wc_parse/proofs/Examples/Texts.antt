@@ -9,14 +9,14 @@ use Rattle.wc_body.specs.Standard.Nested.{nesting_limit}
 use Rattle.wc_syntax.specs.declared.kind.Kind.{Kind}
 use Rattle.wc_syntax.specs.declared.kind.Kind.TheVariants as kind
 use Rattle.wc_syntax.specs.declared.role.Role.TheVariants as role
-use Rattle.wc_syntax.specs.Phrases.{word, The, modulefield}
-use Rattle.wc_syntax.specs.Deriving.{at, Event, kept, Derives}
-use Rattle.wc_syntax.specs.Parsing.{IsText}
+use Rattle.wc_syntax.specs.Standard.Phrases.{word, The, modulefield}
+use Rattle.wc_syntax.specs.Standard.Deriving.{at, Event, kept, Derives}
+use Rattle.wc_syntax.specs.Standard.Parsing.{IsText}
 use Rattle.wc_symbols.specs.declared.symbol.Value.TheVariants.{Number}
-use Rattle.wc_symbols.specs.Symbols.{valued, bare}
-use Rattle.wc_symbols.specs.Numbers.{NaturalIs}
-use Rattle.wc_symbols.specs.Names.{keyword, KeywordIs, NameIs}
-use Rattle.wc_symbols.specs.Words.{Says, WordIs}
+use Rattle.wc_symbols.specs.Standard.Symbols.{valued, bare}
+use Rattle.wc_symbols.specs.Standard.Numbers.{NaturalIs}
+use Rattle.wc_symbols.specs.Standard.Names.{keyword, KeywordIs, NameIs}
+use Rattle.wc_symbols.specs.Standard.Words.{Says, WordIs}
 use Rattle.wc_surface.specs.declared.field.Field.TheVariants as stored
 use Rattle.wc_surface.specs.declared.field.MemoryDesc.TheVariants as memory
 use Rattle.wc_surface.specs.Standard.Written.Fields.{Memory, Field, memory_field}

@@ -6,10 +6,10 @@ use Rattle.wc_tokens.specs.Standard.Lexemes.{Lexeme}
 use Rattle.wc_tokens.specs.Standard.Strings.{IsString}
 use Rattle.wc_body.specs.Standard.Nested.{nesting_limit}
 use Rattle.wc_syntax.specs.declared.kind.Kind.{Kind}
-use Rattle.wc_syntax.specs.Phrases.{word}
-use Rattle.wc_syntax.specs.Deriving.{at, Event, kept}
-use Rattle.wc_syntax.specs.Parsing.{IsText}
-use Rattle.wc_symbols.specs.Tokens.{TokenIs}
+use Rattle.wc_syntax.specs.Standard.Phrases.{word}
+use Rattle.wc_syntax.specs.Standard.Deriving.{at, Event, kept}
+use Rattle.wc_syntax.specs.Standard.Parsing.{IsText}
+use Rattle.wc_symbols.specs.Standard.Tokens.{TokenIs}
 use Rattle.wc_surface.specs.declared.field.Field.{Field}
 use Rattle.wc_parse.specs.Standard.Kinds.{Each, HasKind}
 use Rattle.wc_parse.specs.Kept.Texts.{Item, said}

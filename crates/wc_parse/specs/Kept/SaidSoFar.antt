@@ -4,8 +4,8 @@ use Rattle.wc_tokens.specs.Standard.Lexemes.{Lexeme}
 use Rattle.wc_tokens.specs.Standard.Tokens.{InOrder}
 use Rattle.wc_body.specs.Standard.Nested.{nesting_limit}
 use Rattle.wc_syntax.specs.declared.kind.Kind.{Kind}
-use Rattle.wc_syntax.specs.Deriving.{Event}
-use Rattle.wc_syntax.specs.Reading.{Standing, IsRead}
+use Rattle.wc_syntax.specs.Standard.Deriving.{Event}
+use Rattle.wc_syntax.specs.Standard.Reading.{Standing, IsRead}
 use Rattle.wc_parse.specs.declared.text_draft.TextDraft.{TextDraft}
 use Rattle.wc_parse.specs.Kept.Texts.{Item, nothing, take_items}
 use Rattle.wc_parse.specs.Standard.Kinds.{Each, HasKind}

@@ -4,7 +4,7 @@ use Rattle.wc_tokens.specs.Standard.Lexemes.{Lexeme}
 use Rattle.wc_body.specs.Standard.Nested.{nesting_limit}
 use Rattle.wc_syntax.specs.declared.kind.Kind.{Kind}
 use Rattle.wc_syntax.specs.declared.why.SynWhy.{SynWhy}
-use Rattle.wc_syntax.specs.Reasons.{FirstFault as FirstKindFault}
+use Rattle.wc_syntax.specs.Standard.Reasons.{FirstFault as FirstKindFault}
 use Rattle.wc_parse.specs.declared.fault.SynFault.{SynFault}
 use Rattle.wc_parse.specs.declared.fault.SynFault.TheVariants.{Bad, Memory}
 use Rattle.wc_parse.specs.Standard.Kinds.{Each, HasKind}

@@ -3,7 +3,7 @@ use Rattle.std.specs.Prelude.{◌≡◌, List, [], ◌∷◌}
 use Rattle.wc_tokens.specs.Standard.Lexemes.{Lexeme}
 use Rattle.wc_syntax.specs.declared.kind.Kind.{Kind}
 use Rattle.wc_symbols.specs.declared.symbol.Symbol.{Symbol}
-use Rattle.wc_symbols.specs.Tokens.{TokenIs}
+use Rattle.wc_symbols.specs.Standard.Tokens.{TokenIs}
 
 -- one stands for the other, pair by pair
 pub data Each {A B : Type 0} (R : A → B → Type 0) : List A → List B → Type 0 where

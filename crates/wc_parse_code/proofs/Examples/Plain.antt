@@ -10,7 +10,7 @@ use Rattle.wc_ops.specs.declared.val_type.ValType.TheVariants.{I32}
 use Rattle.wc_syntax.specs.declared.kind.Kind.TheVariants as kind
 use Rattle.wc_syntax.specs.declared.role.Role.TheVariants as role
 use Rattle.wc_symbols.specs.declared.symbol.Value.TheVariants.{Number, Offset, Exponent}
-use Rattle.wc_symbols.specs.Symbols.{valued}
+use Rattle.wc_symbols.specs.Standard.Symbols.{valued}
 use Rattle.wc_surface.specs.Standard.Identifiers.{identifier}
 use Rattle.wc_surface.specs.Standard.Written.Indices.{number, named}
 use Rattle.wc_surface.specs.Standard.Written.Instructions.{simple, indexed, br_table, call_indirect, access, i32_const}

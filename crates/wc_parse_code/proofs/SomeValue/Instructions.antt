@@ -5,12 +5,12 @@ use Rattle.wc_body.specs.Standard.Nested.{nesting, Code, ◌⧺◌}
 use Rattle.wc_syntax.specs.declared.kind.Kind.{Kind}
 use Rattle.wc_syntax.specs.declared.kind.Kind.TheVariants as kind
 use Rattle.wc_syntax.specs.declared.role.Role.TheVariants as role
-use Rattle.wc_syntax.specs.Phrases.{Nonterminal, instr, foldedinstr, typeuse, param, result, Phrase, Keep, ◌·◌}
-use Rattle.wc_syntax.specs.Phrases.{Many, The, Maybe}
-use Rattle.wc_syntax.specs.Types.{lp, rp}
-use Rattle.wc_syntax.specs.Instructions.{end_id, instrs, instr_body, foldedinstr_body}
-use Rattle.wc_syntax.specs.Grammar.{body}
-use Rattle.wc_syntax.specs.Deriving.{Event, numbered, Derives}
+use Rattle.wc_syntax.specs.Standard.Phrases.{Nonterminal, instr, foldedinstr, typeuse, param, result, Phrase, Keep, ◌·◌}
+use Rattle.wc_syntax.specs.Standard.Phrases.{Many, The, Maybe}
+use Rattle.wc_syntax.specs.Standard.Types.{lp, rp}
+use Rattle.wc_syntax.specs.Standard.Instructions.{end_id, instrs, instr_body, foldedinstr_body}
+use Rattle.wc_syntax.specs.Standard.Grammar.{body}
+use Rattle.wc_syntax.specs.Standard.Deriving.{Event, numbered, Derives}
 use Rattle.wc_surface.specs.Standard.Identifiers.{Identifier}
 use Rattle.wc_surface.specs.Standard.Written.Instructions.{Instrs}
 use Rattle.wc_parse_code.specs.Standard.Tokens.{KeptToken}

@@ -5,11 +5,10 @@ use Rattle.wc_body.specs.Standard.Nested.{nesting}
 use Rattle.wc_syntax.specs.declared.kind.Kind.{Kind}
 use Rattle.wc_syntax.specs.declared.role.Role.{Role}
 use Rattle.wc_syntax.specs.declared.role.Role.TheVariants as role
-use Rattle.wc_syntax.specs.Phrases.{Terminal, word, mark, Nonterminal, instr, foldedinstr, typeuse, param, result}
-use Rattle.wc_syntax.specs.Phrases.{Phrase}
-use Rattle.wc_syntax.specs.Phrases.{Empty, Token, Keep, ◌·◌, ◌∣◌, Many, The}
-use Rattle.wc_syntax.specs.Grammar.{body}
-use Rattle.wc_syntax.specs.Deriving.{Item, terminal_of, Event, Derives}
+use Rattle.wc_syntax.specs.Standard.Phrases.{Terminal, word, mark, Nonterminal, instr, foldedinstr, typeuse, param}
+use Rattle.wc_syntax.specs.Standard.Phrases.{result, Phrase, Empty, Token, Keep, ◌·◌, ◌∣◌, Many, The}
+use Rattle.wc_syntax.specs.Standard.Grammar.{body}
+use Rattle.wc_syntax.specs.Standard.Deriving.{Item, terminal_of, Event, Derives}
 use Rattle.wc_surface.specs.Standard.Written.TypeUses.{Param, TypeUse}
 use Rattle.wc_surface.specs.Standard.Written.Instructions.{Instrs}
 use Rattle.wc_parse_code.specs.Standard.Tokens.{KeptToken}

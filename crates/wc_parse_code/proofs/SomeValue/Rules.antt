@@ -7,11 +7,11 @@ use Rattle.wc_syntax.specs.declared.kind.Kind.{Kind}
 use Rattle.wc_syntax.specs.declared.kind.Kind.TheVariants as kind
 use Rattle.wc_syntax.specs.declared.role.Role.{Role}
 use Rattle.wc_syntax.specs.declared.role.Role.TheVariants as role
-use Rattle.wc_syntax.specs.Phrases.{param, result, Phrase, Keep, ◌·◌}
-use Rattle.wc_syntax.specs.Phrases.{Many, The, Maybe, token}
-use Rattle.wc_syntax.specs.Types.{lp, rp, index, param_body, result_body, typeuse_body}
-use Rattle.wc_syntax.specs.Instructions.{literal32, literal64, memarg, plaininstr, head as head_phrase}
-use Rattle.wc_symbols.specs.Ranges.{FitsKind}
+use Rattle.wc_syntax.specs.Standard.Phrases.{param, result, Phrase, Keep, ◌·◌}
+use Rattle.wc_syntax.specs.Standard.Phrases.{Many, The, Maybe, token}
+use Rattle.wc_syntax.specs.Standard.Types.{lp, rp, index, param_body, result_body, typeuse_body}
+use Rattle.wc_syntax.specs.Standard.Instructions.{literal32, literal64, memarg, plaininstr, head as head_phrase}
+use Rattle.wc_symbols.specs.Standard.Ranges.{FitsKind}
 use Rattle.wc_surface.specs.Standard.Identifiers.{Identifier}
 use Rattle.wc_surface.specs.Standard.Written.Indices.{Index}
 use Rattle.wc_surface.specs.Standard.Written.TypeUses.{Param, Signature, TypeUse}

@@ -8,13 +8,13 @@ use Rattle.wc_ops.specs.declared.op.Op.TheVariants as op
 use Rattle.wc_syntax.specs.declared.kind.Kind.{Kind}
 use Rattle.wc_syntax.specs.declared.kind.Kind.TheVariants as kind
 use Rattle.wc_symbols.specs.declared.symbol.Symbol.{Symbol}
-use Rattle.wc_symbols.specs.Numbers.{below_32, below_64, above, of_32, of_64, beyond}
-use Rattle.wc_symbols.specs.Numbers.{OffsetIs, offset_number, offset_range, offset_form}
-use Rattle.wc_symbols.specs.Numbers.{AlignIs, align_power, align_no_power, align_range, align_form}
-use Rattle.wc_symbols.specs.Names.{op_kind, keyword, KeywordIs, NameIs}
-use Rattle.wc_symbols.specs.Words.{Says, WordIs}
-use Rattle.wc_symbols.specs.Tokens.{TokenIs, StringIs}
-use Rattle.wc_symbols.specs.Ranges.{FitsKind}
+use Rattle.wc_symbols.specs.Standard.Numbers.{below_32, below_64, above, of_32, of_64, beyond}
+use Rattle.wc_symbols.specs.Standard.Numbers.{OffsetIs, offset_number, offset_range, offset_form}
+use Rattle.wc_symbols.specs.Standard.Numbers.{AlignIs, align_power, align_no_power, align_range, align_form}
+use Rattle.wc_symbols.specs.Standard.Names.{op_kind, keyword, KeywordIs, NameIs}
+use Rattle.wc_symbols.specs.Standard.Words.{Says, WordIs}
+use Rattle.wc_symbols.specs.Standard.Tokens.{TokenIs, StringIs}
+use Rattle.wc_symbols.specs.Standard.Ranges.{FitsKind}
 use Rattle.wc_symbols.proofs.RangeLemmas.{fits-WordIs, fits-StringIs}
 use Rattle.wc_parse_code.specs.Standard.Tokens.{KeptToken}
 use Rattle.wc_parse_code.specs.Standard.Productions.Kept.{IsSpoken}

@@ -31,9 +31,9 @@ use Rattle.wc_parse_code.specs.Standard.Productions.Instructions.{IsRegion, bloc
 use Rattle.wc_parse_code.specs.Drafting.Following.{take_said}
 use Rattle.wc_parse_code.specs.Stored.Rows.{Rows}
 use Rattle.wc_parse_code.specs.Stored.Bodies.{Places, head_as}
-use Rattle.wc_parse_code.proofs.Storing.Following.{Follow}
+use Rattle.wc_parse_code.proofs.Storing.Ordered.Following.{Follow}
 use Rattle.wc_parse_code.proofs.Storing.Words.{behind}
-use Rattle.wc_parse_code.proofs.Storing.Rows.{rows, ◌⊕◌, head_rows}
+use Rattle.wc_parse_code.proofs.Storing.Ordered.Rows.{rows, ◌⊕◌, head_rows}
 use Rattle.wc_parse_code.proofs.Storing.States.{Stored, State, state_of, standing, rows_added, added, within}
 use Rattle.wc_parse_code.proofs.Storing.States.{rows-twice, Fits}
 use Rattle.wc_parse_code.proofs.Storing.Heads.{head-said}

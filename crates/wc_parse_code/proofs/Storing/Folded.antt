@@ -16,9 +16,9 @@ use Rattle.wc_parse_code.specs.Standard.Productions.Instructions.{IsHead, head}
 use Rattle.wc_parse_code.specs.Drafting.Following.{take_said}
 use Rattle.wc_parse_code.specs.Stored.Rows.{Rows, type_uses_in}
 use Rattle.wc_parse_code.specs.Stored.Bodies.{Places, code_as}
-use Rattle.wc_parse_code.proofs.Storing.Following.{Follow, follow-range, Parted, said-append}
-use Rattle.wc_parse_code.proofs.Storing.Rows.{◌⊕◌, head_rows, Rowed, rowed-none, rowed-widen}
-use Rattle.wc_parse_code.proofs.Storing.Rows.{rowed-folded}
+use Rattle.wc_parse_code.proofs.Storing.Ordered.Following.{Follow, follow-range, Parted, said-append}
+use Rattle.wc_parse_code.proofs.Storing.Ordered.Rows.{◌⊕◌, head_rows, Rowed, rowed-none, rowed-widen}
+use Rattle.wc_parse_code.proofs.Storing.Ordered.Rows.{rowed-folded}
 use Rattle.wc_parse_code.proofs.Storing.States.{Stored, State, standing, rows_added, code_added, within, Fits}
 use Rattle.wc_parse_code.proofs.Storing.States.{fits-first, fits-last, rows-twice}
 use Rattle.wc_parse_code.proofs.Storing.Blocks.{if-held, if-released}

@@ -23,9 +23,9 @@ use Rattle.wc_parse_code.specs.Standard.Productions.Instructions.{IsHead, head}
 use Rattle.wc_parse_code.specs.Drafting.Following.{take_said}
 use Rattle.wc_parse_code.specs.Stored.TypeUses.{index_as}
 use Rattle.wc_parse_code.specs.Stored.Bodies.{Places}
-use Rattle.wc_parse_code.proofs.Storing.Following.{Follow, said-append, part}
+use Rattle.wc_parse_code.proofs.Storing.Ordered.Following.{Follow, said-append, part}
 use Rattle.wc_parse_code.proofs.Storing.Words.{behind}
-use Rattle.wc_parse_code.proofs.Storing.Rows.{head_rows}
+use Rattle.wc_parse_code.proofs.Storing.Ordered.Rows.{head_rows}
 use Rattle.wc_parse_code.proofs.Storing.States.{state_of, standing, rows_added, same-rows, Fits}
 use Rattle.wc_parse_code.proofs.Storing.TypeUses.{writes, written_as, types_of, use-said}
 

@@ -14,13 +14,13 @@ use Rattle.wc_parse_code.specs.Standard.Productions.Plain.{IsPlain}
 use Rattle.wc_parse_code.specs.Drafting.Following.{take_said}
 use Rattle.wc_parse_code.specs.Stored.Rows.{Rows}
 use Rattle.wc_parse_code.specs.Stored.Bodies.{Places, plain_as, code_as}
-use Rattle.wc_parse_code.proofs.Storing.Following.{Follow, follow-range, Parted, said-append}
-use Rattle.wc_parse_code.proofs.Storing.Rows.{◌⊕◌, no_rows, plain_rows, Rowed, rowed-none, rowed-widen}
-use Rattle.wc_parse_code.proofs.Storing.Rows.{rowed-append, rowed-swap, rowed-plain}
+use Rattle.wc_parse_code.proofs.Storing.Ordered.Following.{Follow, follow-range, Parted, said-append}
+use Rattle.wc_parse_code.proofs.Storing.Ordered.Rows.{◌⊕◌, no_rows, plain_rows, Rowed, rowed-none, rowed-widen}
+use Rattle.wc_parse_code.proofs.Storing.Ordered.Rows.{rowed-append, rowed-swap, rowed-plain}
 use Rattle.wc_parse_code.proofs.Storing.States.{State, standing, rows_added, added, added-twice, Fits}
 use Rattle.wc_parse_code.proofs.Storing.States.{fits-first, fits-last, rows-twice}
 use Rattle.wc_parse_code.proofs.Storing.Plain.{rows-none, said_as, plain-begun, held-begun, plain-said}
-use Rattle.wc_parse_code.proofs.Storing.Rising.{plain-rises}
+use Rattle.wc_parse_code.proofs.Storing.Ordered.Rising.{plain-rises}
 use Rattle.wc_parse_code.proofs.Storing.Blocks.{plain-released}
 
 -- the tokens add these instructions with these rows, wherever the rows are placed, and where so many may be open

@@ -18,9 +18,9 @@ use Rattle.wc_parse_code.specs.Standard.Productions.Instructions.{IsRegion, IsHe
 use Rattle.wc_parse_code.specs.Drafting.Following.{take_said}
 use Rattle.wc_parse_code.specs.Stored.Rows.{Rows, type_uses_in}
 use Rattle.wc_parse_code.specs.Stored.Bodies.{Places, code_as}
-use Rattle.wc_parse_code.proofs.Storing.Following.{follow-range, Parted, said-append}
-use Rattle.wc_parse_code.proofs.Storing.Rows.{rows, ◌⊕◌, no_rows, head_rows, Rowed, rowed-none, rowed-widen}
-use Rattle.wc_parse_code.proofs.Storing.Rows.{rowed-region, rowed-choice}
+use Rattle.wc_parse_code.proofs.Storing.Ordered.Following.{follow-range, Parted, said-append}
+use Rattle.wc_parse_code.proofs.Storing.Ordered.Rows.{rows, ◌⊕◌, no_rows, head_rows, Rowed, rowed-none, rowed-widen}
+use Rattle.wc_parse_code.proofs.Storing.Ordered.Rows.{rowed-region, rowed-choice}
 use Rattle.wc_parse_code.proofs.Storing.States.{Stored, State, standing, rows_added, added, within, Fits}
 use Rattle.wc_parse_code.proofs.Storing.States.{fits-first, fits-last}
 use Rattle.wc_parse_code.proofs.Storing.Plain.{begun}

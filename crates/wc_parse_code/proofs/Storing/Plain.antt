@@ -40,10 +40,10 @@ use Rattle.wc_parse_code.specs.Standard.Productions.Plain.{AreLabels, IsMemOffse
 use Rattle.wc_parse_code.specs.Drafting.Following.{take_said}
 use Rattle.wc_parse_code.specs.Stored.Rows.{id_in, index_token}
 use Rattle.wc_parse_code.specs.Stored.Bodies.{Places, operand_as, plain_as, first_label}
-use Rattle.wc_parse_code.proofs.Storing.Placing.{Placed, placed-first, placed-last}
-use Rattle.wc_parse_code.proofs.Storing.Following.{Follow, said-append, follow-length, part}
+use Rattle.wc_parse_code.proofs.Storing.Ordered.Placing.{Placed, placed-first, placed-last}
+use Rattle.wc_parse_code.proofs.Storing.Ordered.Following.{Follow, said-append, follow-length, part}
 use Rattle.wc_parse_code.proofs.Storing.Words.{behind, stored-id, stored-operand, exponent-fits, bits-32, bits-64}
-use Rattle.wc_parse_code.proofs.Storing.Rows.{no_rows, plain_rows}
+use Rattle.wc_parse_code.proofs.Storing.Ordered.Rows.{no_rows, plain_rows}
 use Rattle.wc_parse_code.proofs.Storing.States.{State, state_of, standing, rows_added, same-rows, Fits}
 use Rattle.wc_parse_code.proofs.Storing.TypeUses.{writes, written_as, use-said}
 

@@ -15,8 +15,8 @@ use Rattle.wc_parse_code.specs.declared.body_draft.BodyDraft.{BodyDraft}
 use Rattle.wc_parse_code.specs.Drafting.Saying.{settled}
 use Rattle.wc_parse_code.specs.Stored.Rows.{Rows, index_token}
 use Rattle.wc_parse_code.specs.Stored.Bodies.{Places, operand_as, head_as}
-use Rattle.wc_parse_code.proofs.Storing.Placing.{Placed, placed-first, placed-last}
-use Rattle.wc_parse_code.proofs.Storing.Rows.{◌⊕◌}
+use Rattle.wc_parse_code.proofs.Storing.Ordered.Placing.{Placed, placed-first, placed-last}
+use Rattle.wc_parse_code.proofs.Storing.Ordered.Rows.{◌⊕◌}
 
 -- instructions as they are stored
 abbrev pub Stored : Type 0

@@ -20,7 +20,7 @@ use Rattle.wc_parse_code.specs.Standard.Productions.TypeUses.{AreResults, IsSign
 use Rattle.wc_parse_code.specs.Standard.Productions.TypeUses.{inline, indexed}
 use Rattle.wc_parse_code.specs.Drafting.Following.{take_said}
 use Rattle.wc_parse_code.specs.Stored.TypeUses.{index_as, names_from, name_at}
-use Rattle.wc_parse_code.proofs.Storing.Following.{Follow, said-append, follow-length}
+use Rattle.wc_parse_code.proofs.Storing.Ordered.Following.{Follow, said-append, follow-length}
 use Rattle.wc_parse_code.proofs.Storing.Words.{behind, stored-index}
 
 -- a type use with these, which awaits no parameter

@@ -16,7 +16,7 @@ use Rattle.wc_parse_code.specs.Drafting.Following.{take_said, take_uses}
 use Rattle.wc_parse_code.specs.Stored.TypeUses.{use_as}
 use Rattle.wc_parse_code.proofs.OneValue.Reading.{is_use, AllRoles}
 use Rattle.wc_parse_code.proofs.OneValue.Structure.{type_use-roles}
-use Rattle.wc_parse_code.proofs.Storing.Following.{Follow}
+use Rattle.wc_parse_code.proofs.Storing.Ordered.Following.{Follow}
 use Rattle.wc_parse_code.proofs.Storing.TypeUses.{writes, use-said}
 
 one-part : (r : Role) (w : KeptToken) (d : BodyDraft) (u : UseDraft) → is_use r ≡ true

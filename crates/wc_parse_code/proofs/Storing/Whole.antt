@@ -10,9 +10,9 @@ use Rattle.wc_parse_code.specs.Standard.Productions.Instructions.{Part, Says}
 use Rattle.wc_parse_code.specs.Drafting.Following.{take_said}
 use Rattle.wc_parse_code.specs.Stored.Rows.{Rows, index_token}
 use Rattle.wc_parse_code.specs.Stored.Bodies.{Places, places_in, body_with, body_as}
-use Rattle.wc_parse_code.proofs.Storing.Placing.{placed-all}
-use Rattle.wc_parse_code.proofs.Storing.Following.{Follow, follow-range, Parted, part}
-use Rattle.wc_parse_code.proofs.Storing.Rows.{rows-are}
+use Rattle.wc_parse_code.proofs.Storing.Ordered.Placing.{placed-all}
+use Rattle.wc_parse_code.proofs.Storing.Ordered.Following.{Follow, follow-range, Parted, part}
+use Rattle.wc_parse_code.proofs.Storing.Ordered.Rows.{rows-are}
 use Rattle.wc_parse_code.proofs.Storing.States.{State, standing, Fits}
 use Rattle.wc_parse_code.proofs.Storing.Instructions.{Stores, nothing-stored, both-stored, plain-stored}
 use Rattle.wc_parse_code.proofs.Storing.Instructions.{folded-plain-stored}

@@ -12,8 +12,8 @@ use Rattle.wc_syntax.specs.declared.kind.Kind.TheVariants as kind
 use Rattle.wc_symbols.specs.declared.symbol.Symbol.{Symbol}
 use Rattle.wc_symbols.specs.declared.symbol.Value.{Value}
 use Rattle.wc_symbols.specs.declared.symbol.Value.TheVariants.{Number, Exponent}
-use Rattle.wc_symbols.specs.Tokens.{TokenIs, StringIs}
-use Rattle.wc_symbols.specs.Ranges.{FitsKind}
+use Rattle.wc_symbols.specs.Standard.Tokens.{TokenIs, StringIs}
+use Rattle.wc_symbols.specs.Standard.Ranges.{FitsKind}
 use Rattle.wc_symbols.proofs.RangeLemmas.{has-32, has-64}
 use Rattle.wc_surface.specs.declared.instr.Operand.TheVariants as operand
 use Rattle.wc_surface.specs.Standard.Identifiers.{Identifier}
@@ -27,7 +27,7 @@ use Rattle.wc_parse_code.specs.Stored.TypeUses.{index_as}
 use Rattle.wc_parse_code.specs.Stored.Rows.{id_in}
 use Rattle.wc_parse_code.specs.Stored.Bodies.{Places, operand_as}
 use Rattle.wc_parse_code.proofs.SomeValue.Spoken.{is_wide, spoken-fits}
-use Rattle.wc_parse_code.proofs.Storing.Placing.{Placed}
+use Rattle.wc_parse_code.proofs.Storing.Ordered.Placing.{Placed}
 
 -- the number that an index is
 abbrev pub number_of : Index → Option ℕ

@@ -1,6 +1,6 @@
 -- What kept tokens add, one after the other.
 use Rattle.std.specs.Prelude.{ℕ, List, [], ◌∷◌}
-use Rattle.wc_syntax.specs.Deriving.{at, Event, kept}
+use Rattle.wc_syntax.specs.Standard.Deriving.{at, Event, kept}
 use Rattle.wc_parse_code.specs.declared.body_draft.BodyDraft.{BodyDraft}
 use Rattle.wc_parse_code.specs.declared.use_draft.UseDraft.{UseDraft}
 use Rattle.wc_parse_code.specs.declared.word.Word.{Word}

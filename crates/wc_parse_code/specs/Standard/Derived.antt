@@ -1,9 +1,9 @@
 -- The kept tokens of a derivation, by their numbers, as the words that a draft takes. A law on drafts speaks of them,
 -- and no production does.
 use Rattle.std.specs.Prelude.{◌≡◌, ℕ, List, [], ◌∷◌}
-use Rattle.wc_syntax.specs.Phrases.{Terminal, word}
-use Rattle.wc_syntax.specs.Deriving.{at, Event, kept}
-use Rattle.wc_symbols.specs.Ranges.{FitsKind}
+use Rattle.wc_syntax.specs.Standard.Phrases.{Terminal, word}
+use Rattle.wc_syntax.specs.Standard.Deriving.{at, Event, kept}
+use Rattle.wc_symbols.specs.Standard.Ranges.{FitsKind}
 use Rattle.wc_parse_code.specs.declared.word.Word.{Word}
 
 -- the word is of this kind, with a value of the kind

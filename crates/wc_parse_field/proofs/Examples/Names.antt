@@ -8,7 +8,7 @@ use Rattle.wc_syntax.specs.declared.kind.Kind.{Kind}
 use Rattle.wc_syntax.specs.declared.kind.Kind.TheVariants as kind
 use Rattle.wc_ops.specs.declared.val_type.ValType.TheVariants.{I32, I64}
 use Rattle.wc_symbols.specs.declared.symbol.Value.TheVariants.{Number, ValType}
-use Rattle.wc_symbols.specs.Symbols.{valued, bare}
+use Rattle.wc_symbols.specs.Standard.Symbols.{valued, bare}
 use Rattle.wc_parse_code.specs.Standard.Tokens.{KeptToken, kept_token}
 use Rattle.wc_parse_field.specs.Standard.Productions.Parts.{IsName}
 

@@ -10,7 +10,7 @@ use Rattle.wc_body.specs.Standard.Nested.{Code}
 use Rattle.wc_syntax.specs.declared.kind.Kind.TheVariants as kind
 use Rattle.wc_syntax.specs.declared.role.Role.TheVariants as role
 use Rattle.wc_symbols.specs.declared.symbol.Value.TheVariants.{Instruction}
-use Rattle.wc_symbols.specs.Symbols.{valued}
+use Rattle.wc_symbols.specs.Standard.Symbols.{valued}
 use Rattle.wc_surface.specs.Standard.Identifiers.{identifier}
 use Rattle.wc_surface.specs.Standard.Written.Indices.{number, named}
 use Rattle.wc_surface.specs.Standard.Written.Instructions.{i32_const}

@@ -10,7 +10,7 @@ use Rattle.wc_syntax.specs.declared.kind.Kind.TheVariants as kind
 use Rattle.wc_syntax.specs.declared.role.Role.{Role}
 use Rattle.wc_syntax.specs.declared.role.Role.TheVariants as role
 use Rattle.wc_symbols.specs.declared.symbol.Value.TheVariants.{Number}
-use Rattle.wc_symbols.proofs.StringLemmas.{IsString-same}
+use Rattle.wc_symbols.proofs.Spelling.StringLemmas.{IsString-same}
 use Rattle.wc_surface.specs.Standard.Identifiers.{Identifier, identifier}
 use Rattle.wc_surface.specs.Standard.Written.Indices.{Index}
 use Rattle.wc_surface.specs.Standard.Written.TypeUses.{Signature, TypeUse}

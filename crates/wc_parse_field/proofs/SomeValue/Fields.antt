@@ -5,13 +5,13 @@ use Rattle.wc_ast.specs.declared.export.ExportKind.{ExportKind}
 use Rattle.wc_syntax.specs.declared.kind.Kind.{Kind}
 use Rattle.wc_syntax.specs.declared.kind.Kind.TheVariants as kind
 use Rattle.wc_syntax.specs.declared.role.Role.TheVariants as role
-use Rattle.wc_syntax.specs.Phrases.{Nonterminal, instr, foldedinstr, typeuse, param, result, export, local, offset}
-use Rattle.wc_syntax.specs.Phrases.{modulefield, text, The}
-use Rattle.wc_syntax.specs.Types.{functype}
-use Rattle.wc_syntax.specs.Fields.{importdesc, exportkind, function, table, memory}
-use Rattle.wc_syntax.specs.Fields.{global, modulefield_body, text_body}
-use Rattle.wc_syntax.specs.Grammar.{body}
-use Rattle.wc_syntax.specs.Deriving.{Event, numbered, Derives}
+use Rattle.wc_syntax.specs.Standard.Phrases.{Nonterminal, instr, foldedinstr, typeuse, param, result, export, local}
+use Rattle.wc_syntax.specs.Standard.Phrases.{offset, modulefield, text, The}
+use Rattle.wc_syntax.specs.Standard.Types.{functype}
+use Rattle.wc_syntax.specs.Standard.Fields.{importdesc, exportkind, function, table, memory}
+use Rattle.wc_syntax.specs.Standard.Fields.{global, modulefield_body, text_body}
+use Rattle.wc_syntax.specs.Standard.Grammar.{body}
+use Rattle.wc_syntax.specs.Standard.Deriving.{Event, numbered, Derives}
 use Rattle.wc_surface.specs.Standard.Identifiers.{Identifier}
 use Rattle.wc_surface.specs.Standard.Written.TypeUses.{Signature}
 use Rattle.wc_surface.specs.Standard.Written.Fields.{Desc, Function, Table, Memory, Global, Field}

@@ -5,10 +5,10 @@ use Rattle.wc_ast.specs.declared.limits.Limits.{Limits}
 use Rattle.wc_ast.specs.declared.limits.GlobalType.{GlobalType}
 use Rattle.wc_syntax.specs.declared.kind.Kind.TheVariants as kind
 use Rattle.wc_syntax.specs.declared.role.Role.TheVariants as role
-use Rattle.wc_syntax.specs.Phrases.{Nonterminal, instr, foldedinstr, typeuse, param, result, export, local, offset}
-use Rattle.wc_syntax.specs.Phrases.{modulefield, text, Phrase, Keep, Maybe}
-use Rattle.wc_syntax.specs.Types.{index, local_body, limits, globaltype}
-use Rattle.wc_syntax.specs.Fields.{export_body, exported, import_names, import, strings, elements, offset_body}
+use Rattle.wc_syntax.specs.Standard.Phrases.{Nonterminal, instr, foldedinstr, typeuse, param, result, export, local}
+use Rattle.wc_syntax.specs.Standard.Phrases.{offset, modulefield, text, Phrase, Keep, Maybe}
+use Rattle.wc_syntax.specs.Standard.Types.{index, local_body, limits, globaltype}
+use Rattle.wc_syntax.specs.Standard.Fields.{export_body, exported, import_names, import, strings, elements, offset_body}
 use Rattle.wc_surface.specs.Standard.Written.Indices.{Index}
 use Rattle.wc_surface.specs.Standard.Written.Fields.{Import, Local, Function, Global, Declared, Field}
 use Rattle.wc_surface.specs.Standard.Written.Fields.{func_field, global_field, elem_field, data_field}

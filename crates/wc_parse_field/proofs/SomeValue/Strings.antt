@@ -8,15 +8,15 @@ use Rattle.wc_ops.specs.declared.op.Op.TheVariants as op
 use Rattle.wc_syntax.specs.declared.kind.Kind.{Kind}
 use Rattle.wc_syntax.specs.declared.kind.Kind.TheVariants as kind
 use Rattle.wc_symbols.specs.declared.symbol.Symbol.{Symbol}
-use Rattle.wc_symbols.specs.Numbers.{below_32, below_64, above, of_32, of_64, beyond}
-use Rattle.wc_symbols.specs.Numbers.{offset_number, offset_range, offset_form}
-use Rattle.wc_symbols.specs.Numbers.{align_power, align_no_power, align_range, align_form}
-use Rattle.wc_symbols.specs.Names.{op_kind, keyword, KeywordIs, NameIs}
-use Rattle.wc_symbols.specs.Words.{Says, WordIs}
-use Rattle.wc_symbols.specs.Tokens.{TokenIs, StringIs}
+use Rattle.wc_symbols.specs.Standard.Numbers.{below_32, below_64, above, of_32, of_64, beyond}
+use Rattle.wc_symbols.specs.Standard.Numbers.{offset_number, offset_range, offset_form}
+use Rattle.wc_symbols.specs.Standard.Numbers.{align_power, align_no_power, align_range, align_form}
+use Rattle.wc_symbols.specs.Standard.Names.{op_kind, keyword, KeywordIs, NameIs}
+use Rattle.wc_symbols.specs.Standard.Words.{Says, WordIs}
+use Rattle.wc_symbols.specs.Standard.Tokens.{TokenIs, StringIs}
 use Rattle.wc_parse_code.specs.Standard.Tokens.{KeptToken}
 use Rattle.wc_parse_code.specs.Standard.Productions.Kept.{IsSpoken}
-use Rattle.wc_parse_code.proofs.Storing.Following.{is_string}
+use Rattle.wc_parse_code.proofs.Storing.Ordered.Following.{is_string}
 use Rattle.wc_parse_field.specs.Standard.Productions.Parts.{IsName}
 
 -- the kind is that of a name

@@ -3,16 +3,16 @@ use Rattle.std.proofs.Common.{◌≡◌, ℕ, ◌+◌, ◌≤◌, ◌^◌, List,
 use Rattle.wc_body.specs.Standard.Nested.{nesting_limit}
 use Rattle.wc_syntax.specs.declared.kind.Kind.{Kind}
 use Rattle.wc_syntax.specs.declared.role.Role.TheVariants as role
-use Rattle.wc_syntax.specs.Phrases.{The, modulefield}
-use Rattle.wc_syntax.specs.Deriving.{Event, numbered, Derives}
+use Rattle.wc_syntax.specs.Standard.Phrases.{The, modulefield}
+use Rattle.wc_syntax.specs.Standard.Deriving.{Event, numbered, Derives}
 use Rattle.wc_surface.specs.Standard.Written.Fields.{Field}
 use Rattle.wc_parse_code.specs.Standard.Tokens.{KeptToken}
 use Rattle.wc_parse_code.specs.Standard.Productions.Tokens.{Said, ◌⊳◌}
 use Rattle.wc_parse_code.specs.Standard.Productions.Kept.{AreKept}
 use Rattle.wc_parse_code.proofs.SomeValue.Phrases.{derived-are}
 use Rattle.wc_parse_code.proofs.SomeValue.Instructions.{numbered-tokens}
-use Rattle.wc_parse_code.proofs.Storing.Following.{part}
-use Rattle.wc_parse_code.proofs.Storing.Derived.{derived-follow}
+use Rattle.wc_parse_code.proofs.Storing.Ordered.Following.{part}
+use Rattle.wc_parse_code.proofs.Storing.Ordered.Derived.{derived-follow}
 use Rattle.wc_parse_field.specs.Standard.Productions.Fields.{IsField, AreFields}
 use Rattle.wc_parse_field.proofs.OneValue.Fields.{one_list}
 use Rattle.wc_parse_field.proofs.SomeValue.Parts.{IsWhole, FieldRule, field_nesting}

@@ -36,10 +36,10 @@ use Rattle.wc_parse_code.specs.Drafting.Ending.{nothing_said, ended}
 use Rattle.wc_parse_code.specs.Drafting.Following.{take_said, take_uses}
 use Rattle.wc_parse_code.specs.Stored.TypeUses.{index_as, use_as}
 use Rattle.wc_parse_code.specs.Stored.Bodies.{body_as}
-use Rattle.wc_parse_code.proofs.Storing.Following.{Follow, follow-range, Parted, part}
+use Rattle.wc_parse_code.proofs.Storing.Ordered.Following.{Follow, follow-range, Parted, part}
 use Rattle.wc_parse_code.proofs.Storing.Uses.{use-stored}
 use Rattle.wc_parse_code.proofs.Storing.Whole.{body-stored}
-use Rattle.wc_parse_code.proofs.Storing.Derived.{follow-from}
+use Rattle.wc_parse_code.proofs.Storing.Ordered.Derived.{follow-from}
 use Rattle.wc_parse_field.specs.declared.field_draft.FieldDraft.{FieldDraft}
 use Rattle.wc_parse_field.specs.Drafting.Fields.{started, begun}
 use Rattle.wc_parse_field.specs.Drafting.Finished.{finished}

@@ -20,7 +20,7 @@ use Rattle.wc_parse_code.specs.Drafting.Words.{number_in}
 use Rattle.wc_parse_code.specs.Standard.Productions.Tokens.{Said, ◌⊳◌, IsId, IsNatural, IsIndex, u32, bytes}
 use Rattle.wc_parse_code.specs.Standard.Productions.Kept.{IsSpoken}
 use Rattle.wc_parse_code.specs.Stored.TypeUses.{index_as}
-use Rattle.wc_parse_code.proofs.Storing.Following.{Follow}
+use Rattle.wc_parse_code.proofs.Storing.Ordered.Following.{Follow}
 use Rattle.wc_parse_code.proofs.Storing.Words.{number-is, stored-index}
 use Rattle.wc_parse_field.specs.declared.names.Names.{Names}
 use Rattle.wc_parse_field.specs.declared.locals_draft.LocalsDraft.{LocalsDraft}

@@ -8,7 +8,7 @@ use Rattle.wc_ast.specs.declared.export.ExportKind.{ExportKind}
 use Rattle.wc_syntax.specs.declared.kind.Kind.{Kind}
 use Rattle.wc_syntax.specs.declared.kind.Kind.TheVariants.{OtherWord}
 use Rattle.wc_syntax.specs.declared.role.Role.{Role}
-use Rattle.wc_symbols.proofs.StringLemmas.{IsString-same}
+use Rattle.wc_symbols.proofs.Spelling.StringLemmas.{IsString-same}
 use Rattle.wc_surface.specs.declared.id.Index.{Index as StoredIndex}
 use Rattle.wc_surface.specs.Standard.Identifiers.{Identifier}
 use Rattle.wc_parse_code.specs.declared.use_draft.UseDraft.{UseDraft}

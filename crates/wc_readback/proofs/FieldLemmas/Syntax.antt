@@ -7,13 +7,12 @@ use Rattle.wc_body.specs.Standard.Nested.{nesting_limit}
 use Rattle.wc_tokens.specs.Standard.Lexemes.{Lexeme, spanned, longest}
 use Rattle.wc_tokens.proofs.Lexing.SpanLaws.{InOrder-Lexed}
 use Rattle.wc_syntax.specs.declared.role.Role.{Role}
-use Rattle.wc_print.specs.Printed.{Printed, opening, closing, word, number, integer, part, quoted, kind_of, spelled}
-use Rattle.wc_print.specs.Printed.{text}
-use Rattle.wc_print.specs.Printed.{Item as Place, token_of, lexemes_in, lexemes}
-use Rattle.wc_print.specs.Printable.{IsSpelled, AreSpelled, IsPrintable}
-use Rattle.wc_print.specs.Layout.{layout}
-use Rattle.wc_print.proofs.Lexing.{Lexes-text}
-use Rattle.wc_print.proofs.ReadStrings.{IsString-escaped}
+use Rattle.wc_print.specs.Standard.Printed.{Printed, opening, closing, word, number, integer, part, quoted, kind_of}
+use Rattle.wc_print.specs.Standard.Printed.{spelled, text, Item as Place, token_of, lexemes_in, lexemes}
+use Rattle.wc_print.specs.Standard.Printable.{IsSpelled, AreSpelled, IsPrintable}
+use Rattle.wc_print.specs.Standard.Layout.{layout}
+use Rattle.wc_print.proofs.Reading.Lexing.{Lexes-text}
+use Rattle.wc_print.proofs.Reading.ReadStrings.{IsString-escaped}
 use Rattle.wc_readback.specs.Grammar.Signs.{Sign}
 use Rattle.wc_readback.specs.Grammar.FieldSigns.{signs}
 use Rattle.wc_readback.specs.Grammar.Fitting.{Fits}
@@ -28,8 +27,8 @@ use Rattle.wc_parse.specs.Kept.Texts.{Item}
 use Rattle.wc_parse.specs.Standard.Kinds.{Each, none, more, HasKind}
 use Rattle.wc_parse.specs.Standard.Meaning.{Syn}
 use Rattle.wc_parse.specs.Kept.Folds.{StandsFor, IsItem, Folds}
-use Rattle.wc_parse.proofs.Forms.{few-tokens}
-use Rattle.wc_parse.proofs.Joined.{folds-say}
+use Rattle.wc_parse.proofs.Tokens.Forms.{few-tokens}
+use Rattle.wc_parse.proofs.Saying.Joined.{folds-say}
 use Rattle.wc_readback.specs.Fields.Items.{bytes_in, item_as, item_before, items_from, items}
 use Rattle.wc_readback.specs.Fields.Surface.{text_fields}
 use Rattle.wc_readback.proofs.FieldLemmas.Whole.{whole}

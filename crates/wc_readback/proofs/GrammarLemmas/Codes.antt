@@ -15,9 +15,9 @@ use Rattle.wc_body.specs.Standard.ValueBytes.{Fits32}
 use Rattle.wc_body.specs.Standard.InstructionBytes.{FitsInstr, FitsBlockType}
 use Rattle.wc_syntax.specs.declared.kind.Kind.TheVariants as kind
 use Rattle.wc_syntax.specs.declared.role.Role.TheVariants as role
-use Rattle.wc_syntax.specs.Phrases.{Keep, ◌·◌, Many, Maybe, The, instr}
-use Rattle.wc_syntax.specs.Types.{index}
-use Rattle.wc_syntax.specs.Instructions.{memarg, plaininstr, end_id, instrs as instrs_phrase}
+use Rattle.wc_syntax.specs.Standard.Phrases.{Keep, ◌·◌, Many, Maybe, The, instr}
+use Rattle.wc_syntax.specs.Standard.Types.{index}
+use Rattle.wc_syntax.specs.Standard.Instructions.{memarg, plaininstr, end_id, instrs as instrs_phrase}
 use Rattle.wc_symbols.specs.declared.symbol.Value.TheVariants.{Offset}
 use Rattle.wc_readback.specs.Grammar.Signs.{Sign, kept_key, op_sign, natural}
 use Rattle.wc_readback.specs.Grammar.InstructionSigns.{naturals, offset_signs, align_signs, region_op, mark_signs}

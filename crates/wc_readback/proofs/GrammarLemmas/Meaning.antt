@@ -6,14 +6,14 @@ use Rattle.std.specs.List.{AllByRecursion, flat_map}
 use Rattle.std.proofs.lemmas.List.{append-nil, map-append}
 use Rattle.wc_syntax.specs.declared.kind.Kind.{Kind}
 use Rattle.wc_syntax.specs.declared.role.Role.{Role}
-use Rattle.wc_syntax.specs.Phrases.{Phrase, Nonterminal, Empty, Keep, ◌·◌, ◌∣◌, Many, The, Maybe, word}
-use Rattle.wc_syntax.specs.Phrases.{token as token_phrase}
-use Rattle.wc_syntax.specs.Grammar.{body}
-use Rattle.wc_syntax.specs.Deriving.{Item, at, numbered, Event, Derives, empty, token, keeps, left, right, none}
-use Rattle.wc_syntax.specs.Deriving.{more, rule, then as in_turn}
+use Rattle.wc_syntax.specs.Standard.Phrases.{Phrase, Nonterminal, Empty, Keep, ◌·◌, ◌∣◌, Many, The, Maybe, word}
+use Rattle.wc_syntax.specs.Standard.Phrases.{token as token_phrase}
+use Rattle.wc_syntax.specs.Standard.Grammar.{body}
+use Rattle.wc_syntax.specs.Standard.Deriving.{Item, at, numbered, Event, Derives, empty, token, keeps, left, right}
+use Rattle.wc_syntax.specs.Standard.Deriving.{none, more, rule, then as in_turn}
 use Rattle.wc_symbols.specs.declared.symbol.Value.{Value}
-use Rattle.wc_symbols.specs.Symbols.{valued}
-use Rattle.wc_print.specs.Printed.{Printed}
+use Rattle.wc_symbols.specs.Standard.Symbols.{valued}
+use Rattle.wc_print.specs.Standard.Printed.{Printed}
 use Rattle.wc_readback.specs.Grammar.Signs.{Sign, silent, spoken}
 use Rattle.wc_readback.specs.Grammar.Kept.{Said, said_as, said_before, said_from, event_of, kinds_of}
 use Rattle.wc_readback.proofs.GrammarLemmas.Symbols.{Says}

@@ -22,10 +22,10 @@ use Rattle.wc_ast.specs.declared.segment.Data.{Data}
 use Rattle.wc_ast.specs.declared.module.Module.{Module}
 use Rattle.wc_syntax.specs.declared.kind.Kind.TheVariants as kind
 use Rattle.wc_syntax.specs.declared.role.Role.TheVariants as role
-use Rattle.wc_syntax.specs.Phrases.{Keep, Many, The, Maybe, text, modulefield, offset}
-use Rattle.wc_syntax.specs.Types.{functype, limits, tabletype, globaltype}
-use Rattle.wc_syntax.specs.Instructions.{instrs}
-use Rattle.wc_syntax.specs.Fields.{import_names, importdesc, exportkind, function}
+use Rattle.wc_syntax.specs.Standard.Phrases.{Keep, Many, The, Maybe, text, modulefield, offset}
+use Rattle.wc_syntax.specs.Standard.Types.{functype, limits, tabletype, globaltype}
+use Rattle.wc_syntax.specs.Standard.Instructions.{instrs}
+use Rattle.wc_syntax.specs.Standard.Fields.{import_names, importdesc, exportkind, function}
 use Rattle.wc_readback.specs.Grammar.Signs.{Sign, name}
 use Rattle.wc_readback.specs.Grammar.InstructionSigns.{code_signs}
 use Rattle.wc_readback.specs.Grammar.FieldSigns.{described, functype_signs, type_signs, max_signs, limits_signs}

@@ -17,16 +17,16 @@ use Rattle.wc_syntax.specs.declared.kind.Kind.{Kind}
 use Rattle.wc_syntax.specs.declared.kind.Kind.TheVariants as kind
 use Rattle.wc_syntax.specs.declared.role.Role.{Role}
 use Rattle.wc_syntax.specs.declared.role.Role.TheVariants as role
-use Rattle.wc_syntax.specs.Phrases.{Keep, ◌·◌, ◌∣◌, Many, The, token, typeuse, param, result, local}
-use Rattle.wc_syntax.specs.Types.{lp, rp, index, valtype}
-use Rattle.wc_syntax.specs.Instructions.{literal32, literal64, head}
-use Rattle.wc_syntax.specs.Fields.{strings, field_end, exported}
+use Rattle.wc_syntax.specs.Standard.Phrases.{Keep, ◌·◌, ◌∣◌, Many, The, token, typeuse, param, result, local}
+use Rattle.wc_syntax.specs.Standard.Types.{lp, rp, index, valtype}
+use Rattle.wc_syntax.specs.Standard.Instructions.{literal32, literal64, head}
+use Rattle.wc_syntax.specs.Standard.Fields.{strings, field_end, exported}
 use Rattle.wc_symbols.specs.declared.symbol.Value.{Value}
 use Rattle.wc_symbols.specs.declared.symbol.Value.TheVariants.{Nothing, Number, Instruction, ValType}
-use Rattle.wc_symbols.specs.Symbols.{valued}
-use Rattle.wc_symbols.specs.Names.{keyword, op_kind}
-use Rattle.wc_print.specs.Printed.{opening, closing, word, number, integer, quoted}
-use Rattle.wc_print.specs.Printable.{IsByte}
+use Rattle.wc_symbols.specs.Standard.Symbols.{valued}
+use Rattle.wc_symbols.specs.Standard.Names.{keyword, op_kind}
+use Rattle.wc_print.specs.Standard.Printed.{opening, closing, word, number, integer, quoted}
+use Rattle.wc_print.specs.Standard.Printable.{IsByte}
 use Rattle.wc_readback.specs.Grammar.Signs.{Sign, spoken, opens, closes, ends, key_word, key, kept_key, op_sign}
 use Rattle.wc_readback.specs.Grammar.Signs.{type_word, type_sign, natural, literal, name, string}
 use Rattle.wc_readback.specs.Grammar.InstructionSigns.{values_signs, type_use_signs, block_signs, naturals}

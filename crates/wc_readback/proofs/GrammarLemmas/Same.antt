@@ -29,12 +29,13 @@ use Rattle.wc_syntax.specs.declared.kind.Kind.{Kind}
 use Rattle.wc_syntax.specs.declared.kind.Kind.TheVariants as kind
 use Rattle.wc_syntax.specs.declared.role.Role.{Role}
 use Rattle.wc_syntax.specs.declared.role.Role.TheVariants as role
-use Rattle.wc_print.specs.Printed.{Printed, word, Item, after, below, token_of}
-use Rattle.wc_print.specs.Lines.{type_item, type_use_items, block_items, number_items}
-use Rattle.wc_print.specs.Lines.{mark_items, body_items, expr_items}
-use Rattle.wc_print.specs.Layout.{values_items, type_items, max_items, limits_items, global_type_items, desc_items}
-use Rattle.wc_print.specs.Layout.{import_items, func_items, table_items, memory_items, global_items, kind_word}
-use Rattle.wc_print.specs.Layout.{export_items, start_items, place_items, elem_items, data_items, field_items, layout}
+use Rattle.wc_print.specs.Standard.Printed.{Printed, word, Item, after, below, token_of}
+use Rattle.wc_print.specs.Standard.Lines.{type_item, type_use_items, block_items, number_items}
+use Rattle.wc_print.specs.Standard.Lines.{mark_items, body_items, expr_items}
+use Rattle.wc_print.specs.Standard.Layout.{values_items, type_items, max_items, limits_items, global_type_items}
+use Rattle.wc_print.specs.Standard.Layout.{desc_items, import_items, func_items, table_items, memory_items}
+use Rattle.wc_print.specs.Standard.Layout.{global_items, kind_word, export_items, start_items, place_items, elem_items}
+use Rattle.wc_print.specs.Standard.Layout.{data_items, field_items, layout}
 use Rattle.wc_readback.specs.Grammar.Signs.{Sign, opens, closes, ends, key, key_word, type_word, type_sign}
 use Rattle.wc_readback.specs.Grammar.InstructionSigns.{values_signs, type_use_signs, block_signs, naturals, mark_signs}
 use Rattle.wc_readback.specs.Grammar.InstructionSigns.{code_signs}

@@ -4,7 +4,7 @@ use Rattle.std.specs.List.{AllByRecursion}
 use Rattle.wc_tokens.specs.Standard.Lexemes.{Lexeme}
 use Rattle.wc_syntax.specs.declared.role.Role.{Role}
 use Rattle.wc_symbols.specs.declared.symbol.Symbol.{Symbol}
-use Rattle.wc_print.specs.Printed.{Item, token_of, spelled, lexemes_in}
+use Rattle.wc_print.specs.Standard.Printed.{Item, token_of, spelled, lexemes_in}
 use Rattle.wc_readback.specs.Grammar.Signs.{Sign}
 use Rattle.wc_readback.specs.Grammar.Kept.{Said, said_before, said_from, symbols_of, StandsIn}
 use Rattle.wc_readback.proofs.GrammarLemmas.Same.{tokens_of}

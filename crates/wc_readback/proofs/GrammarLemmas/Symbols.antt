@@ -17,19 +17,19 @@ use Rattle.wc_syntax.specs.declared.kind.Kind.{Kind}
 use Rattle.wc_syntax.specs.declared.kind.Kind.TheVariants as kind
 use Rattle.wc_symbols.specs.declared.symbol.Symbol.{Symbol}
 use Rattle.wc_symbols.specs.declared.symbol.Value.TheVariants.{Number, Offset, Exponent, Instruction, ValType}
-use Rattle.wc_symbols.specs.Symbols.{bare, valued}
-use Rattle.wc_symbols.specs.Names.{keyword, op_kind, word as is_keyword, i32 as is_i32, i64 as is_i64}
-use Rattle.wc_symbols.specs.Names.{keyword_is, instruction}
-use Rattle.wc_symbols.specs.Numbers.{below_32, below_64, of_32, of_64, offset_number, align_power}
-use Rattle.wc_symbols.specs.Words.{WordIs, known, natural as says_natural, signed as says_signed, offset as says_offset}
-use Rattle.wc_symbols.specs.Words.{align as says_align, name as says_name}
-use Rattle.wc_symbols.specs.Tokens.{TokenIs, name as is_name, no_name}
+use Rattle.wc_symbols.specs.Standard.Symbols.{bare, valued}
+use Rattle.wc_symbols.specs.Standard.Names.{keyword, op_kind, word as is_keyword, i32 as is_i32, i64 as is_i64}
+use Rattle.wc_symbols.specs.Standard.Names.{keyword_is, instruction}
+use Rattle.wc_symbols.specs.Standard.Numbers.{below_32, below_64, of_32, of_64, offset_number, align_power}
+use Rattle.wc_symbols.specs.Standard.Words.{WordIs, known, natural as says_natural, signed as says_signed}
+use Rattle.wc_symbols.specs.Standard.Words.{offset as says_offset, align as says_align, name as says_name}
+use Rattle.wc_symbols.specs.Standard.Tokens.{TokenIs, name as is_name, no_name}
 use Rattle.wc_leb128.specs.Standard.Shortest.{HoldsSigned}
-use Rattle.wc_print.specs.Printed.{Printed, word, number, integer, part, quoted, kind_of, spelled}
-use Rattle.wc_print.specs.Printable.{IsByte}
-use Rattle.wc_print.specs.Lines.{bytes_of}
-use Rattle.wc_print.proofs.ReadNumbers.{Digits-decimal, Literal-signed}
-use Rattle.wc_print.proofs.ReadStrings.{IsString-escaped}
+use Rattle.wc_print.specs.Standard.Printed.{Printed, word, number, integer, part, quoted, kind_of, spelled}
+use Rattle.wc_print.specs.Standard.Printable.{IsByte}
+use Rattle.wc_print.specs.Standard.Lines.{bytes_of}
+use Rattle.wc_print.proofs.Reading.ReadNumbers.{Digits-decimal, Literal-signed}
+use Rattle.wc_print.proofs.Reading.ReadStrings.{IsString-escaped}
 use Rattle.wc_readback.specs.Grammar.Signs.{key_word, type_word, integer_symbol, exponent_of}
 
 -- the token is what it says

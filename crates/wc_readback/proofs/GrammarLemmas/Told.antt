@@ -1,7 +1,7 @@
 -- The tokens of a text are what the signs say.
 use Rattle.std.proofs.Common.{◌≡◌, ℕ, List, [], ◌∷◌, map, sym, ap, subst}
 use Rattle.std.specs.List.{AllByRecursion}
-use Rattle.wc_print.specs.Printed.{Printed, opening, Item, token_of, lexemes_in}
+use Rattle.wc_print.specs.Standard.Printed.{Printed, opening, Item, token_of, lexemes_in}
 use Rattle.wc_readback.specs.Grammar.Signs.{Sign}
 use Rattle.wc_readback.specs.Grammar.Kept.{AreSymbols, symbols_of}
 use Rattle.wc_readback.proofs.GrammarLemmas.Symbols.{Says}

@@ -4,7 +4,7 @@ use Rattle.std.proofs.Common.{IsUtf8}
 use Rattle.std.specs.List.{AllByRecursion}
 use lib.Utf8.{scalar, scalars, next, encode, encodes, scalar_cases}
 use mathlib.Core.Bool.{cond, ◌&&◌}
-use Rattle.wc_print.specs.Printable.{IsByte}
+use Rattle.wc_print.specs.Standard.Printable.{IsByte}
 
 bytes-append : (a b : List ℕ) → AllByRecursion IsByte a → AllByRecursion IsByte b → AllByRecursion IsByte (a ++ b)
 bytes-append [] b h k = k

@@ -17,10 +17,10 @@ use Rattle.wc_ast.specs.declared.segment.Data.{Data}
 use Rattle.wc_ast.specs.declared.module.Module.{Module}
 use Rattle.wc_syntax.specs.declared.kind.Kind.TheVariants as kind
 use Rattle.wc_syntax.specs.declared.role.Role.TheVariants as role
-use Rattle.wc_print.specs.Printed.{Printed, opening, closing, word, number, integer, part, quoted, Item, gap_of}
-use Rattle.wc_print.specs.Printed.{token_of, spelled, text}
-use Rattle.wc_print.specs.Printable.{is_word, IsSpelled, AreSpelled, IsPrintable}
-use Rattle.wc_print.specs.Layout.{layout}
+use Rattle.wc_print.specs.Standard.Printed.{Printed, opening, closing, word, number, integer, part, quoted, Item}
+use Rattle.wc_print.specs.Standard.Printed.{gap_of, token_of, spelled, text}
+use Rattle.wc_print.specs.Standard.Printable.{is_word, IsSpelled, AreSpelled, IsPrintable}
+use Rattle.wc_print.specs.Standard.Layout.{layout}
 use Rattle.wc_readback.specs.Grammar.Signs.{Sign, closes, ends, string}
 use Rattle.wc_readback.specs.Grammar.InstructionSigns.{values_signs, type_use_signs, code_signs, naturals}
 use Rattle.wc_readback.specs.Grammar.FieldSigns.{type_signs, import_signs, globaltype_signs, func_signs, function_signs}

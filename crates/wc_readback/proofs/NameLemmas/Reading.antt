@@ -3,15 +3,15 @@ use Rattle.std.proofs.Common.{◌≡◌, ◌≤◌, [], length}
 use Rattle.wc_ast.specs.declared.module.Module.{Module}
 use Rattle.wc_check.specs.Standard.Broken.{broken}
 use Rattle.wc_tokens.specs.Standard.Lexemes.{longest}
-use Rattle.wc_print.specs.Layout.{layout}
-use Rattle.wc_print.specs.Printable.{IsPrintable}
-use Rattle.wc_print.specs.Printed.{text, lexemes}
-use Rattle.wc_print.proofs.Lexing.{Lexes-text}
+use Rattle.wc_print.specs.Standard.Layout.{layout}
+use Rattle.wc_print.specs.Standard.Printable.{IsPrintable}
+use Rattle.wc_print.specs.Standard.Printed.{text, lexemes}
+use Rattle.wc_print.proofs.Reading.Lexing.{Lexes-text}
 use Rattle.wc_readback.specs.Grammar.Fitting.{Fits}
 use Rattle.wc_readback.specs.Fields.Surface.{text_fields}
 use Rattle.wc_readback.proofs.FieldLemmas.Syntax.{syntax-of}
 use Rattle.wc_readback.specs.Names.Known.{HasFewLocals}
-use Rattle.wc_read_text.specs.Texts.{Txt}
+use Rattle.wc_read_text.specs.Standard.Texts.{Txt}
 use Rattle.wc_read_text.proofs.Stages.{text-read}
 use Rattle.wc_readback.proofs.NameLemmas.Counting.{signs-few, bodies-few}
 use Rattle.wc_readback.proofs.NameLemmas.Checked.{names-known}

@@ -2,7 +2,7 @@
 use Rattle.std.specs.Prelude.{ℕ, suc, List, [], ◌∷◌, Option, Some, None}
 use Rattle.wc_ast.specs.declared.module.Module.{Module}
 use Rattle.wc_syntax.specs.declared.role.Role.{Role}
-use Rattle.wc_print.specs.Printed.{Printed, opening, closing, word, number, integer, part, quoted}
+use Rattle.wc_print.specs.Standard.Printed.{Printed, opening, closing, word, number, integer, part, quoted}
 use Rattle.wc_readback.specs.Grammar.Signs.{Sign}
 use Rattle.wc_readback.specs.Grammar.FieldSigns.{signs}
 use Rattle.wc_readback.specs.Grammar.Kept.{said_as}

@@ -14,7 +14,7 @@ use Rattle.wc_ast.specs.declared.export.Export.{Export}
 use Rattle.wc_ast.specs.declared.segment.Elem.{Elem}
 use Rattle.wc_ast.specs.declared.segment.Data.{Data}
 use Rattle.wc_ast.specs.declared.module.Module.{Module}
-use Rattle.wc_print.specs.Printable.{IsByte}
+use Rattle.wc_print.specs.Standard.Printable.{IsByte}
 
 -- where there is a number
 abbrev pub FitsOptional : Option ℕ → Type 0

@@ -4,11 +4,11 @@ use Rattle.wc_ast.specs.declared.module.Module.{Module}
 use Rattle.wc_tokens.specs.Standard.Lexemes.{Lexeme}
 use Rattle.wc_syntax.specs.declared.kind.Kind.{Kind}
 use Rattle.wc_syntax.specs.declared.role.Role.{Role}
-use Rattle.wc_syntax.specs.Phrases.{word}
-use Rattle.wc_syntax.specs.Deriving.{at, Event, kept}
+use Rattle.wc_syntax.specs.Standard.Phrases.{word}
+use Rattle.wc_syntax.specs.Standard.Deriving.{at, Event, kept}
 use Rattle.wc_symbols.specs.declared.symbol.Symbol.{Symbol}
-use Rattle.wc_symbols.specs.Tokens.{TokenIs}
-use Rattle.wc_print.specs.Printed.{spelled}
+use Rattle.wc_symbols.specs.Standard.Tokens.{TokenIs}
+use Rattle.wc_print.specs.Standard.Printed.{spelled}
 use Rattle.wc_readback.specs.Grammar.Signs.{Sign}
 use Rattle.wc_readback.specs.Grammar.FieldSigns.{signs}
 

@@ -12,10 +12,11 @@ use Rattle.wc_syntax.specs.declared.role.Role.{Role}
 use Rattle.wc_syntax.specs.declared.role.Role.TheVariants as role
 use Rattle.wc_symbols.specs.declared.symbol.Symbol.{Symbol}
 use Rattle.wc_symbols.specs.declared.symbol.Value.TheVariants.{Number, Offset, Exponent, Instruction, ValType}
-use Rattle.wc_symbols.specs.Symbols.{bare, valued}
-use Rattle.wc_symbols.specs.Names.{keyword, op_kind}
-use Rattle.wc_print.specs.Printed.{Printed, opening, closing, word, number, integer as signed_number, part, quoted}
-use Rattle.wc_print.specs.Lines.{bytes_of}
+use Rattle.wc_symbols.specs.Standard.Symbols.{bare, valued}
+use Rattle.wc_symbols.specs.Standard.Names.{keyword, op_kind}
+use Rattle.wc_print.specs.Standard.Printed.{Printed, opening, closing, word, number, integer as signed_number, part}
+use Rattle.wc_print.specs.Standard.Printed.{quoted}
+use Rattle.wc_print.specs.Standard.Lines.{bytes_of}
 
 -- a token; what it is to the grammar; and what it is to the fields of the text, if it is kept
 pub record Sign : Type 0 where

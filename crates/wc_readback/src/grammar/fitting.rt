@@ -2,7 +2,7 @@
 
 ghost use Rattle.std.specs.List.{AllByRecursion};
 ghost use Rattle.wc_body.specs.Standard.ValueBytes.{Fits32};
-ghost use Rattle.wc_print.specs.Printable.{IsByte};
+ghost use Rattle.wc_print.specs.Standard.Printable.{IsByte};
 ghost use Rattle.wc_readback.specs.Grammar.Fitting.{FitsOptional, FitsLimits, FitsDesc, FitsImport, FitsFunc};
 ghost use Rattle.wc_readback.specs.Grammar.Fitting.{FitsGlobal, FitsExport, FitsElem, FitsData, Fits};
 

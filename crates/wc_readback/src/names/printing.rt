@@ -3,10 +3,10 @@
 ghost use Rattle.std.specs.Prelude.{◌≡◌, ◌≤◌, [], IfOk, length};
 ghost use Rattle.std.specs.String.{string_bytes};
 ghost use Rattle.wc_check.specs.Standard.Broken.{broken};
-ghost use Rattle.wc_print.specs.Layout.{layout};
-ghost use Rattle.wc_print.specs.Printed.{text};
+ghost use Rattle.wc_print.specs.Standard.Layout.{layout};
+ghost use Rattle.wc_print.specs.Standard.Printed.{text};
 ghost use Rattle.wc_tokens.specs.Standard.Lexemes.{longest};
-ghost use Rattle.wc_read_text.specs.Texts.{Txt};
+ghost use Rattle.wc_read_text.specs.Standard.Texts.{Txt};
 
 use crate::grammar::module_fits;
 use crate::names::few_locals::module_has_few_locals;

@@ -2,11 +2,11 @@
 
 ghost use Rattle.std.specs.Prelude.{◌≡◌, ◌++◌, ◌∷◌, [], ◌&&◌, ℕ, List, length, true, false, Some, None};
 ghost use Rattle.std.specs.Prelude.{OnErr, IfOk, IfSome, is_some};
-ghost use Rattle.wc_syntax.specs.Deriving.{Event};
-ghost use Rattle.wc_syntax.specs.Reading.{IsRead, kept_as};
-ghost use Rattle.wc_syntax.specs.Inner.Table.{is_in_frame, rest_of};
-ghost use Rattle.wc_syntax.specs.Inner.Parts.{ends_field, behind_part, begun_part, opens_func, first_part};
-ghost use Rattle.wc_syntax.specs.Inner.Parts.{opens_field, type_role, behind_type, is_type_index};
+ghost use Rattle.wc_syntax.specs.Standard.Deriving.{Event};
+ghost use Rattle.wc_syntax.specs.Standard.Reading.{IsRead, kept_as};
+ghost use Rattle.wc_syntax.specs.Tables.Table.{is_in_frame, rest_of};
+ghost use Rattle.wc_syntax.specs.Tables.Parts.{ends_field, behind_part, begun_part, opens_func, first_part};
+ghost use Rattle.wc_syntax.specs.Tables.Parts.{opens_field, type_role, behind_type, is_type_index};
 ghost use Rattle.wc_syntax.specs.declared.kind.Kind.{Kind as TokenKind};
 ghost use Rattle.wc_syntax.specs.declared.kind.Kind.TheVariants as kinds;
 ghost use Rattle.wc_syntax.specs.declared.role.Role.TheVariants as roles;

@@ -2,12 +2,12 @@
 
 ghost use Rattle.std.specs.Prelude.{◌≡◌, ◌++◌, ◌∷◌, [], ◌&&◌, ◌||◌, not, ℕ, List, length, true, false, Some, None};
 ghost use Rattle.std.specs.Prelude.{OnErr, IfOk, IfSome, is_some};
-ghost use Rattle.wc_syntax.specs.Deriving.{Event};
-ghost use Rattle.wc_syntax.specs.Reading.{IsRead, is_deep, kept_as};
-ghost use Rattle.wc_syntax.specs.Inner.Table.{takes_instrs, takes_folded, find, place_rows};
-ghost use Rattle.wc_syntax.specs.Inner.Usual.{is_free, takes_name, takes_open, behind_name, begun_frame, ends_by_word};
-ghost use Rattle.wc_syntax.specs.Inner.Usual.{is_opened, opened_part, is_held, behind_index};
-ghost use Rattle.wc_syntax.specs.Inner.Usual.{is_literal, is_offset, is_align, kept_on};
+ghost use Rattle.wc_syntax.specs.Standard.Deriving.{Event};
+ghost use Rattle.wc_syntax.specs.Standard.Reading.{IsRead, is_deep, kept_as};
+ghost use Rattle.wc_syntax.specs.Tables.Table.{takes_instrs, takes_folded, find, place_rows};
+ghost use Rattle.wc_syntax.specs.Tables.Usual.{is_free, takes_name, takes_open, behind_name, begun_frame, ends_by_word};
+ghost use Rattle.wc_syntax.specs.Tables.Usual.{is_opened, opened_part, is_held, behind_index};
+ghost use Rattle.wc_syntax.specs.Tables.Usual.{is_literal, is_offset, is_align, kept_on};
 ghost use Rattle.wc_syntax.specs.declared.kind.Kind.{Kind as TokenKind};
 ghost use Rattle.wc_syntax.specs.declared.kind.Kind.TheVariants as kinds;
 ghost use Rattle.wc_syntax.specs.declared.role.Role.TheVariants as roles;

@@ -1,9 +1,9 @@
 //! What a frame takes, where no part is left in front of its rest.
 
 ghost use Rattle.std.specs.Prelude.{◌≡◌};
-ghost use Rattle.wc_syntax.specs.Inner.Table.{frame_rows, open_rows, field_rows, instr_rows, folded_rows};
-ghost use Rattle.wc_syntax.specs.Inner.Table.{find, or_else};
-ghost use Rattle.wc_syntax.specs.Inner.Table.{if_takes, takes_instrs, takes_folded};
+ghost use Rattle.wc_syntax.specs.Tables.Table.{frame_rows, open_rows, field_rows, instr_rows, folded_rows};
+ghost use Rattle.wc_syntax.specs.Tables.Table.{find, or_else};
+ghost use Rattle.wc_syntax.specs.Tables.Table.{if_takes, takes_instrs, takes_folded};
 
 use crate::kind::Kind;
 use crate::place::{Action, Frame, Move, Place};

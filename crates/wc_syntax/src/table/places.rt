@@ -1,7 +1,7 @@
 //! What the parts take that stand in front of a frame's rest.
 
 ghost use Rattle.std.specs.Prelude.{◌≡◌};
-ghost use Rattle.wc_syntax.specs.Inner.Table.{place_rows, part_rows, use_rows, find};
+ghost use Rattle.wc_syntax.specs.Tables.Table.{place_rows, part_rows, use_rows, find};
 
 use crate::kind::Kind;
 use crate::place::{Action, Move, Place};

@@ -1,7 +1,7 @@
 //! Inputs, devices that give them in pieces, and what these are answered.
 
 ghost use Rattle.std.specs.Prelude.{◌≡◌, false};
-ghost use Rattle.wc_device.specs.Device.{has_failed, read_count};
+ghost use Rattle.wc_device.specs.Standard.Device.{has_failed, read_count};
 
 use crate::devices::Reader;
 use std::alloc::{AllocError, Global};

@@ -1,5 +1,5 @@
 use Rattle.std.proofs.Common.{arith}
-use Rattle.wc_binary.proofs.reading.Feeding.{each-byte}
+use Rattle.wc_binary.proofs.reading.ahead.Feeding.{each-byte}
 use Rattle.wc_binary.proofs.byte_range.are_bytes.Goals as goal
 
 pub returns : goal.returns

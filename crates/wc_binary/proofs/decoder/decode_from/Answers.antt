@@ -1,6 +1,6 @@
 use Rattle.std.proofs.Common.{◌+◌, ◌-◌, ◌≤◌, ◌∙◌, ap, length, refl, rules, arith}
 use Rattle.std.proofs.lemmas.List.{take_at}
-use Rattle.wc_device.specs.Device.{device_inner, read_count}
+use Rattle.wc_device.specs.Standard.Device.{device_inner, read_count}
 use Rattle.wc_binary.proofs.reading.Entry.{decodes-fed, near-fed, cut-fed, ends-fed, fails-at}
 use Rattle.wc_binary.proofs.reading.Entry.{never-again, same-lender, none-failed, unspent}
 use Rattle.wc_binary.proofs.reading.Exact.{fed-only, fed-only-fault}

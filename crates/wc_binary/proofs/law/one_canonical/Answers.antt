@@ -1,4 +1,4 @@
-use Rattle.wc_binary.proofs.spelling.Modules.{one-canonical}
+use Rattle.wc_binary.proofs.spelling.whole.Modules.{one-canonical}
 use Rattle.wc_binary.proofs.phrases.Freed.{canon-bin}
 use Rattle.wc_binary.proofs.law.one_canonical.Goals as goal
 

@@ -1,4 +1,4 @@
-use Rattle.wc_binary.proofs.spelling.Modules.{shortest-and-only}
+use Rattle.wc_binary.proofs.spelling.whole.Modules.{shortest-and-only}
 use Rattle.wc_binary.proofs.law.shortest_and_only.Goals as goal
 
 pub returns : goal.returns

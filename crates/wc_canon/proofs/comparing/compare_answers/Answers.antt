@@ -1,6 +1,6 @@
 use Rattle.wc_canon.proofs.Comparisons.{compared}
 use Rattle.wc_canon.proofs.Comparisons.{refused-first, refused-second}
-use Rattle.wc_canon.specs.Comparing.{IsSideRefused}
+use Rattle.wc_canon.specs.Standard.Comparing.{IsSideRefused}
 use Rattle.wc_canon.proofs.Judged.{if-error}
 use Rattle.wc_canon.proofs.comparing.compare_answers.Goals as goal
 

@@ -1,5 +1,5 @@
 use Rattle.std.proofs.Common.{◌≡◌, true, false, inr, refl, rules, arith}
-use Rattle.wc_canon.specs.Input.{is_binary}
+use Rattle.wc_canon.specs.Standard.Input.{is_binary}
 use Rattle.wc_canon.proofs.Laws.{has-oversize}
 use Rattle.wc_canon.proofs.Judged.{if-error, module-refused}
 use Rattle.wc_canon.proofs.OwnBytes.{text-tells, binary-tells}

@@ -1,7 +1,7 @@
 use Rattle.std.proofs.Common.{ap, refl, inl, ◌∙◌}
 use Rattle.wc_ast.specs.declared.module.Module.{Module}
-use Rattle.wc_print.specs.Layout.{layout}
-use Rattle.wc_print.specs.Printed.{text}
+use Rattle.wc_print.specs.Standard.Layout.{layout}
+use Rattle.wc_print.specs.Standard.Printed.{text}
 use Rattle.wc_canon.proofs.Laws.{one-meaning, meant-or-fault}
 use Rattle.wc_canon.proofs.Judged.{match-error, never-meant, that-fault, has-text}
 use Rattle.wc_canon.proofs.Again.{again}

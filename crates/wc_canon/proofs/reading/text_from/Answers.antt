@@ -1,9 +1,9 @@
 use Rattle.wc_ast.specs.declared.module.Module.{Module}
-use Rattle.wc_device.specs.Device.{device_inner}
-use Rattle.wc_print.specs.Layout.{layout}
-use Rattle.wc_print.specs.Printed.{text}
+use Rattle.wc_device.specs.Standard.Device.{device_inner}
+use Rattle.wc_print.specs.Standard.Layout.{layout}
+use Rattle.wc_print.specs.Standard.Printed.{text}
 use Rattle.wc_canon.specs.declared.running.Job.TheVariants.{Text}
-use Rattle.wc_canon.specs.Run.{IsOutputOf}
+use Rattle.wc_canon.specs.Standard.Run.{IsOutputOf}
 use Rattle.wc_canon.specs.declared.fault.Refusal.TheVariants.{Memory}
 use Rattle.wc_canon.proofs.Again.{told-alike}
 use Rattle.wc_canon.proofs.Streams.{judges-error, near-memory}

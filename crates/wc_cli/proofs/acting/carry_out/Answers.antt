@@ -1,5 +1,5 @@
 use Rattle.std.proofs.Common.{refl}
-use Rattle.wc_cli.specs.Inputs.{input_bytes, is_unread}
+use Rattle.wc_cli.specs.Standard.Inputs.{input_bytes, is_unread}
 use Rattle.wc_cli.proofs.Endings.{ends-of}
 use Rattle.wc_cli.proofs.Looking.{looks-of}
 use Rattle.wc_cli.proofs.acting.carry_out.Goals as goal

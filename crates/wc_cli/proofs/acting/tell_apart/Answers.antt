@@ -1,8 +1,8 @@
 use Rattle.std.proofs.Common.{◌≡◌, IfSome, false, refl, inl, inr}
 use Rattle.wc_canon.specs.declared.comparing.Comparison.TheVariants.{Same, Different}
-use Rattle.wc_canon.specs.Comparing.{Compares}
+use Rattle.wc_canon.specs.Standard.Comparing.{Compares}
 use Rattle.wc_cli.specs.declared.command_line.Line.TheVariants.{Compare}
-use Rattle.wc_cli.specs.Inputs.{input_bytes, is_unread}
+use Rattle.wc_cli.specs.Standard.Inputs.{input_bytes, is_unread}
 use Rattle.wc_cli.proofs.Endings.{unsaid}
 use Rattle.wc_cli.proofs.acting.tell_apart.Goals as goal
 

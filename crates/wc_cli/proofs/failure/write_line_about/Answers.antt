@@ -1,6 +1,6 @@
 use Rattle.std.proofs.Common.{◌≡◌, ◌∙◌, ℕ, List, [], ◌∷◌, ◌++◌, ap, subst, append_assoc, codes}
-use Rattle.wc_canon.specs.Text.{pieces_text}
-use Rattle.wc_cli.specs.Failing.{GoesOut, line_about}
+use Rattle.wc_canon.specs.Standard.Text.{pieces_text}
+use Rattle.wc_cli.specs.Standard.Failing.{GoesOut, line_about}
 use Rattle.wc_cli.proofs.Outgoing.{goes-on}
 use Rattle.wc_cli.proofs.failure.write_line_about.Goals as goal
 

@@ -2,7 +2,7 @@ use Rattle.std.proofs.Common.{◌≡◌, ◌∙◌, ℕ, List, [], ◌∷◌, ma
 use Rattle.std.proofs.lemmas.List.{take_all, length-map}
 use denote.Ref.{Bor}
 use Rattle.wc_cli.specs.declared.command_line.Ask.{Ask}
-use Rattle.wc_cli.specs.Asked.{Asked, Tell}
+use Rattle.wc_cli.specs.Standard.Asked.{Asked, Tell}
 use Rattle.wc_cli.proofs.parsing.told_lines.Goals as goal
 
 -- a line for each path, whether the paths are read first or last

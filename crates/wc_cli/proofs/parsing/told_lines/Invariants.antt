@@ -1,5 +1,5 @@
 use Rattle.std.proofs.Common.{◌≡◌, map, take}
-use Rattle.wc_cli.specs.Asked.{asked_by, Tell}
+use Rattle.wc_cli.specs.Standard.Asked.{asked_by, Tell}
 use Rattle.wc_cli.proofs.parsing.told_lines.Given as goal
 
 abbrev pub invariant-loop-path : goal.invariant-loop-path

@@ -1,6 +1,6 @@
 use Rattle.std.proofs.Common.{◌≡◌, ◌-◌, ◌^◌, ◌<◌, length, false}
 use Rattle.std.specs.Io.KnownBytes.{Consumes}
-use Rattle.wc_device.specs.Device.{device_inner, has_failed, has_ended, was_asked_again, read_count}
+use Rattle.wc_device.specs.Standard.Device.{device_inner, has_failed, has_ended, was_asked_again, read_count}
 use Rattle.wc_cli.proofs.reading.read_all.Given as goal
 
 abbrev pub invariant-loop-n : goal.invariant-loop-n

@@ -1,5 +1,5 @@
 use Rattle.std.proofs.Common.{◌≡◌, take}
-use Rattle.wc_cli.specs.Telling.{escaped}
+use Rattle.wc_cli.specs.Standard.Telling.{escaped}
 use Rattle.wc_cli.proofs.telling.escaped.Given as goal
 
 abbrev pub invariant-loop-byte : goal.invariant-loop-byte

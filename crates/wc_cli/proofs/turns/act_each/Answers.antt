@@ -1,5 +1,5 @@
 use Rattle.std.proofs.Common.{◌∙◌, ◌+◌, sym, arith}
-use Rattle.wc_cli.specs.Turns.{none}
+use Rattle.wc_cli.specs.Standard.Turns.{none}
 use Rattle.wc_cli.proofs.Turning.{turn-more}
 use Rattle.wc_cli.proofs.turns.act_each.Goals as goal
 

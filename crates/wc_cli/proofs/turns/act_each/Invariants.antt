@@ -1,6 +1,6 @@
 use Rattle.std.proofs.Common.{◌≡◌, ◌<◌, take, false}
-use Rattle.wc_device.specs.Device.{has_failed}
-use Rattle.wc_cli.specs.Turns.{ActsEach}
+use Rattle.wc_device.specs.Standard.Device.{has_failed}
+use Rattle.wc_cli.specs.Standard.Turns.{ActsEach}
 use Rattle.wc_cli.proofs.turns.act_each.Given as goal
 
 abbrev pub invariant-loop-line : goal.invariant-loop-line

@@ -1,5 +1,5 @@
 use Rattle.std.proofs.Common.{arith}
-use Rattle.wc_canon.specs.Text.{piece_text}
+use Rattle.wc_canon.specs.Standard.Text.{piece_text}
 use Rattle.wc_cli.proofs.Outgoing.{goes-more}
 use Rattle.wc_cli.proofs.writing.put_pieces.Goals as goal
 

@@ -2,10 +2,10 @@ use Rattle.std.proofs.Common.{List, sym, subst, ◌∙◌}
 use Rattle.wc_body.specs.Standard.Nested.{nesting_limit}
 use Rattle.wc_surface.specs.declared.field.Field.{Field}
 use Rattle.wc_parse.specs.Standard.Meaning.{Syn}
-use Rattle.wc_parse.proofs.Said.{said-whole, said-unended}
-use Rattle.wc_parse.proofs.Forms.{few-tokens}
-use Rattle.wc_parse.proofs.Few.{fewer-than-bytes}
-use Rattle.wc_parse.proofs.Joined.{folds-say}
+use Rattle.wc_parse.proofs.Saying.Said.{said-whole, said-unended}
+use Rattle.wc_parse.proofs.Tokens.Forms.{few-tokens}
+use Rattle.wc_parse.proofs.Sizing.Few.{fewer-than-bytes}
+use Rattle.wc_parse.proofs.Saying.Joined.{folds-say}
 use Rattle.wc_parse.proofs.ending.ended.Goals as goal
 
 pub new-requires : goal.new-requires

@@ -3,9 +3,9 @@ use Rattle.std.proofs.lemmas.Result.{err_from_is_err_and}
 use Rattle.wc_tokens.specs.Standard.Lexemes.{Lexeme}
 use Rattle.wc_tokens.specs.Standard.Tokens.{InOrder, lexemes_of}
 use Rattle.wc_symbols.proofs.Forms.{form-at}
-use Rattle.wc_parse.proofs.Forms.{few-at, lexemes-at, all-lexemes}
-use Rattle.wc_parse.proofs.Said.{said-first}
-use Rattle.wc_parse.proofs.Answering.{Answers, answers-whole}
+use Rattle.wc_parse.proofs.Tokens.Forms.{few-at, lexemes-at, all-lexemes}
+use Rattle.wc_parse.proofs.Saying.Said.{said-first}
+use Rattle.wc_parse.proofs.Saying.Answering.{Answers, answers-whole}
 use Rattle.wc_parse.proofs.fields.fields_or_fault.Goals as goal
 
 pub loop-at-init : goal.loop-at-init

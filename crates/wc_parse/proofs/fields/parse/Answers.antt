@@ -1,4 +1,4 @@
-use Rattle.wc_parse.proofs.Answering.{answers-fields, answers-fault, only-fields, only-fault}
+use Rattle.wc_parse.proofs.Saying.Answering.{answers-fields, answers-fault, only-fields, only-fault}
 use Rattle.wc_parse.proofs.fields.parse.Goals as goal
 
 pub returns-clause-ok : goal.returns-clause-ok

@@ -1,4 +1,4 @@
-use Rattle.wc_parse.proofs.Answering.{always-one}
+use Rattle.wc_parse.proofs.Saying.Answering.{always-one}
 use Rattle.wc_parse.proofs.laws.always_one.Goals as goal
 
 pub returns : goal.returns

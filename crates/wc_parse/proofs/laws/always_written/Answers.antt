@@ -1,4 +1,4 @@
-use Rattle.wc_parse.proofs.Written.{always-written, always-said}
+use Rattle.wc_parse.proofs.Saying.Written.{always-written, always-said}
 use Rattle.wc_parse.proofs.laws.always_written.Goals as goal
 
 pub returns : goal.returns

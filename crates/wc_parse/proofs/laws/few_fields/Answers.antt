@@ -1,4 +1,4 @@
-use Rattle.wc_parse.proofs.Answering.{few-fields}
+use Rattle.wc_parse.proofs.Saying.Answering.{few-fields}
 use Rattle.wc_parse.proofs.laws.few_fields.Goals as goal
 
 pub returns : goal.returns

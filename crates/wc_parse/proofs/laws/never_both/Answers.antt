@@ -1,4 +1,4 @@
-use Rattle.wc_parse.proofs.Answering.{never-both}
+use Rattle.wc_parse.proofs.Saying.Answering.{never-both}
 use Rattle.wc_parse.proofs.laws.never_both.Goals as goal
 
 pub returns : goal.returns

@@ -1,4 +1,4 @@
-use Rattle.wc_parse.proofs.Answering.{one-fault}
+use Rattle.wc_parse.proofs.Saying.Answering.{one-fault}
 use Rattle.wc_parse.proofs.laws.one_fault.Goals as goal
 
 pub returns : goal.returns

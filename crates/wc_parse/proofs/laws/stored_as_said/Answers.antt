@@ -1,4 +1,4 @@
-use Rattle.wc_parse.proofs.Joined.{folds-say, says-folds}
+use Rattle.wc_parse.proofs.Saying.Joined.{folds-say, says-folds}
 use Rattle.wc_parse.proofs.laws.stored_as_said.Goals as goal
 
 pub returns-clause-said : goal.returns-clause-said

@@ -3,7 +3,7 @@ use Rattle.std.proofs.lemmas.Result.{err_from_is_err_and}
 use Rattle.wc_tokens.specs.declared.token.Token.{Token}
 use Rattle.wc_tokens.specs.Standard.Streams.{IsRead}
 use Rattle.wc_tokens.proofs.Lexing.StreamLaws.{Gives-shorter}
-use Rattle.wc_parse.proofs.Streams.{stream-first, stream-token, stream-stop, stream-end}
+use Rattle.wc_parse.proofs.Tokens.Streams.{stream-first, stream-token, stream-stop, stream-end}
 use Rattle.wc_parse.proofs.stream.fields_or_refusal.Goals as goal
 
 pub loop-draft-init : goal.loop-draft-init

@@ -1,5 +1,5 @@
 use Rattle.std.proofs.Common.{length}
-use Rattle.wc_parse.proofs.Streams.{IsStream}
+use Rattle.wc_parse.proofs.Tokens.Streams.{IsStream}
 use Rattle.wc_parse.proofs.stream.fields_or_refusal.Given as goal
 
 abbrev pub invariant-loop-draft : goal.invariant-loop-draft

@@ -1,4 +1,4 @@
-use Rattle.wc_parse.proofs.Wholes.{only-fields, only-refusal}
+use Rattle.wc_parse.proofs.Saying.Wholes.{only-fields, only-refusal}
 use Rattle.wc_parse.proofs.stream.parse_text.Goals as goal
 
 pub returns-clause-only : goal.returns-clause-only

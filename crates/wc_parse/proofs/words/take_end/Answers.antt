@@ -1,12 +1,12 @@
 use Rattle.std.proofs.Common.{◌++◌, ◌∷◌, [], Some, sym, subst, OnOk}
 use Rattle.wc_tokens.specs.Standard.Tokens.{lexeme_of}
 use Rattle.wc_body.specs.Standard.Nested.{nesting_limit}
-use Rattle.wc_syntax.specs.Reading.{Standing, IsRead, kept_as}
+use Rattle.wc_syntax.specs.Standard.Reading.{Standing, IsRead, kept_as}
 use Rattle.wc_syntax.specs.declared.kind.Kind.{Kind}
 use Rattle.wc_syntax.specs.declared.role.Role.TheVariants as role
 use Rattle.wc_parse.specs.Kept.SaidSoFar.{SaysMore}
-use Rattle.wc_parse.proofs.Said.{said-count}
-use Rattle.wc_parse.proofs.Usual.{said-word}
+use Rattle.wc_parse.proofs.Saying.Said.{said-count}
+use Rattle.wc_parse.proofs.Saying.Usual.{said-word}
 use Rattle.wc_parse.proofs.words.take_end.Goals as goal
 
 pub returns-then-take_end-clause-said : goal.returns-then-take_end-clause-said

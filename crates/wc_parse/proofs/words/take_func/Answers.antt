@@ -1,12 +1,12 @@
 use Rattle.std.proofs.Common.{subst, OnOk}
 use Rattle.wc_tokens.specs.Standard.Tokens.{lexeme_of}
 use Rattle.wc_body.specs.Standard.Nested.{nesting_limit}
-use Rattle.wc_syntax.specs.Reading.{Standing}
+use Rattle.wc_syntax.specs.Standard.Reading.{Standing}
 use Rattle.wc_syntax.specs.declared.role.Role.TheVariants as role
 use Rattle.wc_parse.specs.Kept.SaidSoFar.{SaysMore}
-use Rattle.wc_parse.proofs.Said.{said-count}
+use Rattle.wc_parse.proofs.Saying.Said.{said-count}
 use Rattle.wc_syntax.specs.declared.kind.Kind.TheVariants as kind
-use Rattle.wc_parse.proofs.Usual.{said-word-of}
+use Rattle.wc_parse.proofs.Saying.Usual.{said-word-of}
 use Rattle.wc_parse.proofs.words.take_func.Goals as goal
 
 pub returns-then-branch-clause-said : goal.returns-then-branch-clause-said

@@ -1,9 +1,9 @@
 use Rattle.std.proofs.Common.{sym, subst, ◌∙◌, OnOk}
 use Rattle.wc_tokens.specs.Standard.Tokens.{lexeme_of}
 use Rattle.wc_body.specs.Standard.Nested.{nesting_limit}
-use Rattle.wc_syntax.specs.Reading.{Standing, IsRead}
+use Rattle.wc_syntax.specs.Standard.Reading.{Standing, IsRead}
 use Rattle.wc_parse.specs.Kept.SaidSoFar.{SaysMore}
-use Rattle.wc_parse.proofs.Said.{said-count, said-dropped}
+use Rattle.wc_parse.proofs.Saying.Said.{said-count, said-dropped}
 use Rattle.wc_parse.proofs.words.take_part_word.Goals as goal
 
 pub returns-then-take_part_word-clause-said : goal.returns-then-take_part_word-clause-said

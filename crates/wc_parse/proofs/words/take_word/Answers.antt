@@ -1,4 +1,4 @@
-use Rattle.wc_parse.proofs.Usual.{word-token}
+use Rattle.wc_parse.proofs.Saying.Usual.{word-token}
 use Rattle.wc_parse.proofs.words.take_word.Goals as goal
 
 pub take_name-requires-clause-symbol : goal.take_name-requires-clause-symbol

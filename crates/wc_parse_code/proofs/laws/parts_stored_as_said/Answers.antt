@@ -2,7 +2,7 @@ use Rattle.std.proofs.Common.{refl}
 use Rattle.wc_parse_code.specs.Standard.Productions.TypeUses.{inline}
 use Rattle.wc_parse_code.proofs.Storing.Words.{stored-index}
 use Rattle.wc_parse_code.proofs.Storing.Uses.{use-stored}
-use Rattle.wc_parse_code.proofs.Storing.Derived.{derived-follow}
+use Rattle.wc_parse_code.proofs.Storing.Ordered.Derived.{derived-follow}
 use Rattle.wc_parse_code.proofs.laws.parts_stored_as_said.Goals as goal
 
 pub returns-clause-index : goal.returns-clause-index

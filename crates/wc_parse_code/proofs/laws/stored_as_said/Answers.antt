@@ -5,7 +5,7 @@ use Rattle.wc_parse_code.specs.Standard.Productions.Instructions.{instrs, folded
 use Rattle.wc_parse_code.proofs.OneValue.Same.{one_value}
 use Rattle.wc_parse_code.proofs.SomeValue.Instructions.{instrs-say, folded-say}
 use Rattle.wc_parse_code.proofs.Storing.Whole.{body-stored}
-use Rattle.wc_parse_code.proofs.Storing.Derived.{derived-follow}
+use Rattle.wc_parse_code.proofs.Storing.Ordered.Derived.{derived-follow}
 use Rattle.wc_parse_code.proofs.laws.stored_as_said.Goals as goal
 
 pub returns-clause-instrs : goal.returns-clause-instrs

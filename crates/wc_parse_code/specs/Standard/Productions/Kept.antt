@@ -2,9 +2,9 @@
 use Rattle.std.specs.Prelude.{List, [], ◌∷◌}
 use Rattle.wc_tokens.specs.declared.token.TokenKind.{TokenKind}
 use Rattle.wc_syntax.specs.declared.role.Role.{Role}
-use Rattle.wc_syntax.specs.Phrases.{word}
-use Rattle.wc_syntax.specs.Deriving.{at, Event, kept}
-use Rattle.wc_symbols.specs.Tokens.{TokenIs}
+use Rattle.wc_syntax.specs.Standard.Phrases.{word}
+use Rattle.wc_syntax.specs.Standard.Deriving.{at, Event, kept}
+use Rattle.wc_symbols.specs.Standard.Tokens.{TokenIs}
 use Rattle.wc_parse_code.specs.Standard.Tokens.{KeptToken}
 use Rattle.wc_parse_code.specs.Standard.Productions.Tokens.{Said, ◌⊳◌}
 

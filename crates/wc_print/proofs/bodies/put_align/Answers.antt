@@ -1,4 +1,4 @@
-use Rattle.wc_print.proofs.Instructions.{align-put}
+use Rattle.wc_print.proofs.Writing.Instructions.{align-put}
 use Rattle.wc_print.proofs.bodies.put_align.Goals as goal
 
 pub returns : goal.returns

@@ -1,4 +1,4 @@
-use Rattle.wc_print.proofs.Instructions.{at-line, at-inline}
+use Rattle.wc_print.proofs.Writing.Instructions.{at-line, at-inline}
 use Rattle.wc_print.proofs.bodies.put_at.Goals as goal
 
 pub returns-in-Line : goal.returns-in-Line

@@ -1,6 +1,6 @@
 use Rattle.std.proofs.Common.{refl, codes}
 use Rattle.wc_tokens.specs.Standard.Lexemes.{is_idchar}
-use Rattle.wc_print.specs.Printed.{word}
+use Rattle.wc_print.specs.Standard.Printed.{word}
 use Rattle.wc_print.proofs.bodies.put_entry.Goals as goal
 
 pub returns-in-Else : goal.returns-in-Else

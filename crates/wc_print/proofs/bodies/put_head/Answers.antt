@@ -1,9 +1,9 @@
-use Rattle.wc_print.specs.Printed.{word}
-use Rattle.wc_print.specs.Lines.{head_word}
-use Rattle.wc_print.specs.Inner.Places.{item_at}
-use Rattle.wc_print.proofs.Naming.{head-word}
-use Rattle.wc_print.proofs.Going.{chain}
-use Rattle.wc_print.proofs.Instructions.{head-items}
+use Rattle.wc_print.specs.Standard.Printed.{word}
+use Rattle.wc_print.specs.Standard.Lines.{head_word}
+use Rattle.wc_print.specs.Writing.Places.{item_at}
+use Rattle.wc_print.proofs.Reading.Naming.{head-word}
+use Rattle.wc_print.proofs.Writing.Going.{chain}
+use Rattle.wc_print.proofs.Writing.Instructions.{head-items}
 use Rattle.wc_print.proofs.bodies.put_head.Goals as goal
 
 pub returns : goal.returns

@@ -1,4 +1,4 @@
-use Rattle.wc_print.proofs.Going.{leaves-less, leaves-none}
+use Rattle.wc_print.proofs.Writing.Going.{leaves-less, leaves-none}
 use Rattle.wc_print.proofs.bodies.put_inline.Goals as goal
 
 pub loop-entry-preserved : goal.loop-entry-preserved

@@ -1,8 +1,8 @@
 use Rattle.std.proofs.Common.{length}
 use Rattle.std.specs.List.{flat_map}
-use Rattle.wc_print.specs.Printed.{after}
-use Rattle.wc_print.specs.Going.{Leaves}
-use Rattle.wc_print.specs.Lines.{mark_items}
+use Rattle.wc_print.specs.Standard.Printed.{after}
+use Rattle.wc_print.specs.Standard.Going.{Leaves}
+use Rattle.wc_print.specs.Standard.Lines.{mark_items}
 use Rattle.wc_print.proofs.bodies.put_inline.Given as goal
 
 abbrev pub invariant-loop-entry : goal.invariant-loop-entry

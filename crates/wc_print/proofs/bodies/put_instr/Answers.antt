@@ -2,9 +2,9 @@ use Rattle.std.proofs.Common.{◌≡◌, ◌∙◌, refl, codes, rules, w32, w64
 use Rattle.std.proofs.Math.Facts.{to_z-of_z}
 use Rattle.wc_ops.specs.Standard.Opcodes.{simple, index, memory}
 use Rattle.wc_tokens.specs.Standard.Lexemes.{is_idchar}
-use Rattle.wc_print.specs.Printed.{word}
-use Rattle.wc_print.proofs.Naming.{simple-word, index-word, memory-word}
-use Rattle.wc_print.proofs.Going.{chain}
+use Rattle.wc_print.specs.Standard.Printed.{word}
+use Rattle.wc_print.proofs.Reading.Naming.{simple-word, index-word, memory-word}
+use Rattle.wc_print.proofs.Writing.Going.{chain}
 use Rattle.wc_print.proofs.bodies.put_instr.Goals as goal
 
 pub returns-in-Simple : goal.returns-in-Simple

@@ -1,4 +1,4 @@
-use Rattle.wc_print.proofs.Going.{leaves-less}
+use Rattle.wc_print.proofs.Writing.Going.{leaves-less}
 use Rattle.wc_print.proofs.bodies.put_labels.Goals as goal
 
 pub loop-label-preserved : goal.loop-label-preserved

@@ -1,7 +1,7 @@
 use Rattle.std.proofs.Common.{◌++◌, ◌∷◌, [], length}
-use Rattle.wc_print.specs.Printed.{after, number}
-use Rattle.wc_print.specs.Going.{Leaves}
-use Rattle.wc_print.specs.Lines.{number_items}
+use Rattle.wc_print.specs.Standard.Printed.{after, number}
+use Rattle.wc_print.specs.Standard.Going.{Leaves}
+use Rattle.wc_print.specs.Standard.Lines.{number_items}
 use Rattle.wc_print.proofs.bodies.put_labels.Given as goal
 
 abbrev pub invariant-loop-label : goal.invariant-loop-label

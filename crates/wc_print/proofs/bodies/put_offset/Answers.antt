@@ -1,4 +1,4 @@
-use Rattle.wc_print.proofs.Instructions.{offset-put}
+use Rattle.wc_print.proofs.Writing.Instructions.{offset-put}
 use Rattle.wc_print.proofs.bodies.put_offset.Goals as goal
 
 pub returns : goal.returns

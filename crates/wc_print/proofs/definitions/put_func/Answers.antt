@@ -1,4 +1,4 @@
-use Rattle.wc_print.proofs.Going.{all-out, chain}
+use Rattle.wc_print.proofs.Writing.Going.{all-out, chain}
 use Rattle.wc_print.proofs.definitions.put_func.Goals as goal
 
 pub returns : goal.returns

@@ -1,4 +1,4 @@
-use Rattle.wc_print.proofs.Going.{leaves-less, leaves-none}
+use Rattle.wc_print.proofs.Writing.Going.{leaves-less, leaves-none}
 use Rattle.wc_print.proofs.definitions.put_funcs.Goals as goal
 
 pub loop-func-preserved : goal.loop-func-preserved

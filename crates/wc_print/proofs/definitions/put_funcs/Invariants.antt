@@ -1,7 +1,7 @@
 use Rattle.std.proofs.Common.{length}
 use Rattle.std.specs.List.{flat_map}
-use Rattle.wc_print.specs.Going.{Leaves}
-use Rattle.wc_print.specs.Layout.{func_items}
+use Rattle.wc_print.specs.Standard.Going.{Leaves}
+use Rattle.wc_print.specs.Standard.Layout.{func_items}
 use Rattle.wc_print.proofs.definitions.put_funcs.Given as goal
 
 abbrev pub invariant-loop-func : goal.invariant-loop-func

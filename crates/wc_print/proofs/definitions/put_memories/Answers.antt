@@ -1,7 +1,7 @@
 use Rattle.std.proofs.Common.{refl}
 use Rattle.std.specs.List.{flat_map}
-use Rattle.wc_print.specs.Layout.{memory_items}
-use Rattle.wc_print.proofs.Going.{each-less, each-none}
+use Rattle.wc_print.specs.Standard.Layout.{memory_items}
+use Rattle.wc_print.proofs.Writing.Going.{each-less, each-none}
 use Rattle.wc_print.proofs.definitions.put_memories.Goals as goal
 
 pub loop-limits-preserved : goal.loop-limits-preserved

@@ -1,7 +1,7 @@
 use Rattle.std.proofs.Common.{drop}
 use Rattle.std.specs.List.{flat_map}
-use Rattle.wc_print.specs.Layout.{memory_items}
-use Rattle.wc_print.specs.Going.{Leaves}
+use Rattle.wc_print.specs.Standard.Layout.{memory_items}
+use Rattle.wc_print.specs.Standard.Going.{Leaves}
 use Rattle.wc_print.proofs.definitions.put_memories.Given as goal
 
 abbrev pub invariant-loop-limits : goal.invariant-loop-limits

@@ -1,5 +1,5 @@
 use Rattle.std.proofs.Common.{arith}
-use Rattle.wc_print.proofs.Paging.{three-more}
+use Rattle.wc_print.proofs.Writing.Paging.{three-more}
 use Rattle.wc_print.proofs.digits.write_digits.Goals as goal
 
 pub returns-clause-bytes : goal.returns-clause-bytes

@@ -1,5 +1,5 @@
 use Rattle.std.proofs.Common.{arith}
-use Rattle.wc_print.proofs.Paging.{one-digit, two-digits, three-digits}
+use Rattle.wc_print.proofs.Writing.Paging.{one-digit, two-digits, three-digits}
 use Rattle.wc_print.proofs.digits.write_few_digits.Goals as goal
 
 pub returns-then-n-lt10-clause-bytes : goal.returns-then-n-lt10-clause-bytes

@@ -1,6 +1,6 @@
 use Rattle.std.proofs.Common.{arith}
-use Rattle.wc_print.proofs.Numbering.{number-put}
-use Rattle.wc_print.proofs.Paging.{behind-space}
+use Rattle.wc_print.proofs.Writing.Numbering.{number-put}
+use Rattle.wc_print.proofs.Writing.Paging.{behind-space}
 use Rattle.wc_print.proofs.digits.write_index.Goals as goal
 
 pub returns-clause-put : goal.returns-clause-put

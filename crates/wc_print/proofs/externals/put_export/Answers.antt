@@ -1,9 +1,9 @@
 use Rattle.std.proofs.Common.{[], ◌∷◌, refl, sym, ◌∙◌, codes}
 use Rattle.wc_tokens.specs.Standard.Lexemes.{is_idchar}
-use Rattle.wc_print.specs.Printed.{opening, closing, word, next, after, below}
-use Rattle.wc_print.specs.Layout.{kind_word}
-use Rattle.wc_print.proofs.Naming.{kind-word}
-use Rattle.wc_print.proofs.Going.{literal, text, chain}
+use Rattle.wc_print.specs.Standard.Printed.{opening, closing, word, next, after, below}
+use Rattle.wc_print.specs.Standard.Layout.{kind_word}
+use Rattle.wc_print.proofs.Reading.Naming.{kind-word}
+use Rattle.wc_print.proofs.Writing.Going.{literal, text, chain}
 use Rattle.wc_print.proofs.externals.put_export.Goals as goal
 
 pub returns : goal.returns

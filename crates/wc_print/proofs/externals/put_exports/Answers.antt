@@ -1,4 +1,4 @@
-use Rattle.wc_print.proofs.Going.{leaves-less, leaves-none}
+use Rattle.wc_print.proofs.Writing.Going.{leaves-less, leaves-none}
 use Rattle.wc_print.proofs.externals.put_exports.Goals as goal
 
 pub loop-export-preserved : goal.loop-export-preserved

@@ -1,7 +1,7 @@
 use Rattle.std.proofs.Common.{length}
 use Rattle.std.specs.List.{flat_map}
-use Rattle.wc_print.specs.Going.{Leaves}
-use Rattle.wc_print.specs.Layout.{export_items}
+use Rattle.wc_print.specs.Standard.Going.{Leaves}
+use Rattle.wc_print.specs.Standard.Layout.{export_items}
 use Rattle.wc_print.proofs.externals.put_exports.Given as goal
 
 abbrev pub invariant-loop-export : goal.invariant-loop-export

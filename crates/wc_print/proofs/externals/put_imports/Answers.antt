@@ -1,4 +1,4 @@
-use Rattle.wc_print.proofs.Going.{leaves-less, leaves-none}
+use Rattle.wc_print.proofs.Writing.Going.{leaves-less, leaves-none}
 use Rattle.wc_print.proofs.externals.put_imports.Goals as goal
 
 pub loop-import-preserved : goal.loop-import-preserved

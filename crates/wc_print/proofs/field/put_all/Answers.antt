@@ -1,6 +1,6 @@
 use Rattle.std.proofs.Common.{refl}
 use Rattle.std.specs.List.{flat_map}
-use Rattle.wc_print.proofs.Going.{each-less, each-none}
+use Rattle.wc_print.proofs.Writing.Going.{each-less, each-none}
 use Rattle.wc_print.proofs.field.put_all.Goals as goal
 
 pub loop-field-preserved : goal.loop-field-preserved

@@ -1,7 +1,7 @@
 use Rattle.std.proofs.Common.{[], ◌∷◌, codes, refl}
 use Rattle.wc_tokens.specs.Standard.Lexemes.{is_idchar}
-use Rattle.wc_print.specs.Printed.{opening, word, next, below}
-use Rattle.wc_print.proofs.Going.{chain, literal, none-behind, on-page}
+use Rattle.wc_print.specs.Standard.Printed.{opening, word, next, below}
+use Rattle.wc_print.proofs.Writing.Going.{chain, literal, none-behind, on-page}
 use Rattle.wc_print.proofs.heads.begin_func.Goals as goal
 
 pub returns-clause-put : goal.returns-clause-put

@@ -1,8 +1,8 @@
 use Rattle.std.proofs.Common.{[], ◌∷◌, codes, refl, arith}
 use Rattle.wc_tokens.specs.Standard.Lexemes.{is_idchar}
-use Rattle.wc_print.specs.Printed.{opening, closing, word, next, after, below}
-use Rattle.wc_print.proofs.Putting.{chain, literal, text}
-use Rattle.wc_print.proofs.Paging.{one-written}
+use Rattle.wc_print.specs.Standard.Printed.{opening, closing, word, next, after, below}
+use Rattle.wc_print.proofs.Writing.Putting.{chain, literal, text}
+use Rattle.wc_print.proofs.Writing.Paging.{one-written}
 use Rattle.wc_print.proofs.heads.write_head.Goals as goal
 
 pub returns-clause-put : goal.returns-clause-put

@@ -1,6 +1,6 @@
 use Rattle.wc_tokens.specs.Standard.Numbers.{decimal as is_decimal}
-use Rattle.wc_print.proofs.ReadNumbers.{Digits-decimal, Literal-signed}
-use Rattle.wc_print.proofs.ReadStrings.{IsString-escaped}
+use Rattle.wc_print.proofs.Reading.ReadNumbers.{Digits-decimal, Literal-signed}
+use Rattle.wc_print.proofs.Reading.ReadStrings.{IsString-escaped}
 use Rattle.wc_print.proofs.laws.printed_values.Goals as goal
 
 pub returns-clause-natural : goal.returns-clause-natural

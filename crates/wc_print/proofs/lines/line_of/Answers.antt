@@ -1,4 +1,4 @@
-use Rattle.wc_print.proofs.BriefTables.{line-is}
+use Rattle.wc_print.proofs.Tables.BriefTables.{line-is}
 use Rattle.wc_print.proofs.lines.line_of.Goals as goal
 
 pub returns : goal.returns

@@ -1,5 +1,5 @@
 use Rattle.std.proofs.Common.{arith}
-use Rattle.wc_print.proofs.BriefTables.{op-told}
+use Rattle.wc_print.proofs.Tables.BriefTables.{op-told}
 use Rattle.wc_print.proofs.lines.op_line.Goals as goal
 
 pub returns-clause-line : goal.returns-clause-line

@@ -1,5 +1,5 @@
 use Rattle.std.proofs.Common.{[], ap, ◌∙◌}
-use Rattle.wc_print.proofs.Whole.{text-ascii}
+use Rattle.wc_print.proofs.Writing.Whole.{text-ascii}
 use Rattle.wc_print.proofs.memory.print.Goals as goal
 
 pub from_utf8_unchecked-requires : goal.from_utf8_unchecked-requires

@@ -1,5 +1,5 @@
 use Rattle.std.proofs.Math.Facts.{to_z-of_z}
-use Rattle.wc_print.proofs.Numbering.{signed_digit-put, signed_digits-put}
+use Rattle.wc_print.proofs.Writing.Numbering.{signed_digit-put, signed_digits-put}
 use Rattle.wc_print.proofs.numbers.put_integer.Goals as goal
 
 pub returns-then-n-lt10 : goal.returns-then-n-lt10

@@ -1,4 +1,4 @@
-use Rattle.wc_print.proofs.Numbering.{digit-put, digits-put}
+use Rattle.wc_print.proofs.Writing.Numbering.{digit-put, digits-put}
 use Rattle.wc_print.proofs.numbers.put_number.Goals as goal
 
 pub returns-then-n-lt10 : goal.returns-then-n-lt10

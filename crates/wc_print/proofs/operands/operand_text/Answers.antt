@@ -1,4 +1,4 @@
-use Rattle.wc_print.proofs.BriefTables.{operand-told, operand-short}
+use Rattle.wc_print.proofs.Tables.BriefTables.{operand-told, operand-short}
 use Rattle.wc_print.proofs.operands.operand_text.Goals as goal
 
 pub returns-clause-text : goal.returns-clause-text

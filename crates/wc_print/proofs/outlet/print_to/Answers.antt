@@ -1,7 +1,7 @@
 use Rattle.std.proofs.Common.{◌∙◌, [], refl, rules}
-use Rattle.wc_print.specs.Printed.{text}
-use Rattle.wc_print.specs.Layout.{layout}
-use Rattle.wc_print.proofs.Flowing.{begun}
+use Rattle.wc_print.specs.Standard.Printed.{text}
+use Rattle.wc_print.specs.Standard.Layout.{layout}
+use Rattle.wc_print.proofs.Writing.Flowing.{begun}
 use Rattle.wc_print.proofs.outlet.print_to.Goals as goal
 
 pub returns-clause-sends : goal.returns-clause-sends

@@ -1,5 +1,5 @@
 use Rattle.std.proofs.Common.{◌∙◌, sym}
-use Rattle.wc_print.proofs.Flowing.{asked-last, asked-on, cut-off, lost, sent-on}
+use Rattle.wc_print.proofs.Writing.Flowing.{asked-last, asked-on, cut-off, lost, sent-on}
 use Rattle.wc_print.proofs.outlet.send_behind.Goals as goal
 
 pub returns-in-Ok-clause-flows : goal.returns-in-Ok-clause-flows

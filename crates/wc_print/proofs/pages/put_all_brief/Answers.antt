@@ -1,5 +1,5 @@
 use Rattle.std.proofs.Common.{ap, arith, rules, length}
-use Rattle.wc_print.proofs.Going.{leaves-less, leaves-same, on-page}
+use Rattle.wc_print.proofs.Writing.Going.{leaves-less, leaves-same, on-page}
 use Rattle.wc_print.proofs.pages.put_all_brief.Goals as goal
 
 pub loop-brief-preserved : goal.loop-brief-preserved

@@ -1,6 +1,6 @@
 use Rattle.std.proofs.Common.{◌≡◌, ◌+◌, ◌≤◌, length, take}
-use Rattle.wc_print.specs.Going.{Behind}
-use Rattle.wc_print.specs.Inner.Places.{LeavesLines}
+use Rattle.wc_print.specs.Standard.Going.{Behind}
+use Rattle.wc_print.specs.Writing.Places.{LeavesLines}
 use Rattle.wc_print.proofs.pages.put_all_brief.Given as goal
 
 abbrev pub invariant-loop-brief : goal.invariant-loop-brief

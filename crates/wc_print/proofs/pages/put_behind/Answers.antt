@@ -1,4 +1,4 @@
-use Rattle.wc_print.proofs.Going.{chain, none-behind, page-out}
+use Rattle.wc_print.proofs.Writing.Going.{chain, none-behind, page-out}
 use Rattle.wc_print.proofs.pages.put_behind.Goals as goal
 
 pub returns : goal.returns

@@ -1,7 +1,7 @@
 use Rattle.std.proofs.Common.{[], ◌∷◌, refl, rules}
-use Rattle.wc_print.specs.Printed.{closing, below}
-use Rattle.wc_print.proofs.Putting.{text}
-use Rattle.wc_print.proofs.Going.{chain, leaves-less, leaves-none, leaves-same, leaves-then, on-page, then-out}
+use Rattle.wc_print.specs.Standard.Printed.{closing, below}
+use Rattle.wc_print.proofs.Writing.Putting.{text}
+use Rattle.wc_print.proofs.Writing.Going.{chain, leaves-less, leaves-none, leaves-same, leaves-then, on-page, then-out}
 use Rattle.wc_print.proofs.pages.put_lines.Goals as goal
 
 pub loop-entry-preserved : goal.loop-entry-preserved

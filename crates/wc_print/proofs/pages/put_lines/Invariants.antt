@@ -1,7 +1,7 @@
 use Rattle.std.proofs.Common.{◌≡◌, ◌+◌, ◌≤◌, length, take}
 use Rattle.wc_body.specs.Standard.Nested.{flatten}
-use Rattle.wc_print.specs.Going.{Behind}
-use Rattle.wc_print.specs.Inner.Places.{LeavesLines}
+use Rattle.wc_print.specs.Standard.Going.{Behind}
+use Rattle.wc_print.specs.Writing.Places.{LeavesLines}
 use Rattle.wc_print.proofs.pages.put_lines.Given as goal
 
 abbrev pub invariant-loop-entry : goal.invariant-loop-entry

@@ -1,4 +1,4 @@
-use Rattle.wc_print.proofs.Going.{nothing, page-out}
+use Rattle.wc_print.proofs.Writing.Going.{nothing, page-out}
 use Rattle.wc_print.proofs.pages.turn.Goals as goal
 
 pub returns-clause-same : goal.returns-clause-same

@@ -1,4 +1,4 @@
-use Rattle.wc_print.proofs.BriefLines.{brief-put}
+use Rattle.wc_print.proofs.Tables.BriefLines.{brief-put}
 use Rattle.wc_print.proofs.pages.write_brief.Goals as goal
 
 pub returns-clause-put : goal.returns-clause-put

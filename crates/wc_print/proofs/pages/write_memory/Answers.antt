@@ -1,9 +1,9 @@
 use Rattle.std.proofs.Common.{arith}
 use Rattle.wc_ops.specs.Standard.Opcodes.{memory}
-use Rattle.wc_print.specs.Printed.{word}
-use Rattle.wc_print.proofs.Naming.{memory-word}
-use Rattle.wc_print.proofs.Putting.{chain}
-use Rattle.wc_print.proofs.Paging.{line-put, offset-some}
+use Rattle.wc_print.specs.Standard.Printed.{word}
+use Rattle.wc_print.proofs.Reading.Naming.{memory-word}
+use Rattle.wc_print.proofs.Writing.Putting.{chain}
+use Rattle.wc_print.proofs.Writing.Paging.{line-put, offset-some}
 use Rattle.wc_print.proofs.pages.write_memory.Goals as goal
 
 pub returns-clause-put : goal.returns-clause-put

@@ -1,5 +1,5 @@
 use Rattle.std.proofs.Common.{arith}
-use Rattle.wc_print.proofs.Paging.{row-kept}
+use Rattle.wc_print.proofs.Writing.Paging.{row-kept}
 use Rattle.wc_print.proofs.pages.write_text.Goals as goal
 
 pub returns-clause-bytes : goal.returns-clause-bytes

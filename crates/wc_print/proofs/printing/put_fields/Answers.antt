@@ -1,4 +1,4 @@
-use Rattle.wc_print.proofs.Going.{chain}
+use Rattle.wc_print.proofs.Writing.Going.{chain}
 use Rattle.wc_print.proofs.printing.put_fields.Goals as goal
 
 pub returns : goal.returns

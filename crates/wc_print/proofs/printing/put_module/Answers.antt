@@ -1,4 +1,4 @@
-use Rattle.wc_print.proofs.Whole.{layout-printable, whole}
+use Rattle.wc_print.proofs.Writing.Whole.{layout-printable, whole}
 use Rattle.wc_print.proofs.printing.put_module.Goals as goal
 
 pub returns-clause-layout : goal.returns-clause-layout

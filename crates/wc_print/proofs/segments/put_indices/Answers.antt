@@ -1,7 +1,7 @@
 use Rattle.std.proofs.Common.{[], ◌∷◌, refl}
-use Rattle.wc_print.specs.Printed.{number, after}
-use Rattle.wc_print.specs.Lines.{number_items}
-use Rattle.wc_print.proofs.Going.{each-less, each-none}
+use Rattle.wc_print.specs.Standard.Printed.{number, after}
+use Rattle.wc_print.specs.Standard.Lines.{number_items}
+use Rattle.wc_print.proofs.Writing.Going.{each-less, each-none}
 use Rattle.wc_print.proofs.segments.put_indices.Goals as goal
 
 pub loop-index-preserved : goal.loop-index-preserved

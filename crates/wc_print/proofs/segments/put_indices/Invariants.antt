@@ -1,6 +1,6 @@
 use Rattle.std.proofs.Common.{drop}
-use Rattle.wc_print.specs.Lines.{number_items}
-use Rattle.wc_print.specs.Going.{Leaves}
+use Rattle.wc_print.specs.Standard.Lines.{number_items}
+use Rattle.wc_print.specs.Standard.Going.{Leaves}
 use Rattle.wc_print.proofs.segments.put_indices.Given as goal
 
 abbrev pub invariant-loop-index : goal.invariant-loop-index

@@ -1,4 +1,4 @@
-use Rattle.wc_print.proofs.Going.{written}
+use Rattle.wc_print.proofs.Writing.Going.{written}
 use Rattle.wc_print.proofs.short.put_short_import.Goals as goal
 
 pub returns : goal.returns

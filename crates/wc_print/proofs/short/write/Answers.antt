@@ -1,5 +1,5 @@
 use Rattle.std.proofs.Common.{arith, refl}
-use Rattle.wc_print.proofs.Paging.{all-kept}
+use Rattle.wc_print.proofs.Writing.Paging.{all-kept}
 use Rattle.wc_print.proofs.short.write.Goals as goal
 
 pub returns-clause-bytes : goal.returns-clause-bytes

@@ -1,7 +1,7 @@
 use Rattle.std.proofs.Common.{[], ◌∷◌, codes, refl}
 use Rattle.wc_tokens.specs.Standard.Lexemes.{is_idchar}
-use Rattle.wc_print.specs.Printed.{opening, closing, word, next, after, below}
-use Rattle.wc_print.proofs.Putting.{chain, literal}
+use Rattle.wc_print.specs.Standard.Printed.{opening, closing, word, next, after, below}
+use Rattle.wc_print.proofs.Writing.Putting.{chain, literal}
 use Rattle.wc_print.proofs.short.write_import.Goals as goal
 
 pub returns-clause-put : goal.returns-clause-put

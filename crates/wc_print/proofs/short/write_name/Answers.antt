@@ -1,4 +1,4 @@
-use Rattle.wc_print.proofs.Stringing.{plain-put}
+use Rattle.wc_print.proofs.Writing.Stringing.{plain-put}
 use Rattle.wc_print.proofs.short.write_name.Goals as goal
 
 pub returns-clause-put : goal.returns-clause-put

@@ -1,5 +1,5 @@
 use Rattle.std.proofs.Common.{◌≡◌, ℕ, ◌<◌, true, IsTrue, get_or}
-use Rattle.wc_print.specs.Printed.{stands}
+use Rattle.wc_print.specs.Standard.Printed.{stands}
 use Rattle.wc_print.proofs.strings.all_stand.Given as goal
 
 abbrev pub invariant-loop-byte : goal.invariant-loop-byte

@@ -1,5 +1,5 @@
 use Rattle.std.proofs.Common.{arith}
-use Rattle.wc_print.proofs.Stringing.{ends-stand}
+use Rattle.wc_print.proofs.Writing.Stringing.{ends-stand}
 use Rattle.wc_print.proofs.strings.ends_stand.Goals as goal
 
 pub returns-then-all_stand : goal.returns-then-all_stand

@@ -1,5 +1,5 @@
 use Rattle.std.proofs.Common.{◌∙◌, sym}
-use Rattle.wc_print.proofs.Stringing.{as-themselves, leaves-behind}
+use Rattle.wc_print.proofs.Writing.Stringing.{as-themselves, leaves-behind}
 use Rattle.wc_print.proofs.strings.put_standing.Goals as goal
 
 pub returns : goal.returns

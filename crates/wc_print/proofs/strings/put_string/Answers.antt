@@ -1,6 +1,6 @@
 use Rattle.std.proofs.Common.{arith}
 use Rattle.std.proofs.lemmas.Bool.Decides.{nat_tests}
-use Rattle.wc_print.proofs.Stringing.{string-put}
+use Rattle.wc_print.proofs.Writing.Stringing.{string-put}
 use Rattle.wc_print.proofs.strings.put_string.Goals as goal
 
 pub returns : goal.returns

@@ -1,5 +1,5 @@
 use Rattle.std.proofs.Common.{length}
-use Rattle.wc_print.specs.Going.{LeavesEscaped}
+use Rattle.wc_print.specs.Standard.Going.{LeavesEscaped}
 use Rattle.wc_print.proofs.strings.put_string.Given as goal
 
 abbrev pub invariant-loop-rest : goal.invariant-loop-rest

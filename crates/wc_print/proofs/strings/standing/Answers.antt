@@ -1,4 +1,4 @@
-use Rattle.wc_print.proofs.Stringing.{stand-rest}
+use Rattle.wc_print.proofs.Writing.Stringing.{stand-rest}
 use Rattle.wc_print.proofs.strings.standing.Goals as goal
 
 pub returns-then-all_stand-clause-stand : goal.returns-then-all_stand-clause-stand

@@ -1,5 +1,5 @@
 use Rattle.std.proofs.Common.{arith}
-use Rattle.wc_print.proofs.Stringing.{stand-more}
+use Rattle.wc_print.proofs.Writing.Stringing.{stand-more}
 use Rattle.wc_print.proofs.strings.standing_chunks.Goals as goal
 
 pub loop-at-preserved : goal.loop-at-preserved

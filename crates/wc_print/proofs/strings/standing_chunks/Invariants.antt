@@ -1,5 +1,5 @@
 use Rattle.std.proofs.Common.{◌≡◌, ℕ, ◌-◌, ◌<◌, ◌≤◌, true, length, get_or}
-use Rattle.wc_print.specs.Printed.{stands}
+use Rattle.wc_print.specs.Standard.Printed.{stands}
 use Rattle.wc_print.proofs.strings.standing_chunks.Given as goal
 
 abbrev pub invariant-loop-at : goal.invariant-loop-at

@@ -1,5 +1,5 @@
 use Rattle.std.proofs.Common.{◌+◌, ◌≤◌, ◌∙◌, ap, ◌++◌, length, take, arith, refl}
-use Rattle.wc_print.proofs.EscapeTable.{escape-told, escape-short, escape-sized, row-written}
+use Rattle.wc_print.proofs.Tables.EscapeTable.{escape-told, escape-short, escape-sized, row-written}
 use Rattle.wc_print.proofs.strings.write_byte.Goals as goal
 
 pub returns-clause-within : goal.returns-clause-within

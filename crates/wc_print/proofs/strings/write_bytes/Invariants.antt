@@ -1,6 +1,6 @@
 use Rattle.std.proofs.Common.{◌≡◌, ◌*◌, ◌≤◌, length, take}
 use Rattle.std.specs.List.{flat_map}
-use Rattle.wc_print.specs.Printed.{escaped}
+use Rattle.wc_print.specs.Standard.Printed.{escaped}
 use Rattle.wc_print.proofs.strings.write_bytes.Given as goal
 
 abbrev pub invariant-loop-byte : goal.invariant-loop-byte

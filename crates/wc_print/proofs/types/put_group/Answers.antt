@@ -1,4 +1,4 @@
-use Rattle.wc_print.proofs.Values.{count-less, count-none}
+use Rattle.wc_print.proofs.Writing.Values.{count-less, count-none}
 use Rattle.wc_print.proofs.types.put_group.Goals as goal
 
 pub loop-left-preserved : goal.loop-left-preserved

@@ -1,6 +1,6 @@
 use Rattle.std.proofs.Common.{map, replicate}
-use Rattle.wc_print.specs.Lines.{type_item}
-use Rattle.wc_print.specs.Going.{Leaves}
+use Rattle.wc_print.specs.Standard.Lines.{type_item}
+use Rattle.wc_print.specs.Standard.Going.{Leaves}
 use Rattle.wc_print.proofs.types.put_group.Given as goal
 
 abbrev pub invariant-loop-left : goal.invariant-loop-left

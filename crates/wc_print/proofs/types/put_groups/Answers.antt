@@ -1,8 +1,8 @@
 use Rattle.std.proofs.Common.{map, replicate, refl}
 use Rattle.wc_ast.specs.Standard.LocalGroups.{written_out}
-use Rattle.wc_print.specs.Lines.{type_item}
-use Rattle.wc_print.proofs.Going.{each-less, each-none}
-use Rattle.wc_print.proofs.Values.{map-written}
+use Rattle.wc_print.specs.Standard.Lines.{type_item}
+use Rattle.wc_print.proofs.Writing.Going.{each-less, each-none}
+use Rattle.wc_print.proofs.Writing.Values.{map-written}
 use Rattle.wc_print.proofs.types.put_groups.Goals as goal
 
 pub loop-group-preserved : goal.loop-group-preserved

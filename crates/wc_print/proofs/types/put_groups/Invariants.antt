@@ -1,8 +1,8 @@
 use Rattle.std.proofs.Common.{drop}
 use Rattle.std.specs.Prelude.{map}
 use Rattle.wc_ast.specs.Standard.LocalGroups.{written_out}
-use Rattle.wc_print.specs.Lines.{type_item}
-use Rattle.wc_print.specs.Going.{Leaves}
+use Rattle.wc_print.specs.Standard.Lines.{type_item}
+use Rattle.wc_print.specs.Standard.Going.{Leaves}
 use Rattle.wc_print.proofs.types.put_groups.Given as goal
 
 abbrev pub invariant-loop-group : goal.invariant-loop-group

@@ -1,6 +1,6 @@
 use Rattle.std.proofs.Common.{refl, codes}
 use Rattle.wc_tokens.specs.Standard.Lexemes.{is_idchar}
-use Rattle.wc_print.proofs.Values.{values-put, not-zero}
+use Rattle.wc_print.proofs.Writing.Values.{values-put, not-zero}
 use Rattle.wc_print.proofs.types.put_locals.Goals as goal
 
 pub returns : goal.returns

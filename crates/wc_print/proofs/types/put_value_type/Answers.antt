@@ -1,7 +1,7 @@
 use Rattle.std.proofs.Common.{[], ◌∷◌, ◌∙◌}
-use Rattle.wc_print.specs.Lines.{type_item}
-use Rattle.wc_print.proofs.Going.{text}
-use Rattle.wc_print.proofs.Naming.{type-spelled}
+use Rattle.wc_print.specs.Standard.Lines.{type_item}
+use Rattle.wc_print.proofs.Writing.Going.{text}
+use Rattle.wc_print.proofs.Reading.Naming.{type-spelled}
 use Rattle.wc_print.proofs.types.put_value_type.Goals as goal
 
 pub returns : goal.returns

@@ -1,7 +1,7 @@
 use Rattle.std.proofs.Common.{[], ◌∷◌, map, refl, ◌∙◌}
-use Rattle.wc_print.specs.Lines.{type_item}
-use Rattle.wc_print.proofs.Going.{each-less, each-none}
-use Rattle.wc_print.proofs.Values.{values-put, not-empty}
+use Rattle.wc_print.specs.Standard.Lines.{type_item}
+use Rattle.wc_print.proofs.Writing.Going.{each-less, each-none}
+use Rattle.wc_print.proofs.Writing.Values.{values-put, not-empty}
 use Rattle.wc_print.proofs.types.put_values.Goals as goal
 
 pub loop-value_type-preserved : goal.loop-value_type-preserved

@@ -1,7 +1,7 @@
 use Rattle.std.proofs.Common.{drop}
 use Rattle.std.specs.Prelude.{map}
-use Rattle.wc_print.specs.Lines.{type_item}
-use Rattle.wc_print.specs.Going.{Leaves}
+use Rattle.wc_print.specs.Standard.Lines.{type_item}
+use Rattle.wc_print.specs.Standard.Going.{Leaves}
 use Rattle.wc_print.proofs.types.put_values.Given as goal
 
 abbrev pub invariant-loop-value_type : goal.invariant-loop-value_type

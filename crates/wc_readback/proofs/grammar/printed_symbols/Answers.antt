@@ -1,7 +1,7 @@
 use Rattle.std.proofs.Common.{arith, length}
 use Rattle.wc_body.specs.Standard.Nested.{nesting_limit}
-use Rattle.wc_print.specs.Printed.{text}
-use Rattle.wc_print.specs.Layout.{layout}
+use Rattle.wc_print.specs.Standard.Printed.{text}
+use Rattle.wc_print.specs.Standard.Layout.{layout}
 use Rattle.wc_readback.specs.Grammar.FieldSigns.{signs}
 use Rattle.wc_readback.proofs.GrammarLemmas.Modules.{module-means}
 use Rattle.wc_readback.proofs.GrammarLemmas.Same.{whole}

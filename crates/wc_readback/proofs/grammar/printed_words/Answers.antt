@@ -1,6 +1,6 @@
 use Rattle.std.proofs.Common.{length, refl}
-use Rattle.wc_print.specs.Printed.{text, lexemes}
-use Rattle.wc_print.specs.Layout.{layout}
+use Rattle.wc_print.specs.Standard.Printed.{text, lexemes}
+use Rattle.wc_print.specs.Standard.Layout.{layout}
 use Rattle.wc_readback.specs.Grammar.FieldSigns.{signs}
 use Rattle.wc_readback.specs.Grammar.Kept.{symbols}
 use Rattle.wc_readback.proofs.GrammarLemmas.Same.{whole}

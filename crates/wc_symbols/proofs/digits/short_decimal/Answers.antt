@@ -1,5 +1,5 @@
 use Rattle.std.proofs.Common.{get_or, arith, refl}
-use Rattle.wc_symbols.proofs.DigitLemmas.{Short-more, Short-whole}
+use Rattle.wc_symbols.proofs.Spelling.DigitLemmas.{Short-more, Short-whole}
 use Rattle.wc_symbols.proofs.digits.short_decimal.Goals as goal
 
 pub loop-byte-preserved : goal.loop-byte-preserved

@@ -1,5 +1,5 @@
 use Rattle.std.proofs.Common.{length, ◌≤◌, ◌<◌}
-use Rattle.wc_symbols.proofs.DigitLemmas.{Short}
+use Rattle.wc_symbols.proofs.Spelling.DigitLemmas.{Short}
 use Rattle.wc_symbols.proofs.digits.short_decimal.Given as goal
 
 -- the digits so far spell the value

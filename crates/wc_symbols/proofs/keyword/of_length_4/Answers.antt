@@ -1,6 +1,6 @@
 -- Each arm's word is its keyword.
 use Rattle.std.proofs.Common.{refl}
-use Rattle.wc_symbols.proofs.KeywordLemmas.{is_keyword}
+use Rattle.wc_symbols.proofs.Spelling.KeywordLemmas.{is_keyword}
 use Rattle.wc_symbols.proofs.keyword.of_length_4.Goals as goal
 
 pub returns-in-then : goal.returns-in-then

@@ -1,5 +1,5 @@
 -- Each arm's word is its type's name.
-use Rattle.wc_symbols.proofs.KeywordLemmas.{is_i32, is_i64}
+use Rattle.wc_symbols.proofs.Spelling.KeywordLemmas.{is_i32, is_i64}
 use Rattle.wc_symbols.proofs.keyword.type_named.Goals as goal
 
 pub returns-in-i32 : goal.returns-in-i32

@@ -1,4 +1,4 @@
-use Rattle.wc_symbols.proofs.SomeSymbols.{some-symbol, some-lexes}
+use Rattle.wc_symbols.proofs.SomeValue.SomeSymbols.{some-symbol, some-lexes}
 use Rattle.wc_symbols.proofs.law.some_symbol.Goals as goal
 
 pub returns-clause-token : goal.returns-clause-token

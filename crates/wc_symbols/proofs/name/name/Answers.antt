@@ -1,6 +1,6 @@
 use Rattle.std.proofs.Common.{inl}
-use Rattle.wc_symbols.specs.Names.{keyword_is}
-use Rattle.wc_symbols.proofs.NameLemmas.{name-known, name-float, name-none}
+use Rattle.wc_symbols.specs.Standard.Names.{keyword_is}
+use Rattle.wc_symbols.proofs.Spelling.NameLemmas.{name-known, name-float, name-none}
 use Rattle.wc_symbols.proofs.name.name.Goals as goal
 
 pub returns-in-Some : goal.returns-in-Some

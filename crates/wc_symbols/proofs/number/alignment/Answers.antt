@@ -1,4 +1,4 @@
-use Rattle.wc_symbols.proofs.NumberLemmas.{align-power, align-none, align-range, align-form}
+use Rattle.wc_symbols.proofs.Spelling.NumberLemmas.{align-power, align-none, align-range, align-form}
 use Rattle.wc_symbols.proofs.number.alignment.Goals as goal
 
 pub returns-in-Some : goal.returns-in-Some

@@ -1,5 +1,5 @@
 use Rattle.std.proofs.Common.{arith}
-use Rattle.wc_symbols.proofs.NumberLemmas.{no-power-before}
+use Rattle.wc_symbols.proofs.Spelling.NumberLemmas.{no-power-before}
 use Rattle.wc_symbols.proofs.number.exponent_of.Goals as goal
 
 pub returns : goal.returns

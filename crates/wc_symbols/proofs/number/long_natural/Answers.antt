@@ -1,5 +1,5 @@
 use Rattle.std.proofs.Common.{refl, arith}
-use Rattle.wc_symbols.proofs.NumberLemmas.{natural-32, natural-64, natural-above, natural-none}
+use Rattle.wc_symbols.proofs.Spelling.NumberLemmas.{natural-32, natural-64, natural-above, natural-none}
 use Rattle.wc_symbols.proofs.number.long_natural.Goals as goal
 
 pub returns-in-Value : goal.returns-in-Value

@@ -1,5 +1,5 @@
 use Rattle.std.proofs.Common.{refl, arith, inl, inr}
-use Rattle.wc_symbols.proofs.NumberLemmas.{signed-32, signed-64, signed-beyond, signed-none}
+use Rattle.wc_symbols.proofs.Spelling.NumberLemmas.{signed-32, signed-64, signed-beyond, signed-none}
 use Rattle.wc_symbols.proofs.number.long_signed.Goals as goal
 
 pub returns-in-Value : goal.returns-in-Value

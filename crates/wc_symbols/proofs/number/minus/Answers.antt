@@ -1,5 +1,5 @@
 use Rattle.std.proofs.Common.{arith}
-use Rattle.wc_symbols.proofs.NumberLemmas.{short-minus, tail-is, wrapped}
+use Rattle.wc_symbols.proofs.Spelling.NumberLemmas.{short-minus, tail-is, wrapped}
 use Rattle.wc_symbols.proofs.number.minus.Goals as goal
 
 pub returns-in-Some : goal.returns-in-Some

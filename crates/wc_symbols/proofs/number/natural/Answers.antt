@@ -1,6 +1,6 @@
 use Rattle.std.proofs.Common.{arith}
 use Rattle.wc_tokens.specs.Standard.Numbers.{decimal}
-use Rattle.wc_symbols.proofs.NumberLemmas.{natural-32}
+use Rattle.wc_symbols.proofs.Spelling.NumberLemmas.{natural-32}
 use Rattle.wc_symbols.proofs.number.natural.Goals as goal
 
 pub returns-in-Some : goal.returns-in-Some

@@ -1,4 +1,4 @@
-use Rattle.wc_symbols.proofs.NumberLemmas.{offset-number, offset-range, offset-form}
+use Rattle.wc_symbols.proofs.Spelling.NumberLemmas.{offset-number, offset-range, offset-form}
 use Rattle.wc_symbols.proofs.number.offset.Goals as goal
 
 pub returns-in-Value : goal.returns-in-Value

@@ -1,4 +1,4 @@
-use Rattle.wc_symbols.proofs.NumberLemmas.{short-plus, tail-is}
+use Rattle.wc_symbols.proofs.Spelling.NumberLemmas.{short-plus, tail-is}
 use Rattle.wc_symbols.proofs.number.plus.Goals as goal
 
 pub returns-in-Some : goal.returns-in-Some

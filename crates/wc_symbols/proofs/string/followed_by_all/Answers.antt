@@ -1,6 +1,6 @@
 use Rattle.std.proofs.Common.{ℕ, List, [], ◌∷◌, ◌++◌, take, get_or, sym, ap, ◌∙◌, subst, append_assoc, arith}
 use Rattle.std.proofs.lemmas.List.{take_more, take_all}
-use Rattle.wc_symbols.specs.Inner.Reading.{Tracks}
+use Rattle.wc_symbols.specs.Reading.Utf8.{Tracks}
 use Rattle.wc_symbols.proofs.string.followed_by_all.Goals as goal
 
 pub loop-byte-preserved : goal.loop-byte-preserved

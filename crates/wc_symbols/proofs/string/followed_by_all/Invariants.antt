@@ -1,5 +1,5 @@
 use Rattle.std.proofs.Common.{ℕ, List, ◌++◌, take}
-use Rattle.wc_symbols.specs.Inner.Reading.{Tracks}
+use Rattle.wc_symbols.specs.Reading.Utf8.{Tracks}
 use Rattle.wc_symbols.proofs.string.followed_by_all.Given as goal
 
 -- the bytes so far were read too

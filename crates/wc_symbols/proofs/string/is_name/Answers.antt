@@ -1,6 +1,6 @@
 use Rattle.std.proofs.Common.{refl, sym, ◌∙◌, ap, ◌==◌}
 use Rattle.std.specs.List.{list_any}
-use Rattle.wc_symbols.proofs.StringLemmas.{plain-name}
+use Rattle.wc_symbols.proofs.Spelling.StringLemmas.{plain-name}
 use Rattle.wc_symbols.proofs.string.is_name.Goals as goal
 
 pub returns-then-not-contains : goal.returns-then-not-contains

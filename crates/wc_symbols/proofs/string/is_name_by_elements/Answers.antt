@@ -2,8 +2,8 @@ use Rattle.std.proofs.Common.{◌≡◌, ℕ, List, [], ◌++◌, Bool, true, fa
 use Rattle.wc_tokens.specs.Reading.Elements.{first_element, bytes_of}
 use Rattle.wc_tokens.proofs.Escapes.ElementLaws.{IsBegun-more, read_element-shorter}
 use Rattle.wc_tokens.proofs.Escapes.StringLaws.{IsBegun-quote, IsBegun-end}
-use Rattle.wc_symbols.proofs.StringLemmas.{broken-front}
-use Rattle.wc_symbols.proofs.Utf8Lemmas.{broken-none}
+use Rattle.wc_symbols.proofs.Spelling.StringLemmas.{broken-front}
+use Rattle.wc_symbols.proofs.Spelling.Utf8Lemmas.{broken-none}
 use Rattle.wc_symbols.proofs.string.is_name_by_elements.Goals as goal
 
 pub loop-element-init : goal.loop-element-init

@@ -1,6 +1,6 @@
 use Rattle.std.proofs.Common.{◌≡◌, ℕ, List, ◌∷◌, ◌++◌, length}
 use Rattle.wc_tokens.specs.Standard.Strings.{Elements}
-use Rattle.wc_symbols.specs.Inner.Reading.{Tracks}
+use Rattle.wc_symbols.specs.Reading.Utf8.{Tracks}
 use Rattle.wc_symbols.proofs.string.is_name_by_elements.Given as goal
 
 -- behind the quote stand elements of the bytes that were read, and then what is left

@@ -1,4 +1,4 @@
-use Rattle.wc_symbols.proofs.StringLemmas.{string-name, string-text}
+use Rattle.wc_symbols.proofs.Spelling.StringLemmas.{string-name, string-text}
 use Rattle.wc_symbols.proofs.string.string.Goals as goal
 
 pub returns-then-is_name : goal.returns-then-is_name

@@ -1,6 +1,6 @@
 use Rattle.std.proofs.Common.{◌∙◌, sym, ap, ◌==◌}
 use Rattle.std.specs.List.{list_any}
-use Rattle.wc_symbols.proofs.StringLemmas.{plain-string}
+use Rattle.wc_symbols.proofs.Spelling.StringLemmas.{plain-string}
 use Rattle.wc_symbols.proofs.string_values.plain_part.Goals as goal
 
 pub returns : goal.returns

@@ -1,7 +1,7 @@
 use Rattle.std.proofs.Common.{◌≡◌, refl, sym, subst, IsUtf8, string_bytes}
 use Rattle.std.proofs.lemmas.Str.{IsUtf8-string_bytes}
-use Rattle.wc_symbols.specs.Strings.{bytes_in}
-use Rattle.wc_symbols.specs.Tokens.{name, no_name}
+use Rattle.wc_symbols.specs.Standard.Strings.{bytes_in}
+use Rattle.wc_symbols.specs.Standard.Tokens.{name, no_name}
 use Rattle.wc_symbols.proofs.string_values.symbol_of_string.Goals as goal
 
 pub returns-in-Plain : goal.returns-in-Plain

@@ -1,5 +1,5 @@
-use Rattle.wc_symbols.proofs.StringLemmas.{StringIs-same}
-use Rattle.wc_symbols.proofs.SameSymbols.{WordIs-same}
+use Rattle.wc_symbols.proofs.Spelling.StringLemmas.{StringIs-same}
+use Rattle.wc_symbols.proofs.OneValue.SameSymbols.{WordIs-same}
 use Rattle.wc_symbols.proofs.RangeLemmas.{fits-StringIs, fits-WordIs}
 use Rattle.wc_symbols.proofs.token.symbol_of.Goals as goal
 

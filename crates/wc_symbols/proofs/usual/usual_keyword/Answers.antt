@@ -1,8 +1,8 @@
 use Rattle.std.proofs.Common.{List, ℕ, Option, Some, None, MatchOption, IfSome}
 use Rattle.wc_syntax.specs.declared.kind.Kind.{Kind}
-use Rattle.wc_symbols.specs.Names.{KeywordIs, keyword_is}
-use Rattle.wc_symbols.specs.Symbols.{bare}
-use Rattle.wc_symbols.specs.Words.{WordIs, known, name}
+use Rattle.wc_symbols.specs.Standard.Names.{KeywordIs, keyword_is}
+use Rattle.wc_symbols.specs.Standard.Symbols.{bare}
+use Rattle.wc_symbols.specs.Standard.Words.{WordIs, known, name}
 use Rattle.wc_symbols.proofs.usual.usual_keyword.Goals as goal
 
 says : (word : List ℕ) (found : Option Kind)

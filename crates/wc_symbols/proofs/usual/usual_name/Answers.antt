@@ -2,9 +2,9 @@ use Rattle.std.proofs.Common.{List, ℕ, Option, Some, None, IfSome, refl}
 use Rattle.wc_ops.specs.declared.op.Op.{Op}
 use Rattle.wc_ops.specs.Standard.NameMeaning.{IsNamed}
 use Rattle.wc_symbols.specs.declared.symbol.Value.TheVariants.{Instruction}
-use Rattle.wc_symbols.specs.Names.{instruction, op_kind}
-use Rattle.wc_symbols.specs.Symbols.{valued}
-use Rattle.wc_symbols.specs.Words.{WordIs, known, name}
+use Rattle.wc_symbols.specs.Standard.Names.{instruction, op_kind}
+use Rattle.wc_symbols.specs.Standard.Symbols.{valued}
+use Rattle.wc_symbols.specs.Standard.Words.{WordIs, known, name}
 use Rattle.wc_symbols.proofs.usual.usual_name.Goals as goal
 
 says : (word : List ℕ) (found : Option Op) → IsNamed word found

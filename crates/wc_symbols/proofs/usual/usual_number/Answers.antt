@@ -3,9 +3,9 @@ use Rattle.wc_tokens.specs.Standard.Digits.{Digits}
 use Rattle.wc_tokens.specs.Standard.Numbers.{decimal}
 use Rattle.wc_syntax.specs.declared.kind.Kind.TheVariants as kind
 use Rattle.wc_symbols.specs.declared.symbol.Value.TheVariants.{Number}
-use Rattle.wc_symbols.specs.Numbers.{below_32}
-use Rattle.wc_symbols.specs.Symbols.{valued}
-use Rattle.wc_symbols.specs.Words.{WordIs, known, natural}
+use Rattle.wc_symbols.specs.Standard.Numbers.{below_32}
+use Rattle.wc_symbols.specs.Standard.Symbols.{valued}
+use Rattle.wc_symbols.specs.Standard.Words.{WordIs, known, natural}
 use Rattle.wc_symbols.proofs.usual.usual_number.Goals as goal
 
 says : (text : List ℕ) (found : Option ℕ) → IfSome found (λ n. Digits 10 text n × (n < 10 ^ 9))

@@ -1,5 +1,5 @@
 use Rattle.std.proofs.Common.{sym, ◌∙◌}
-use Rattle.wc_symbols.proofs.Utf8Lemmas.{tracks-broken, tracks-refused, tracks-more}
+use Rattle.wc_symbols.proofs.Spelling.Utf8Lemmas.{tracks-broken, tracks-refused, tracks-more}
 use Rattle.wc_symbols.proofs.utf8.followed.Goals as goal
 
 pub returns-in-Some : goal.returns-in-Some

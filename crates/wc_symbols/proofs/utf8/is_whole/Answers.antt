@@ -1,5 +1,5 @@
 use Rattle.std.proofs.Common.{◌≡◌, Bool, true, false}
-use Rattle.wc_symbols.proofs.Utf8Lemmas.{whole-none, whole-some}
+use Rattle.wc_symbols.proofs.Spelling.Utf8Lemmas.{whole-none, whole-some}
 use Rattle.wc_symbols.proofs.utf8.is_whole.Goals as goal
 
 pub returns-in-Some : goal.returns-in-Some

@@ -1,6 +1,6 @@
 use Rattle.std.proofs.Common.{sym, inl}
 use Rattle.wc_symbols.specs.declared.shape.Shape.TheVariants as shape
-use Rattle.wc_symbols.proofs.WordLemmas.{word-is, offset-begins, align-begins, behind-offset, behind-align}
+use Rattle.wc_symbols.proofs.Spelling.WordLemmas.{word-is, offset-begins, align-begins, behind-offset, behind-align}
 use Rattle.wc_symbols.proofs.word.word.Goals as goal
 
 pub range_from-requires : goal.range_from-requires

@@ -5,8 +5,8 @@ use Rattle.std.proofs.lemmas.Result.{err_from_is_err_and}
 use Rattle.wc_syntax.specs.declared.kind.Kind.{Kind}
 use Rattle.wc_syntax.specs.declared.refusal.Refusal.{Refusal}
 use Rattle.wc_syntax.specs.declared.why.SynWhy.{SynWhy}
-use Rattle.wc_syntax.specs.Parsing.{IsRefusal}
-use Rattle.wc_syntax.specs.Reasons.{FirstFault}
+use Rattle.wc_syntax.specs.Standard.Parsing.{IsRefusal}
+use Rattle.wc_syntax.specs.Standard.Reasons.{FirstFault}
 use Rattle.wc_syntax.proofs.kept.kept_or_refusal.Goals as goal
 
 -- a refusal behind the first tokens is one of all of them

@@ -1,6 +1,6 @@
 use Rattle.std.proofs.Common.{◌≤◌, ◌-◌, length, take}
-use Rattle.wc_syntax.specs.Parsing.{events}
-use Rattle.wc_syntax.specs.Reading.{IsRead}
+use Rattle.wc_syntax.specs.Standard.Parsing.{events}
+use Rattle.wc_syntax.specs.Standard.Reading.{IsRead}
 use Rattle.wc_syntax.proofs.kept.kept_or_refusal.Given as goal
 
 abbrev pub invariant-loop-at : goal.invariant-loop-at

@@ -1,4 +1,4 @@
-use Rattle.wc_syntax.proofs.Exactness.{answers-kept, answers-refusal, only-kept, only-fault}
+use Rattle.wc_syntax.proofs.Stacks.Exactness.{answers-kept, answers-refusal, only-kept, only-fault}
 use Rattle.wc_syntax.proofs.kept.kept_tokens.Goals as goal
 
 pub returns-clause-kept : goal.returns-clause-kept

@@ -1,4 +1,4 @@
-use Rattle.wc_syntax.proofs.Exactness.{always-one}
+use Rattle.wc_syntax.proofs.Stacks.Exactness.{always-one}
 use Rattle.wc_syntax.proofs.laws.always_one.Goals as goal
 
 pub returns : goal.returns

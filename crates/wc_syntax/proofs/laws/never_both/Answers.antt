@@ -1,4 +1,4 @@
-use Rattle.wc_syntax.proofs.Exactness.{not-both}
+use Rattle.wc_syntax.proofs.Stacks.Exactness.{not-both}
 use Rattle.wc_syntax.proofs.laws.never_both.Goals as goal
 
 pub returns : goal.returns

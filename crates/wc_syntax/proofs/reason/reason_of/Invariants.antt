@@ -1,7 +1,7 @@
 use Rattle.std.proofs.Common.{◌≡◌, drop}
-use Rattle.wc_syntax.specs.Inner.Table.{first_reason}
-use Rattle.wc_syntax.specs.Reasons.{wrong}
-use Rattle.wc_syntax.specs.Instead.{wrongs}
+use Rattle.wc_syntax.specs.Tables.Table.{first_reason}
+use Rattle.wc_syntax.specs.Standard.Reasons.{wrong}
+use Rattle.wc_syntax.specs.Standard.Instead.{wrongs}
 use Rattle.wc_syntax.proofs.reason.reason_of.Given as goal
 
 abbrev pub invariant-loop-instead : goal.invariant-loop-instead

@@ -1,5 +1,5 @@
 use Rattle.std.proofs.Common.{◌-◌, refl}
-use Rattle.wc_binary.proofs.reading.FrontCode.{begins-bare}
+use Rattle.wc_binary.proofs.reading.ahead.FrontCode.{begins-bare}
 use Rattle.wc_binary.proofs.decoder.code.bare_body.Goals as goal
 
 pub returns : goal.returns

@@ -1,5 +1,5 @@
 use Rattle.std.proofs.Common.{◌≡◌, arith}
-use Rattle.wc_binary.proofs.reading.FrontCode.{code-passed}
+use Rattle.wc_binary.proofs.reading.ahead.FrontCode.{code-passed}
 use Rattle.wc_binary.proofs.decoder.code.code_ahead.Goals as goal
 
 pub returns : goal.returns

@@ -1,4 +1,4 @@
-use Rattle.wc_binary.proofs.reading.FrontCode.{bare-adds}
+use Rattle.wc_binary.proofs.reading.ahead.FrontCode.{bare-adds}
 use Rattle.wc_binary.proofs.decoder.code.push_front.Goals as goal
 
 pub returns-clause-ok : goal.returns-clause-ok

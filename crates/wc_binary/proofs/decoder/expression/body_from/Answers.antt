@@ -3,7 +3,7 @@ use Rattle.std.proofs.lemmas.Result.{err_from_is_err_and}
 use Rattle.wc_binary.proofs.reading.Going.{byte-fails}
 use Rattle.wc_binary.proofs.reading.Entries.{draws-none, next-none, entry-fails, entry-adds, entry-ends, goes-on}
 use Rattle.wc_binary.proofs.reading.Entries.{comes-last}
-use Rattle.wc_binary.proofs.reading.FrontEntries.{ahead-adds}
+use Rattle.wc_binary.proofs.reading.ahead.FrontEntries.{ahead-adds}
 use Rattle.wc_binary.proofs.decoder.expression.body_from.Goals as goal
 
 pub entries-init : goal.entries-init

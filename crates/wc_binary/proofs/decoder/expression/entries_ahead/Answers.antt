@@ -1,5 +1,5 @@
 use Rattle.std.proofs.Common.{◌≡◌, arith}
-use Rattle.wc_binary.proofs.reading.FrontEntries.{none-ahead}
+use Rattle.wc_binary.proofs.reading.ahead.FrontEntries.{none-ahead}
 use Rattle.wc_binary.proofs.decoder.expression.entries_ahead.Goals as goal
 
 pub returns-then-not-is_due : goal.returns-then-not-is_due

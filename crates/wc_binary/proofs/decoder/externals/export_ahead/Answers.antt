@@ -1,6 +1,6 @@
 use Rattle.std.proofs.Common.{◌≡◌, arith}
 use Rattle.wc_binary.specs.Standard.Externals.{export}
-use Rattle.wc_binary.proofs.reading.FrontItems.{first-passed}
+use Rattle.wc_binary.proofs.reading.ahead.FrontItems.{first-passed}
 use Rattle.wc_binary.proofs.decoder.externals.export_ahead.Goals as goal
 
 pub returns : goal.returns

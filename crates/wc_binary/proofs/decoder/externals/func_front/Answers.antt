@@ -1,4 +1,4 @@
-use Rattle.wc_binary.proofs.reading.FrontItems.{func-found}
+use Rattle.wc_binary.proofs.reading.ahead.FrontItems.{func-found}
 use Rattle.wc_binary.proofs.decoder.externals.func_front.Goals as goal
 
 pub returns : goal.returns

@@ -1,5 +1,5 @@
 use Rattle.std.proofs.Common.{sym}
-use Rattle.wc_binary.proofs.reading.FrontItems.{kind-begins}
+use Rattle.wc_binary.proofs.reading.ahead.FrontItems.{kind-begins}
 use Rattle.wc_binary.proofs.decoder.externals.kind_front.Goals as goal
 
 pub returns-in-Ok : goal.returns-in-Ok

@@ -1,7 +1,7 @@
 use Rattle.std.proofs.Common.{◌≤◌, length, arith}
 use Rattle.wc_ast.specs.Standard.Externals.{export as export_of}
 use Rattle.wc_binary.specs.Standard.Externals.{export}
-use Rattle.wc_binary.proofs.reading.FrontItems.{export-begins, begins-within}
+use Rattle.wc_binary.proofs.reading.ahead.FrontItems.{export-begins, begins-within}
 use Rattle.wc_binary.proofs.decoder.externals.push_export.Goals as goal
 
 pub returns-clause-ok : goal.returns-clause-ok

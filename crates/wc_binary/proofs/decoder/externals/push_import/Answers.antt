@@ -2,7 +2,7 @@ use Rattle.std.proofs.Common.{◌≤◌, length, arith}
 use Rattle.wc_ast.specs.declared.import.Desc.TheVariants as descs
 use Rattle.wc_ast.specs.Standard.Externals.{import as import_of}
 use Rattle.wc_binary.specs.Standard.Externals.{import}
-use Rattle.wc_binary.proofs.reading.FrontItems.{import-begins, begins-within}
+use Rattle.wc_binary.proofs.reading.ahead.FrontItems.{import-begins, begins-within}
 use Rattle.wc_binary.proofs.decoder.externals.push_import.Goals as goal
 
 pub returns-clause-ok : goal.returns-clause-ok

@@ -1,5 +1,5 @@
 use Rattle.std.proofs.Math.Facts.{Fits-of_lt}
-use Rattle.wc_binary.proofs.reading.FrontItems.{long-below, long-begins}
+use Rattle.wc_binary.proofs.reading.ahead.FrontItems.{long-below, long-begins}
 use Rattle.wc_binary.proofs.decoder.front.long_u32_front.Goals as goal
 
 pub overflow_cast-result : goal.overflow_cast-result

@@ -1,4 +1,4 @@
-use Rattle.wc_binary.proofs.reading.FrontItems.{name-cut}
+use Rattle.wc_binary.proofs.reading.ahead.FrontItems.{name-cut}
 use Rattle.wc_binary.proofs.decoder.front.name_front.Goals as goal
 
 pub returns : goal.returns

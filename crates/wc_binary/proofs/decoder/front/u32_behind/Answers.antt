@@ -1,6 +1,6 @@
 use Rattle.std.proofs.Common.{◌<◌, ◌-◌, ◌+◌, ◌*◌, refl, arith, rules}
 use Rattle.wc_binary.specs.Standard.Values.{u32}
-use Rattle.wc_binary.proofs.reading.Rests.{last-behind, next-behind}
+use Rattle.wc_binary.proofs.reading.integers.Rests.{last-behind, next-behind}
 use Rattle.wc_binary.proofs.decoder.front.u32_behind.Goals as goal
 
 pub returns-then-second-lt128 : goal.returns-then-second-lt128

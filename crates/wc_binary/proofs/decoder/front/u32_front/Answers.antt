@@ -1,4 +1,4 @@
-use Rattle.wc_binary.proofs.reading.FrontItems.{short-begins}
+use Rattle.wc_binary.proofs.reading.ahead.FrontItems.{short-begins}
 use Rattle.wc_binary.proofs.decoder.front.u32_front.Goals as goal
 
 pub returns : goal.returns

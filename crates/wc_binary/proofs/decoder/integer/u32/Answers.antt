@@ -1,7 +1,7 @@
 use Rattle.std.proofs.Common.{Ok}
 use Rattle.wc_binary.specs.Reading.Reading.{unsigned_at}
 use Rattle.wc_binary.proofs.reading.Behind.{byte-then-gives}
-use Rattle.wc_binary.proofs.reading.Rests.{rest-gives}
+use Rattle.wc_binary.proofs.reading.integers.Rests.{rest-gives}
 use Rattle.wc_binary.specs.Standard.Values.{u32}
 use Rattle.wc_binary.proofs.decoder.integer.u32.Goals as goal
 

@@ -1,6 +1,6 @@
 use Rattle.std.proofs.Common.{◌≡◌, ◌-◌, length, refl, arith}
 use Rattle.wc_binary.specs.Standard.Values.{u32}
-use Rattle.wc_binary.proofs.reading.Rests.{rest-taken, rest-within}
+use Rattle.wc_binary.proofs.reading.integers.Rests.{rest-taken, rest-within}
 use Rattle.wc_binary.proofs.decoder.integer.unsigned_ahead.Goals as goal
 
 pub overflow_sub-count : goal.overflow_sub-count

@@ -2,8 +2,8 @@ use Rattle.std.proofs.Common.{arith, []}
 use Rattle.std.proofs.lemmas.Result.{err_from_is_err_and}
 use Rattle.wc_leb128.proofs.Laws.UnsignedLaws.{continues, spelled-below}
 use Rattle.wc_binary.proofs.reading.Going.{byte-fails}
-use Rattle.wc_binary.proofs.reading.SignedBytes.{held-first, held-next}
-use Rattle.wc_binary.proofs.reading.UnsignedBytes.{unsigned-done, unsigned-bad, unsigned-end}
+use Rattle.wc_binary.proofs.reading.integers.SignedBytes.{held-first, held-next}
+use Rattle.wc_binary.proofs.reading.integers.UnsignedBytes.{unsigned-done, unsigned-bad, unsigned-end}
 use Rattle.wc_binary.proofs.decoder.integer.unsigned_from.Goals as goal
 
 pub loop-value-init : goal.loop-value-init

@@ -1,6 +1,6 @@
 use Rattle.std.proofs.Common.{◌≡◌, ℕ, ◌-◌, ◌^◌, List, Some}
 use Rattle.wc_leb128.specs.Standard.Integers.{U, IsUnfinished}
-use Rattle.wc_binary.proofs.reading.SignedBytes.{Held}
+use Rattle.wc_binary.proofs.reading.integers.SignedBytes.{Held}
 use Rattle.wc_binary.proofs.decoder.integer.unsigned_from.Given as goal
 
 abbrev pub invariant-loop-value : goal.invariant-loop-value

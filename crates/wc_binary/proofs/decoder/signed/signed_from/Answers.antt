@@ -5,7 +5,7 @@ use Rattle.std.proofs.lemmas.Int.{to_z-of_z}
 use Rattle.std.proofs.lemmas.Result.{err_from_is_err_and}
 use Rattle.wc_leb128.proofs.Laws.SignedLaws.{continues, spelled-holds}
 use Rattle.wc_binary.proofs.reading.Going.{byte-fails}
-use Rattle.wc_binary.proofs.reading.SignedBytes.{held-first, held-done, held-bad, held-next, held-end}
+use Rattle.wc_binary.proofs.reading.integers.SignedBytes.{held-first, held-done, held-bad, held-next, held-end}
 use Rattle.wc_binary.proofs.decoder.signed.signed_from.Goals as goal
 
 pub loop-value-init : goal.loop-value-init

@@ -1,6 +1,6 @@
 use Rattle.std.proofs.Common.{take}
 use Rattle.std.specs.Fmt.{HasWritten, IsPlainFormatter}
-use Rattle.wc_canon.specs.Text.{pieces_text}
+use Rattle.wc_canon.specs.Standard.Text.{pieces_text}
 use Rattle.wc_canon.proofs.rendering.RefusalDisplay.fmt.Given as goal
 
 abbrev pub invariant-loop-piece : goal.invariant-loop-piece

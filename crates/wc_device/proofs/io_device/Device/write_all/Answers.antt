@@ -1,5 +1,5 @@
 use Rattle.std.proofs.Common.{rules}
-use Rattle.wc_device.specs.WriteCalls.{none}
+use Rattle.wc_device.specs.Standard.WriteCalls.{none}
 use Rattle.wc_device.proofs.WriteCalls.{taken_more}
 use Rattle.wc_device.proofs.Writing.{appends_more}
 use Rattle.wc_device.proofs.io_device.Device.write_all.Goals as goal

@@ -1,8 +1,8 @@
 use Rattle.std.proofs.Common.{◌≡◌, ◌-◌, ◌≤◌, ◌||◌, ◌&&◌, nat_lt, length, take}
 use Rattle.std.specs.Io.KnownBytes.{Appends}
-use Rattle.wc_device.specs.Device.{device_inner, failed_at, has_failed, read_count, was_asked_again, has_ended}
-use Rattle.wc_device.specs.Device.{flush_count, is_unflushed, has_lost}
-use Rattle.wc_device.specs.WriteCalls.{Taken}
+use Rattle.wc_device.specs.Standard.Device.{device_inner, failed_at, has_failed, read_count, was_asked_again, has_ended}
+use Rattle.wc_device.specs.Standard.Device.{flush_count, is_unflushed, has_lost}
+use Rattle.wc_device.specs.Standard.WriteCalls.{Taken}
 use Rattle.wc_device.proofs.io_device.Device.write_all.Given as goal
 
 abbrev pub invariant-loop-sent : goal.invariant-loop-sent

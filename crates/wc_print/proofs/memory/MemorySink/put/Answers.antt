@@ -1,5 +1,5 @@
 use Rattle.std.proofs.Common.{◌∙◌, sym}
-use Rattle.wc_print.proofs.Putting.{kept}
+use Rattle.wc_print.proofs.Writing.Putting.{kept}
 use Rattle.wc_print.proofs.memory.MemorySink.put.Goals as goal
 
 pub returns-then-not-self : goal.returns-then-not-self

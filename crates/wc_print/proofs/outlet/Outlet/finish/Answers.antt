@@ -1,6 +1,6 @@
 use Rattle.std.proofs.Common.{◌∙◌, sym}
-use Rattle.wc_print.proofs.Flowing.{emptied, failed-end, flushed-again, flushed-behind, flushed-end, flushed-once}
-use Rattle.wc_print.proofs.Flowing.{not-flushed, unflushed-end}
+use Rattle.wc_print.proofs.Writing.Flowing.{emptied, failed-end, flushed-again, flushed-behind, flushed-end}
+use Rattle.wc_print.proofs.Writing.Flowing.{flushed-once, not-flushed, unflushed-end}
 use Rattle.wc_print.proofs.outlet.Outlet.finish.Goals as goal
 
 pub returns-in-Ok-clause-sent : goal.returns-in-Ok-clause-sent

@@ -1,5 +1,5 @@
 use Rattle.std.proofs.Common.{[], refl, rules}
-use Rattle.wc_print.proofs.Flowing.{emptied, more-put}
+use Rattle.wc_print.proofs.Writing.Flowing.{emptied, more-put}
 use Rattle.wc_print.proofs.outlet.Outlet.put_behind.Goals as goal
 
 pub returns-then-bytes-gt-ROOM : goal.returns-then-bytes-gt-ROOM

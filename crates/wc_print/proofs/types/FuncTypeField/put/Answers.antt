@@ -1,7 +1,7 @@
 use Rattle.std.proofs.Common.{[], ◌∷◌, refl, codes}
 use Rattle.wc_tokens.specs.Standard.Lexemes.{is_idchar}
-use Rattle.wc_print.specs.Printed.{opening, closing, word, next, after, below}
-use Rattle.wc_print.proofs.Going.{literal, chain}
+use Rattle.wc_print.specs.Standard.Printed.{opening, closing, word, next, after, below}
+use Rattle.wc_print.proofs.Writing.Going.{literal, chain}
 use Rattle.wc_print.proofs.types.FuncTypeField.put.Goals as goal
 
 pub returns : goal.returns

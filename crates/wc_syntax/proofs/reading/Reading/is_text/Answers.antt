@@ -1,6 +1,6 @@
 use Rattle.std.proofs.Common.{subst, sym, ◌∙◌}
-use Rattle.wc_syntax.specs.Reading.{IsRead, Standing}
-use Rattle.wc_syntax.proofs.Parses.{ended, not-ended}
+use Rattle.wc_syntax.specs.Standard.Reading.{IsRead, Standing}
+use Rattle.wc_syntax.proofs.Parser.Parses.{ended, not-ended}
 use Rattle.wc_syntax.proofs.reading.Reading.is_text.Goals as goal
 
 pub returns-clause-text : goal.returns-clause-text

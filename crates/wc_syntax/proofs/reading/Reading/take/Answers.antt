@@ -1,4 +1,4 @@
-use Rattle.wc_syntax.proofs.Parses.{refused-by, taken-by}
+use Rattle.wc_syntax.proofs.Parser.Parses.{refused-by, taken-by}
 use Rattle.wc_syntax.proofs.reading.Reading.take.Goals as goal
 
 pub returns-in_default-clause-refused : goal.returns-in_default-clause-refused

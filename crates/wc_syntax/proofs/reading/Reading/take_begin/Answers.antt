@@ -1,11 +1,11 @@
 use Rattle.std.proofs.Common.{◌≡◌, sym, ◌∙◌, Some, refl, subst, true}
-use Rattle.wc_syntax.specs.Reading.{Standing}
-use Rattle.wc_syntax.specs.Inner.Table.{takes_instrs}
-use Rattle.wc_syntax.specs.Inner.Usual.{takes_name}
+use Rattle.wc_syntax.specs.Standard.Reading.{Standing}
+use Rattle.wc_syntax.specs.Tables.Table.{takes_instrs}
+use Rattle.wc_syntax.specs.Tables.Usual.{takes_name}
 use Rattle.wc_syntax.specs.declared.role.Role.TheVariants as role
 use Rattle.wc_syntax.specs.declared.place.Place.TheVariants as place
 use Rattle.wc_syntax.specs.declared.place.Move.TheVariants.{Into}
-use Rattle.wc_syntax.proofs.Usual.{usual-by, begin-at}
+use Rattle.wc_syntax.proofs.Tabled.Usual.{usual-by, begin-at}
 use Rattle.wc_syntax.proofs.reading.Reading.take_begin.Goals as goal
 
 pub returns-then-not-is_deep-clause-read : goal.returns-then-not-is_deep-clause-read

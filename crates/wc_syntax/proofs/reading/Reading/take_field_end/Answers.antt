@@ -1,13 +1,13 @@
 use Rattle.std.proofs.Common.{◌≡◌, sym, ◌∙◌, Some, refl, subst, true}
-use Rattle.wc_syntax.specs.Reading.{Standing}
-use Rattle.wc_syntax.specs.Inner.Table.{is_in_frame, rest_of}
-use Rattle.wc_syntax.specs.Inner.Parts.{ends_field}
+use Rattle.wc_syntax.specs.Standard.Reading.{Standing}
+use Rattle.wc_syntax.specs.Tables.Table.{is_in_frame, rest_of}
+use Rattle.wc_syntax.specs.Tables.Parts.{ends_field}
 use Rattle.wc_syntax.specs.declared.kind.Kind.TheVariants as kind
 use Rattle.wc_syntax.specs.declared.role.Role.TheVariants as role
 use Rattle.wc_syntax.specs.declared.place.Place.TheVariants as place
 use Rattle.wc_syntax.specs.declared.place.Move.TheVariants.{Out}
-use Rattle.wc_syntax.proofs.Usual.{usual-by}
-use Rattle.wc_syntax.proofs.Parts.{field-end-at}
+use Rattle.wc_syntax.proofs.Tabled.Usual.{usual-by}
+use Rattle.wc_syntax.proofs.Tabled.Parts.{field-end-at}
 use Rattle.wc_syntax.proofs.reading.Reading.take_field_end.Goals as goal
 
 pub returns-then-ends_field-clause-read : goal.returns-then-ends_field-clause-read

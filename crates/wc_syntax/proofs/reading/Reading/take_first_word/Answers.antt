@@ -1,8 +1,8 @@
 use Rattle.std.proofs.Common.{sym, ◌∙◌, None, refl}
 use Rattle.wc_syntax.specs.declared.place.Frame.TheVariants as frame
 use Rattle.wc_syntax.specs.declared.place.Move.TheVariants.{Turn}
-use Rattle.wc_syntax.proofs.Usual.{usual-by}
-use Rattle.wc_syntax.proofs.Parts.{first-word-at}
+use Rattle.wc_syntax.proofs.Tabled.Usual.{usual-by}
+use Rattle.wc_syntax.proofs.Tabled.Parts.{first-word-at}
 use Rattle.wc_syntax.proofs.reading.Reading.take_first_word.Goals as goal
 
 pub returns-then-opens_func-clause-read : goal.returns-then-opens_func-clause-read

@@ -1,11 +1,11 @@
 use Rattle.std.proofs.Common.{◌≡◌, sym, ◌∙◌, Some, refl, subst, true}
-use Rattle.wc_syntax.specs.Reading.{Standing}
-use Rattle.wc_syntax.specs.Inner.Table.{takes_folded}
-use Rattle.wc_syntax.specs.Inner.Usual.{is_opened}
+use Rattle.wc_syntax.specs.Standard.Reading.{Standing}
+use Rattle.wc_syntax.specs.Tables.Table.{takes_folded}
+use Rattle.wc_syntax.specs.Tables.Usual.{is_opened}
 use Rattle.wc_syntax.specs.declared.role.Role.TheVariants as role
 use Rattle.wc_syntax.specs.declared.place.Frame.TheVariants as frame
 use Rattle.wc_syntax.specs.declared.place.Move.TheVariants.{Into}
-use Rattle.wc_syntax.proofs.Usual.{usual-by, held-at}
+use Rattle.wc_syntax.proofs.Tabled.Usual.{usual-by, held-at}
 use Rattle.wc_syntax.proofs.reading.Reading.take_held.Goals as goal
 
 pub returns-then-not-is_deep-clause-read : goal.returns-then-not-is_deep-clause-read

@@ -1,11 +1,11 @@
 use Rattle.std.proofs.Common.{◌≡◌, sym, ◌∙◌, Some, refl, subst, true}
-use Rattle.wc_syntax.specs.Reading.{Standing}
-use Rattle.wc_syntax.specs.Inner.Usual.{is_free, is_held}
+use Rattle.wc_syntax.specs.Standard.Reading.{Standing}
+use Rattle.wc_syntax.specs.Tables.Usual.{is_free, is_held}
 use Rattle.wc_syntax.specs.declared.kind.Kind.TheVariants as kind
 use Rattle.wc_syntax.specs.declared.role.Role.TheVariants as role
 use Rattle.wc_syntax.specs.declared.place.Place.TheVariants as place
 use Rattle.wc_syntax.specs.declared.place.Move.TheVariants.{Out}
-use Rattle.wc_syntax.proofs.Usual.{usual-by, held-end-at}
+use Rattle.wc_syntax.proofs.Tabled.Usual.{usual-by, held-end-at}
 use Rattle.wc_syntax.proofs.reading.Reading.take_held_end.Goals as goal
 
 pub returns-then-is_held-clause-read : goal.returns-then-is_held-clause-read

@@ -1,7 +1,7 @@
 use Rattle.std.proofs.Common.{sym, ◌∙◌, Some, refl}
 use Rattle.wc_syntax.specs.declared.role.Role.TheVariants as role
 use Rattle.wc_syntax.specs.declared.place.Move.TheVariants.{On}
-use Rattle.wc_syntax.proofs.Usual.{usual-by, index-at}
+use Rattle.wc_syntax.proofs.Tabled.Usual.{usual-by, index-at}
 use Rattle.wc_syntax.proofs.reading.Reading.take_index.Goals as goal
 
 pub returns-clause-read : goal.returns-clause-read

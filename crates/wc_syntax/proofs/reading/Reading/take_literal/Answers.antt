@@ -2,7 +2,7 @@ use Rattle.std.proofs.Common.{sym, ◌∙◌, Some, refl}
 use Rattle.wc_syntax.specs.declared.role.Role.TheVariants as role
 use Rattle.wc_syntax.specs.declared.place.Place.TheVariants as place
 use Rattle.wc_syntax.specs.declared.place.Move.TheVariants.{On}
-use Rattle.wc_syntax.proofs.Usual.{usual-by, literal-at}
+use Rattle.wc_syntax.proofs.Tabled.Usual.{usual-by, literal-at}
 use Rattle.wc_syntax.proofs.reading.Reading.take_literal.Goals as goal
 
 pub returns-then-is_literal-clause-read : goal.returns-then-is_literal-clause-read

@@ -2,7 +2,7 @@ use Rattle.std.proofs.Common.{sym, ◌∙◌, None, refl}
 use Rattle.wc_syntax.specs.declared.kind.Kind.TheVariants as kind
 use Rattle.wc_syntax.specs.declared.place.Place.TheVariants as place
 use Rattle.wc_syntax.specs.declared.place.Move.TheVariants.{On}
-use Rattle.wc_syntax.proofs.Usual.{usual-by, open-at, part-at}
+use Rattle.wc_syntax.proofs.Tabled.Usual.{usual-by, open-at, part-at}
 use Rattle.wc_syntax.proofs.reading.Reading.take_open.Goals as goal
 
 pub returns-then-takes_open-clause-read : goal.returns-then-takes_open-clause-read

@@ -1,5 +1,5 @@
 use Rattle.std.proofs.Common.{refl}
-use Rattle.wc_syntax.proofs.Usual.{part-by}
+use Rattle.wc_syntax.proofs.Tabled.Usual.{part-by}
 use Rattle.wc_syntax.proofs.reading.Reading.take_part.Goals as goal
 
 pub returns-clause-read : goal.returns-clause-read

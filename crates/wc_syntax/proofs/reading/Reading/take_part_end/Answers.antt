@@ -1,8 +1,8 @@
 use Rattle.std.proofs.Common.{sym, ◌∙◌, None, refl}
 use Rattle.wc_syntax.specs.declared.kind.Kind.TheVariants as kind
 use Rattle.wc_syntax.specs.declared.place.Move.TheVariants.{On}
-use Rattle.wc_syntax.proofs.Usual.{usual-by}
-use Rattle.wc_syntax.proofs.Parts.{part-end-at}
+use Rattle.wc_syntax.proofs.Tabled.Usual.{usual-by}
+use Rattle.wc_syntax.proofs.Tabled.Parts.{part-end-at}
 use Rattle.wc_syntax.proofs.reading.Reading.take_part_end.Goals as goal
 
 pub returns-clause-read : goal.returns-clause-read

@@ -1,7 +1,7 @@
 use Rattle.std.proofs.Common.{sym, ◌∙◌, None, refl}
 use Rattle.wc_syntax.specs.declared.place.Move.TheVariants.{On}
-use Rattle.wc_syntax.proofs.Usual.{usual-by}
-use Rattle.wc_syntax.proofs.Parts.{part-word-at}
+use Rattle.wc_syntax.proofs.Tabled.Usual.{usual-by}
+use Rattle.wc_syntax.proofs.Tabled.Parts.{part-word-at}
 use Rattle.wc_syntax.proofs.reading.Reading.take_part_word.Goals as goal
 
 pub returns-clause-read : goal.returns-clause-read

@@ -1,7 +1,7 @@
 use Rattle.std.proofs.Common.{sym, ◌∙◌, Some, refl}
 use Rattle.wc_syntax.specs.declared.role.Role.TheVariants as role
 use Rattle.wc_syntax.specs.declared.place.Move.TheVariants.{Past}
-use Rattle.wc_syntax.proofs.Usual.{usual-by, plain-at}
+use Rattle.wc_syntax.proofs.Tabled.Usual.{usual-by, plain-at}
 use Rattle.wc_syntax.proofs.reading.Reading.take_plain.Goals as goal
 
 pub returns-then-takes_instrs-clause-read : goal.returns-then-takes_instrs-clause-read

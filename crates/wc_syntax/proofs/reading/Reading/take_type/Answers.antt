@@ -1,9 +1,9 @@
 use Rattle.std.proofs.Common.{sym, ◌∙◌, Some, refl}
 use Rattle.wc_syntax.specs.declared.kind.Kind.TheVariants as kind
 use Rattle.wc_syntax.specs.declared.place.Move.TheVariants.{On}
-use Rattle.wc_syntax.specs.Inner.Parts.{behind_type}
-use Rattle.wc_syntax.proofs.Usual.{usual-by}
-use Rattle.wc_syntax.proofs.Parts.{type-at}
+use Rattle.wc_syntax.specs.Tables.Parts.{behind_type}
+use Rattle.wc_syntax.proofs.Tabled.Usual.{usual-by}
+use Rattle.wc_syntax.proofs.Tabled.Parts.{type-at}
 use Rattle.wc_syntax.proofs.reading.Reading.take_type.Goals as goal
 
 pub returns-clause-read : goal.returns-clause-read

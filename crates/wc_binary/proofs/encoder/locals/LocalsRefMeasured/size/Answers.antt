@@ -1,4 +1,4 @@
-use Rattle.wc_binary.proofs.spelling.Locals.{locals-counted}
+use Rattle.wc_binary.proofs.spelling.code.Locals.{locals-counted}
 use Rattle.wc_binary.proofs.encoder.locals.LocalsRefMeasured.size.Goals as goal
 
 pub returns : goal.returns

@@ -1,4 +1,4 @@
-use Rattle.wc_binary.proofs.spelling.Locals.{locals-written}
+use Rattle.wc_binary.proofs.spelling.code.Locals.{locals-written}
 use Rattle.wc_binary.proofs.encoder.locals.LocalsRefMeasured.write.Goals as goal
 
 pub returns : goal.returns

@@ -1,5 +1,5 @@
 use Rattle.std.proofs.Common.{◌≤◌, ◌-◌, length, rules}
-use Rattle.wc_binary.proofs.reading.Feeding.{pending-ahead}
+use Rattle.wc_binary.proofs.reading.ahead.Feeding.{pending-ahead}
 use Rattle.wc_binary.proofs.source.feed.FeedSource.ahead.Goals as goal
 
 pub returns-clause-ahead : goal.returns-clause-ahead

@@ -1,5 +1,5 @@
 use Rattle.std.proofs.Common.{arith, ◌≡◌, ◌≤◌, ◌+◌, ◌-◌, length, refl, ◌∙◌, rules}
-use Rattle.wc_binary.proofs.reading.Feeding.{pending-split, pending-front}
+use Rattle.wc_binary.proofs.reading.ahead.Feeding.{pending-split, pending-front}
 use Rattle.wc_binary.proofs.source.feed.FeedSource.front.Goals as goal
 
 pub returns-clause-ahead : goal.returns-clause-ahead

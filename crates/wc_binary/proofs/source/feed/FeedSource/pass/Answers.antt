@@ -1,5 +1,5 @@
 use Rattle.std.proofs.Common.{arith, ◌≡◌, ◌≤◌, ◌+◌, ◌-◌, length, refl, rules}
-use Rattle.wc_binary.proofs.reading.Feeding.{pending-dropped}
+use Rattle.wc_binary.proofs.reading.ahead.Feeding.{pending-dropped}
 use Rattle.wc_binary.proofs.source.feed.FeedSource.pass.Goals as goal
 
 pub returns-clause-passed : goal.returns-clause-passed

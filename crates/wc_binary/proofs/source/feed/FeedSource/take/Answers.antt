@@ -1,5 +1,5 @@
 use Rattle.std.proofs.Common.{arith, ◌≡◌, ◌≤◌, ◌+◌, ◌-◌, length, refl, rules}
-use Rattle.wc_binary.proofs.reading.Feeding.{pending-split}
+use Rattle.wc_binary.proofs.reading.ahead.Feeding.{pending-split}
 use Rattle.wc_binary.proofs.source.feed.FeedSource.take.Goals as goal
 
 pub returns-clause-taken : goal.returns-clause-taken

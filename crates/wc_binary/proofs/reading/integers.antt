@@ -1,0 +1,4 @@
+-- Integers in the making.
+pub mod Rests
+pub mod SignedBytes
+pub mod UnsignedBytes

@@ -1,0 +1,2 @@
+-- What private functions speak of on the way to an answer.
+pub mod Reading

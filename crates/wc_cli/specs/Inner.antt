@@ -1,2 +1,0 @@
--- What private functions speak of: no promise is stated by these.
-pub mod Reading

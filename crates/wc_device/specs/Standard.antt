@@ -1,0 +1,3 @@
+-- What contracts speak of.
+pub mod Device
+pub mod WriteCalls

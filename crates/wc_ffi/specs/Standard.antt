@@ -1,0 +1,3 @@
+-- What contracts speak of.
+pub mod Calls
+pub mod Memory

@@ -1,0 +1,4 @@
+-- Type uses, and the list of types.
+pub mod Judged
+pub mod Keys
+pub mod Typed

@@ -1,0 +1,2 @@
+-- What the code's rows have.
+pub mod Placed

@@ -1,0 +1,7 @@
+-- What tokens say, and that it is stored.
+pub mod Answering
+pub mod Joined
+pub mod Said
+pub mod Usual
+pub mod Wholes
+pub mod Written

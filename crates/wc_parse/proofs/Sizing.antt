@@ -1,0 +1,4 @@
+-- A text says no more than it has bytes.
+pub mod Few
+pub mod Sizes
+pub mod Weights

@@ -1,0 +1,120 @@
+-- Lines as they are written on a page.
+use Rattle.std.proofs.Common.{◌≡◌, ◌≢◌, ℕ, suc, ◌+◌, ◌/◌, ◌%◌, ◌<◌, ◌≤◌, ◌^◌, List, [], ◌∷◌, ◌++◌, length, set, take, drop}
+use Rattle.std.proofs.Common.{refl, sym, ap, ◌∙◌, arith, append_assoc}
+use Rattle.std.proofs.Common.{codes}
+use Rattle.std.specs.Fmt.{decimal}
+use Rattle.std.proofs.lemmas.Fmt.{decimal_digit, decimal_step}
+use Rattle.std.proofs.lemmas.List.{append-nil, length-append, length-take-le, take_at, take-append-le}
+use Rattle.std.proofs.lemmas.List.Edits.{sets, sets-eq}
+use Rattle.std.proofs.Math.Seq.{take-append-add}
+use Rattle.wc_tokens.specs.Standard.Lexemes.{is_idchar}
+use Rattle.wc_print.specs.Standard.Printed.{Printed, below, printed}
+use Rattle.wc_print.specs.Standard.Printable.{IsSpelled, Put}
+use Rattle.wc_print.specs.Standard.Lines.{offset_items}
+use Rattle.wc_print.proofs.Writing.Putting.{text}
+use Rattle.wc_print.proofs.Writing.Instructions.{unequal}
+
+-- bytes that are written one behind another, from a place on
+sets-kept : (page vs : List ℕ) (at n : ℕ) → n ≡ at + length vs → n ≤ length page → take n (sets page at vs) ≡ take at page ++ vs
+sets-kept page vs at n is fits =
+    let within : at + length vs ≤ length page = omega (arith, fits, is) in
+    let front : length (take at page) ≡ at = length-take-le at page (omega (arith, within)) in
+    let all : length (take at page ++ vs) ≡ n = omega (arith, length-append (take at page) vs, front, is) in
+    ap (λ (x : List ℕ). take n x) (sets-eq vs page at within)
+    ∙ take_at (take at page ++ vs) (drop (at + length vs) page) n all
+
+pub one-written : (page : List ℕ) (at a : ℕ) → at + 1 ≤ length page → take (at + 1) (set page at a) ≡ take at page ++ a ∷ []
+one-written page at a fits = sets-kept page (a ∷ []) at (at + 1) (omega arith) fits
+
+two-written : (page : List ℕ) (at i a b : ℕ) → i ≡ suc at → at + 2 ≤ length page
+    → take (at + 2) (set (set page at a) i b) ≡ take at page ++ a ∷ b ∷ []
+two-written page at i a b is fits = rw is (sets-kept page (a ∷ b ∷ []) at (at + 2) (omega arith) fits)
+
+three-written : (page : List ℕ) (at i j a b c : ℕ) → i ≡ suc at → j ≡ suc (suc at) → at + 3 ≤ length page
+    → take (at + 3) (set (set (set page at a) i b) j c) ≡ take at page ++ a ∷ b ∷ c ∷ []
+three-written page at i j a b c is js fits = rw (is, js) (sets-kept page (a ∷ b ∷ c ∷ []) at (at + 3) (omega arith) fits)
+
+pub one-digit : (page : List ℕ) (at n : ℕ) → at + 1 ≤ length page → n < 10
+    → take (at + 1) (set page at (48 + n)) ≡ take at page ++ decimal n
+one-digit page at n fits lt =
+    one-written page at (48 + n) fits ∙ ap (λ (x : List ℕ). take at page ++ x) (sym (decimal_digit n lt))
+
+pub two-digits : (page : List ℕ) (at n : ℕ) → at + 2 ≤ length page → 10 ≤ n → n / 10 < 10 → n < 1000
+    → take (at + 2) (set (set page at (48 + n / 10)) (at + 1) (48 + n % 10)) ≡ take at page ++ decimal n
+two-digits page at n fits ge lt low =
+    let is : decimal n ≡ (48 + n / 10) ∷ (48 + n % 10) ∷ [] =
+    decimal_step n ge (omega (arith, low)) ∙ ap (λ (x : List ℕ). x ++ (48 + n % 10) ∷ []) (decimal_digit (n / 10) lt) in
+    two-written page at (at + 1) _ _ (omega arith) fits ∙ ap (λ (x : List ℕ). take at page ++ x) (sym is)
+
+pub three-digits : (page : List ℕ) (at n : ℕ) → at + 3 ≤ length page → 10 ≤ n / 10 → n < 1000
+    → take (at + 3) (set (set (set page at (48 + n / 10 / 10)) (at + 1) (48 + n / 10 % 10)) (at + 2) (48 + n % 10))
+    ≡ take at page ++ decimal n
+three-digits page at n fits ge low =
+    let first : decimal (n / 10) ≡ (48 + n / 10 / 10) ∷ (48 + n / 10 % 10) ∷ [] =
+    decimal_step (n / 10) ge (omega (arith, low))
+    ∙ ap (λ (x : List ℕ). x ++ (48 + n / 10 % 10) ∷ []) (decimal_digit (n / 10 / 10) (omega (arith, low))) in
+    let is : decimal n ≡ (48 + n / 10 / 10) ∷ (48 + n / 10 % 10) ∷ (48 + n % 10) ∷ [] =
+    decimal_step n (omega (arith, ge)) (omega (arith, low)) ∙ ap (λ (x : List ℕ). x ++ (48 + n % 10) ∷ []) first in
+    three-written page at (at + 1) (at + 2) _ _ _ (omega arith) (omega arith) fits
+    ∙ ap (λ (x : List ℕ). take at page ++ x) (sym is)
+
+hundreds : (n : ℕ) → n / 10 / 10 ≡ n / 100
+hundreds n = omega arith
+
+thousands : (n : ℕ) → n / 100 / 10 ≡ n / 1000
+thousands n = omega arith
+
+-- three more digits, behind those that are written
+pub three-more : (page front : List ℕ) (at n : ℕ) → at + 3 ≤ length page → 1000 ≤ n → n < 1000000
+    → take at page ≡ front ++ decimal (n / 1000)
+    → take (at + 3) (set (set (set page at (48 + n / 100 % 10)) (at + 1) (48 + n / 10 % 10)) (at + 2) (48 + n % 10))
+    ≡ front ++ decimal n
+three-more page front at n fits ge low written =
+    let first : decimal (n / 100) ≡ decimal (n / 1000) ++ (48 + n / 100 % 10) ∷ [] =
+    rw (thousands n) at (decimal_step (n / 100) (omega (arith, ge)) (omega (arith, low))) in
+    let second : decimal (n / 10) ≡ decimal (n / 100) ++ (48 + n / 10 % 10) ∷ [] =
+    rw (hundreds n) at (decimal_step (n / 10) (omega (arith, ge)) (omega (arith, low))) in
+    let third : decimal n ≡ decimal (n / 10) ++ (48 + n % 10) ∷ [] =
+    decimal_step n (omega (arith, ge)) (omega (arith, low)) in
+    three-written page at (at + 1) (at + 2) _ _ _ (omega arith) (omega arith) fits
+    ∙ rw (written, third, second, first) (simp append_assoc)
+
+-- what is behind a space
+pub behind-space : (page new ds : List ℕ) (at end : ℕ) → at + 1 ≤ length page
+    → take end new ≡ take (at + 1) (set page at 32) ++ ds → take end new ≡ take at page ++ (32 ∷ ds)
+behind-space page new ds at end fits e =
+    e ∙ ap (λ (x : List ℕ). x ++ ds) (one-written page at 32 fits) ∙ append_assoc (take at page) (32 ∷ []) ds
+
+-- a whole row is copied to a place, and so much of it is kept
+pub row-kept : (page row copied rest : List ℕ) (at n size : ℕ) → at + size ≤ length page → length row ≡ size → n ≤ size
+    → copied ≡ row → take (at + n) (take at page ++ (copied ++ rest)) ≡ take at page ++ take n row
+row-kept page row copied rest at n size fits long short same =
+    let front : length (take at page) ≡ at = length-take-le at page (omega (arith, fits)) in
+    let cut : take (at + n) (take at page ++ (row ++ rest)) ≡ take at page ++ take n (row ++ rest) =
+    rw front at (take-append-add (take at page) (row ++ rest) n) in
+    rw same cut ∙ ap (λ (x : List ℕ). take at page ++ x) (take-append-le n row rest (omega (arith, long, short)))
+
+-- bytes are copied to a place
+pub all-kept : (page bytes copied rest : List ℕ) (at n : ℕ) → n ≡ at + length bytes → at ≤ length page → copied ≡ bytes
+    → take n (take at page ++ (copied ++ rest)) ≡ take at page ++ bytes
+all-kept page bytes copied rest at n is fits same =
+    let front : length (take at page) ≡ at = length-take-le at page fits in
+    let all : List ℕ = bytes ++ rest in
+    let cut : take (at + length bytes) (take at page ++ all) ≡ take at page ++ take (length bytes) all =
+    rw front at (take-append-add (take at page) all (length bytes)) in
+    rw (is, same) cut ∙ ap (λ (x : List ℕ). take at page ++ x) (take_at bytes rest (length bytes) refl)
+
+-- a line that is written
+pub line-put : (p : Printed) {old new line : List ℕ} → IsSpelled p → line ≡ printed (below 4 p ∷ []) → new ≡ old ++ line
+    → Put (below 4 p ∷ []) old new
+line-put p h is e = text (below 4 p ∷ []) (h, tt) is e
+
+-- an offset that isn't zero is printed
+pub offset-some : (n : ℕ) (old mid new : List ℕ) → n ≢ 0 → n < 2 ^ 32 → mid ≡ old ++ (32 ∷ codes "offset=")
+    → new ≡ mid ++ decimal n → Put (offset_items n) old new
+unfolding is_idchar
+offset-some n old mid new h lt e f =
+    rw (unequal n 0 h) (record {
+      spelled = ((refl, omega (arith, lt)), tt);
+      bytes = f ∙ rw e (simp (append_assoc, append-nil));
+    })

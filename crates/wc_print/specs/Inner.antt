@@ -1,5 +1,0 @@
-pub mod Flows
-pub mod Outlet
-pub mod Places
-pub mod Short
-pub mod Briefly

@@ -1,0 +1,3 @@
+-- What private functions speak of: characters on the way to a value.
+pub mod Shapes
+pub mod Utf8

@@ -1,0 +1,4 @@
+-- The states of the parser.
+pub mod Machine
+pub mod Parses
+pub mod States

@@ -1,4 +1,0 @@
-pub mod Kinds
-pub mod Table
-pub mod Usual
-pub mod Parts

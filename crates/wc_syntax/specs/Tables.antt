@@ -1,0 +1,5 @@
+-- What private functions speak of: the table of the parser.
+pub mod Kinds
+pub mod Parts
+pub mod Table
+pub mod Usual
