@@ -1,2 +1,3 @@
 pub mod Groups
 mod Rows
+pub mod Utf8Bytes

@@ -2,7 +2,6 @@
 pub mod Judging
 pub mod Phrases
 pub mod Types
-pub mod Utf8Bytes
 pub mod Codes
 pub mod Encoding
 pub mod Measuring

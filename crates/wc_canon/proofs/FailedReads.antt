@@ -1,6 +1,6 @@
 -- What is known where a read failed.
-use Rattle.std.proofs.Common.{◌≡◌, ◌≤◌, ℕ, zero, suc, List, [], ◌∷◌, take, Option, Some, None, Result, Ok, Err, IfSome, IfErr, IsErrAnd}
-use Rattle.std.proofs.Common.{true, false, length, subst, sym, refl, ◌∙◌}
+use Rattle.std.proofs.Common.{◌≡◌, ◌≤◌, ℕ, zero, suc, List, [], ◌∷◌, take, Option, Some, None, Result, Ok, Err, IfSome}
+use Rattle.std.proofs.Common.{IfErr, IsErrAnd, true, false, length, subst, sym, refl, ◌∙◌}
 use Rattle.std.specs.Option.{is_some}
 use Rattle.std.proofs.lemmas.List.{length-take-le}
 use Rattle.wc_device.specs.Standard.Device.{first_failure}

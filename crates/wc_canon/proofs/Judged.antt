@@ -14,7 +14,8 @@ use Rattle.wc_print.specs.Standard.Printed.{text as text_of}
 use Rattle.wc_read_text.specs.declared.fault.TextFault.{TextFault}
 use Rattle.wc_read_text.specs.Standard.Faults.{IsFault}
 use Rattle.wc_canon.specs.declared.fault.Refusal.{Refusal}
-use Rattle.wc_canon.specs.declared.fault.Refusal.TheVariants.{Binary, Lex, Syntax, Names, Check, Oversize, Memory as NoMemory}
+use Rattle.wc_canon.specs.declared.fault.Refusal.TheVariants.{Binary, Lex, Syntax, Names, Check, Oversize}
+use Rattle.wc_canon.specs.declared.fault.Refusal.TheVariants.{Memory as NoMemory}
 use Rattle.wc_canon.specs.Answering.Faults.{reading_refusal, checking_refusal}
 use Rattle.wc_canon.specs.Standard.Input.{is_binary, Denotes, KeepsRules, BreaksFirst, Means, HasAnswer, HasFault}
 use Rattle.wc_canon.specs.Standard.Input.{IsRefused}

@@ -1,5 +1,6 @@
 -- Answers and faults exclude one another, and there is one of them: from the laws of the two formats.
-use Rattle.std.proofs.Common.{◌≡◌, ℕ, ◌↔◌, ◌∙◌, List, [], ◌∷◌, Bool, true, false, Some, ◌⊎◌, inl, inr, sym, subst, ap, refl}
+use Rattle.std.proofs.Common.{◌≡◌, ℕ, ◌↔◌, ◌∙◌, List, [], ◌∷◌, Bool, true, false, Some, ◌⊎◌, inl, inr, sym, subst, ap}
+use Rattle.std.proofs.Common.{refl}
 use Rattle.wc_ast.specs.declared.module.Module.{Module}
 use Rattle.wc_check.specs.declared.fault.Item.{Item}
 use Rattle.wc_check.specs.declared.fault.CheckWhy.{CheckWhy}

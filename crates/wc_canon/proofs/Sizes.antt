@@ -1,6 +1,6 @@
 -- Each module has canonical bytes, or none spell it: whether every number, count and size of it fits.
-use Rattle.std.proofs.Common.{◌≡◌, ℕ, ◌<◌, ◌≤◌, ◌^◌, List, [], ◌∷◌, length, Bool, true, false, Option, Some, None, IsUtf8}
-use Rattle.std.proofs.Common.{◌⊎◌, inl, inr, refl, sym, ◌∙◌, ℤ, arith}
+use Rattle.std.proofs.Common.{◌≡◌, ℕ, ◌<◌, ◌≤◌, ◌^◌, List, [], ◌∷◌, length, Bool, true, false, Option, Some, None}
+use Rattle.std.proofs.Common.{IsUtf8, ◌⊎◌, inl, inr, refl, sym, ◌∙◌, ℤ, arith}
 use Rattle.std.specs.Str.{is_utf8}
 use Rattle.std.specs.List.{AllByRecursion}
 use Rattle.std.specs.Int.Signed.{◌<ℤ◌, ◌≤ℤ◌, clash_ℤ}
@@ -28,9 +28,9 @@ use Rattle.wc_binary.specs.declared.parts.Parts.{Parts}
 use Rattle.wc_leb128.specs.Writing.Bytes.{unsigned_bytes}
 use Rattle.wc_ast.specs.Standard.LocalGroups.{locals_limit}
 use Rattle.wc_binary.specs.Standard.Values.{IsByte}
-use Rattle.wc_binary.specs.Writing.Values.{Anything, FitsSized, FitsFuncType, FitsMaximum, FitsLimits, FitsName, FitsDesc}
-use Rattle.wc_binary.specs.Writing.Values.{FitsImport, FitsExport, FitsSection, FitsStart, func_type_bytes, import_bytes}
-use Rattle.wc_binary.specs.Writing.Values.{table_type_bytes, limits_bytes, export_bytes}
+use Rattle.wc_binary.specs.Writing.Values.{Anything, FitsSized, FitsFuncType, FitsMaximum, FitsLimits, FitsName}
+use Rattle.wc_binary.specs.Writing.Values.{FitsDesc, FitsImport, FitsExport, FitsSection, FitsStart, func_type_bytes}
+use Rattle.wc_binary.specs.Writing.Values.{import_bytes, table_type_bytes, limits_bytes, export_bytes}
 use Rattle.wc_binary.specs.Writing.Contents.{FitsGlobal, FitsElem, FitsData, FitsCode, global_bytes}
 use Rattle.wc_binary.specs.Writing.Contents.{elem_bytes, data_bytes, func_bytes, code_bytes}
 use Rattle.wc_binary.specs.Writing.Sections.{FitsHeld, FitsFrom}

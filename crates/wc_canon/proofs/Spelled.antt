@@ -43,7 +43,7 @@ use Rattle.wc_print.proofs.Writing.Putting.{spelled-append}
 use Rattle.wc_print.proofs.Writing.Whole.{layout-printable}
 use Rattle.wc_readback.specs.Grammar.Fitting.{FitsOptional, FitsLimits, FitsDesc, FitsImport, FitsFunc, FitsGlobal}
 use Rattle.wc_readback.specs.Grammar.Fitting.{FitsExport, FitsElem, FitsData, Fits}
-use Rattle.wc_readback.proofs.GrammarLemmas.Utf8Bytes.{bytes}
+use Rattle.wc_ast.proofs.Utf8Bytes.{utf8-bytes}
 
 -- each of the items can be read back
 record Spells (is : List Item) : Type 0 where
@@ -111,7 +111,7 @@ power (suc (suc zero)) = lit< tt
 power (suc (suc (suc n))) = lit< tt
 
 a_name : (name : List ℕ) → IsUtf8 name → Spells (after (quoted name) ∷ [])
-a_name name u = behind (quoted name) (bytes name u)
+a_name name u = behind (quoted name) (utf8-bytes name u)
 
 -- ---- instructions
 

@@ -1,6 +1,6 @@
 -- From what the bytes of a reader denote to what is answered to them.
-use Rattle.std.proofs.Common.{◌≡◌, ◌∙◌, ℕ, zero, suc, ◌<◌, List, [], ◌∷◌, ◌++◌, length, Bool, true, false, Option, Some, None}
-use Rattle.std.proofs.Common.{Result, Ok, Err, IfErr, IfSome, IsErrAnd, inl, inr, refl, sym, ap, subst, arith}
+use Rattle.std.proofs.Common.{◌≡◌, ◌∙◌, ℕ, zero, suc, ◌<◌, List, [], ◌∷◌, ◌++◌, length, Bool, true, false, Option, Some}
+use Rattle.std.proofs.Common.{None, Result, Ok, Err, IfErr, IfSome, IsErrAnd, inl, inr, refl, sym, ap, subst, arith}
 use Rattle.std.proofs.lemmas.List.{append-nil}
 use Rattle.std.specs.Io.KnownBytes.{Consumes, IsAtEnd}
 use Rattle.wc_ast.specs.declared.module.Module.{Module}
@@ -15,7 +15,8 @@ use Rattle.wc_read_text.specs.declared.fault.TextFault.TheVariants as text
 use Rattle.wc_read_text.specs.Standard.Texts.{Txt}
 use Rattle.wc_read_text.specs.Standard.Faults.{IsFault}
 use Rattle.wc_canon.specs.declared.fault.Refusal.{Refusal}
-use Rattle.wc_canon.specs.declared.fault.Refusal.TheVariants.{Binary, Lex, Syntax, Names, Check, Oversize, Memory as NoMemory}
+use Rattle.wc_canon.specs.declared.fault.Refusal.TheVariants.{Binary, Lex, Syntax, Names, Check, Oversize}
+use Rattle.wc_canon.specs.declared.fault.Refusal.TheVariants.{Memory as NoMemory}
 use Rattle.wc_canon.specs.declared.fault.RunFault.{RunFault}
 use Rattle.wc_canon.specs.declared.fault.RunFault.TheVariants.{Refused, Read, Write, Memory}
 use Rattle.wc_canon.specs.declared.running.Job.TheVariants as job
@@ -24,8 +25,8 @@ use Rattle.wc_canon.specs.Standard.Input.{is_binary, Denotes, KeepsRules, IsAcce
 use Rattle.wc_canon.specs.Standard.Run.{IsAnswerOf, IsOutputOf, Judges, RefusesNear}
 use Rattle.wc_canon.specs.Answering.Faults.{reading_refusal, decoding_fault, refusing_fault}
 use Rattle.wc_canon.specs.Answering.Steps.{IsModuleFault, IsSized, JudgesModule, ReadsNear}
-use Rattle.wc_canon.proofs.Laws.{binary-denotes, text-denotes, canon-denotes, denoted-means, has-answer, has-binary-fault}
-use Rattle.wc_canon.proofs.Laws.{has-text-fault, has-broken-rule, has-oversize}
+use Rattle.wc_canon.proofs.Laws.{binary-denotes, text-denotes, canon-denotes, denoted-means, has-answer}
+use Rattle.wc_canon.proofs.Laws.{has-binary-fault, has-text-fault, has-broken-rule, has-oversize}
 use Rattle.wc_canon.proofs.Judged.{binary-meant, has-text}
 
 -- ---- an error that is handed on

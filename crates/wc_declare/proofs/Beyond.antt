@@ -1,10 +1,10 @@
 -- The first local beyond the limit.
-use Rattle.std.proofs.Common.{◌≡◌, ℕ, zero, suc, ◌+◌, ◌-◌, ◌<◌, ◌≤◌, ◌^◌, List, ◌++◌, length, drop, get_or}
-use Rattle.std.proofs.Common.{Option, Some, slice_get, sym, ap, ◌∙◌, subst, arith}
+use Rattle.std.proofs.Common.{◌≡◌, ℕ, zero, suc, ◌+◌, ◌-◌, ◌<◌, ◌≤◌, List, ◌++◌, length, drop, get_or}
+use Rattle.std.proofs.Common.{Option, Some, slice_get, sym, ap, ◌∙◌, arith}
 use Rattle.std.specs.Option.{option_map}
 use Rattle.wc_ops.specs.declared.val_type.ValType.{ValType}
 use Rattle.wc_surface.specs.Standard.Identifiers.{Identifier}
-use Rattle.wc_surface.specs.Standard.WrittenLocals.{locals_from, locals_of, written_out, AreNumbered}
+use Rattle.wc_surface.specs.Standard.WrittenLocals.{locals_from, locals_of, written_out}
 use Rattle.wc_surface.specs.declared.local.Local.{Local}
 use Rattle.wc_surface.specs.declared.local.LocalGroup.{LocalGroup}
 use Rattle.wc_declare.proofs.Faults.{next}
@@ -46,6 +46,3 @@ module _ (gs : List LocalGroup) (i : ℕ) (g : LocalGroup) (k : ℕ) (all : Opti
   beyond-next lt e le h =
       sym (past-group g.id g.ty g.token g.count k (written_out (drop (i + 1) gs)) le)
       ∙ ap (λ (x : List Local). token_at x k) (sym (split gs i g lt e)) ∙ h
-
-  pub numbered-at : AreNumbered gs → i < length gs → g ≡ get_or gs i g → g.token + g.count ≤ 2 ^ 32
-  numbered-at w lt e = subst (λ (x : LocalGroup). x.token + x.count ≤ 2 ^ 32) (sym e) (w i g lt)

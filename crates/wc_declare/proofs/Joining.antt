@@ -1,5 +1,6 @@
 -- Faults that were told on their own.
-use Rattle.std.proofs.Common.{◌≡◌, nat_le, Bool, true, false, cond, List, [], ◌∷◌, Option, Some, None, refl, sym, ap, ◌∙◌, arith}
+use Rattle.std.proofs.Common.{◌≡◌, nat_le, Bool, true, false, cond, List, [], ◌∷◌, Option, Some, None, refl, sym, ap}
+use Rattle.std.proofs.Common.{◌∙◌, arith}
 use Rattle.std.proofs.lemmas.Grind.{common_steps}
 use Rattle.wc_spaces.specs.declared.noted.Fault.{Fault}
 use Rattle.wc_spaces.specs.Standard.Least.{earlier, least_from, least}

@@ -14,7 +14,7 @@ use Rattle.wc_parse.proofs.Tokens.Forms.{few-tokens}
 use Rattle.wc_resolve_code.specs.declared.why.NameWhy.{NameWhy}
 use Rattle.wc_resolve.specs.Standard.Denoted.{Names as Denote, FirstFault as FirstStored}
 use Rattle.wc_meaning.specs.Stored.Placed.{ArePlaced}
-use Rattle.wc_meaning.proofs.Joined.{means-stored, stored-means, fault-stored, stored-fault}
+use Rattle.wc_meaning.proofs.Joined.{stored-means, stored-fault}
 use Rattle.wc_meaning.proofs.Code.Placing.{text-placed}
 use Rattle.wc_read_text.specs.Standard.Texts.{Txt}
 use Rattle.wc_read_text.specs.Standard.Faults.{byte_of, IsNameFault}
@@ -38,13 +38,6 @@ pub record IsStoredText (text : List ℕ) (m : Module) : Type 0 where
   pub says : SaysText text fields
   pub names : Denote fields m
 
-pub text-stored : (text : List ℕ) (m : Module) → Txt text m → IsStoredText text m
-text-stored text m p = record {
-  fields = map field_as p.fields;
-  says = record { tokens = p.tokens; lexes = p.lexes; says = as-stored p.tokens p.fields p.says };
-  names = means-stored p.fields m (placed text p.tokens p.fields p.lexes p.says) p.means;
-}
-
 pub stored-text : (text : List ℕ) (m : Module) → IsStoredText text m → Txt text m
 stored-text text m p =
     let w = p.says.says in record {
@@ -64,15 +57,6 @@ pub record IsStoredFault (text : List ℕ) (token at : ℕ) (why : NameWhy) : Ty
   pub says : SaysText text fields
   pub first : FirstStored fields token why
   pub place : at ≡ byte_of text says.tokens token
-
-pub named-stored : (text : List ℕ) (token at : ℕ) (why : NameWhy) → IsNameFault text token at why
-    → IsStoredFault text token at why
-named-stored text token at why p = record {
-  fields = map field_as p.fields;
-  says = record { tokens = p.tokens; lexes = p.lexes; says = as-stored p.tokens p.fields p.says };
-  first = fault-stored p.fields token why (placed text p.tokens p.fields p.lexes p.says) p.first;
-  place = p.place;
-}
 
 pub stored-named : (text : List ℕ) (token at : ℕ) (why : NameWhy) → IsStoredFault text token at why
     → IsNameFault text token at why

@@ -1,5 +1,4 @@
 -- A printed text is a text of the grammar, and each of its tokens is what it says.
-pub mod Utf8Bytes
 pub mod Each
 pub mod Symbols
 pub mod Meaning

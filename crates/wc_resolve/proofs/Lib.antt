@@ -2,5 +2,4 @@ pub mod Rows
 pub mod Counting
 pub mod Answering
 pub mod Staging
-pub mod Joining
 pub mod Walking

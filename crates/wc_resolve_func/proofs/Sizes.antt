@@ -1,6 +1,6 @@
 -- How many parameters and locals the functions of a text have.
-use Rattle.std.proofs.Common.{◌≡◌, ℕ, zero, suc, ◌+◌, ◌<◌, ◌≤◌, Bool, true, false, cond, List, [], ◌∷◌, ◌++◌, length, map}
-use Rattle.std.proofs.Common.{slice_get, slice_index_or, Option, Some, None, is_some, sum_by, refl, ap, arith}
+use Rattle.std.proofs.Common.{◌≡◌, ℕ, zero, suc, ◌+◌, ◌<◌, ◌≤◌, Bool, true, false, cond, List, [], ◌∷◌, ◌++◌, length}
+use Rattle.std.proofs.Common.{map, slice_get, slice_index_or, Option, Some, None, is_some, sum_by, refl, ap, arith}
 use Rattle.std.proofs.lemmas.List.Sums.{sum_by-cons, sum_by-append}
 use Rattle.std.specs.List.{flat_map}
 use Rattle.std.specs.Option.{option_map}
@@ -9,7 +9,8 @@ use Rattle.wc_ast.specs.Standard.LocalGroups.{locals_limit}
 use Rattle.wc_resolve_code.specs.declared.why.NameWhy.{NameWhy}
 use Rattle.wc_spaces.specs.declared.noted.Fault.{Fault}
 use Rattle.wc_spaces.proofs.Least.{least-none}
-use Rattle.wc_surface.specs.Standard.Sizes.{use_size, func_size, global_size, import_size, inner_size, field_size, IsSurface}
+use Rattle.wc_surface.specs.Standard.Sizes.{use_size, func_size, global_size, import_size, inner_size, field_size}
+use Rattle.wc_surface.specs.Standard.Sizes.{IsSurface}
 use Rattle.wc_surface.specs.declared.type_use.TypeUse.{TypeUse}
 use Rattle.wc_surface.specs.declared.local.Local.{Local}
 use Rattle.wc_surface.specs.declared.field.Field.{Field}

@@ -2,3 +2,4 @@
 pub mod Machine
 pub mod Parses
 pub mod States
+pub mod Terminals

@@ -6,8 +6,8 @@ use Rattle.std.proofs.lemmas.List.{length-append}
 use Rattle.std.proofs.lemmas.Bool.{lt-ltb, ltb-true}
 use Rattle.wc_body.specs.Standard.Nested.{Region, Code, empty, Mark, plain, begin, begin_if, otherwise, close, nesting}
 use Rattle.wc_body.specs.Standard.Nested.{nesting_limit}
-use Rattle.wc_body.specs.Standard.Draft.{Frame, in_region, in_then, in_else, Draft, draft, whole, step, begins, in_first_part}
-use Rattle.wc_body.specs.Standard.Draft.{reach}
+use Rattle.wc_body.specs.Standard.Draft.{Frame, in_region, in_then, in_else, Draft, draft, whole, step, begins}
+use Rattle.wc_body.specs.Standard.Draft.{in_first_part, reach}
 use Rattle.wc_body.proofs.Drafts.DraftLaws.{step-reach}
 use Rattle.wc_body.specs.Standard.Grammar.{Grammar, SpellsDraft, ElseIn, EndIn, SpellsMark}
 use Rattle.wc_body.proofs.Codes.Spelling.{neat-free, step-spelled, start-spelled, whole-spelled}

@@ -6,8 +6,8 @@ use Rattle.wc_ast.specs.declared.module.Module.{Module}
 use Rattle.wc_binary.specs.declared.fault.BinWhy.{BinWhy}
 use Rattle.wc_binary.specs.Standard.Expression.{Begun, letters}
 use Rattle.wc_binary.specs.Standard.Style.{free, canonical}
-use Rattle.wc_binary.specs.Standard.Phrase.{Phrase, gives, byte, unsigned, signed, ◌>>=◌, judged, measured, byte_or_signed, neat}
-use Rattle.wc_binary.specs.Standard.Phrase.{expression, SpellsBy}
+use Rattle.wc_binary.specs.Standard.Phrase.{Phrase, gives, byte, unsigned, signed, ◌>>=◌, judged, measured}
+use Rattle.wc_binary.specs.Standard.Phrase.{byte_or_signed, neat, expression, SpellsBy}
 use Rattle.wc_binary.specs.declared.parts.Parts.{Parts}
 use Rattle.wc_binary.specs.declared.section.SectionKind.{SectionKind}
 use Rattle.wc_binary.specs.Standard.Sections.{in_order, Held, behind_id, held_by}

@@ -8,7 +8,8 @@ use Rattle.wc_leb128.specs.Standard.Integers.{S}
 use Rattle.wc_binary.specs.declared.fault.BinWhy.{BinWhy}
 use Rattle.wc_binary.specs.Standard.Phrase.{Halt, halt, Phrase, gives, byte, unsigned, signed, ◌>>=◌, judged, measured}
 use Rattle.wc_binary.specs.Standard.Phrase.{byte_or_signed, neat, expression, Spells, Stops, StopsEither}
-use Rattle.wc_binary.specs.Reading.Reading.{Got, got, ◌and_then◌, byte_or, byte_at, signed_at, either_at, judge_at, read}
+use Rattle.wc_binary.specs.Reading.Reading.{Got, got, ◌and_then◌, byte_or, byte_at, signed_at, either_at, judge_at}
+use Rattle.wc_binary.specs.Reading.Reading.{read}
 use Rattle.wc_binary.proofs.phrases.Told.{IsTold}
 use Rattle.wc_binary.proofs.phrases.Signed.{signed-told, signed-spelled, signed-stopped}
 use Rattle.wc_binary.proofs.phrases.Expressions.{expression-told, expression-spelled, expression-stopped}

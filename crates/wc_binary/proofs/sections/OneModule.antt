@@ -9,8 +9,8 @@ use Rattle.wc_binary.specs.declared.section.Section.{Section}
 use Rattle.wc_binary.specs.declared.section.SectionKind.{SectionKind}
 use Rattle.wc_binary.specs.Standard.Style.{free}
 use Rattle.wc_binary.specs.Standard.Sections.{id_of, content, after, nothing}
-use Rattle.wc_binary.specs.Standard.Module.{preamble, parts_of, reached, AreSections, StopsSections, StopsCounts, put_all}
-use Rattle.wc_binary.specs.Standard.Module.{RisesBy, StopB}
+use Rattle.wc_binary.specs.Standard.Module.{preamble, parts_of, reached, AreSections, StopsSections, StopsCounts}
+use Rattle.wc_binary.specs.Standard.Module.{put_all, RisesBy, StopB}
 use Rattle.wc_binary.specs.declared.parts.Parts.{Parts}
 use Rattle.wc_binary.proofs.sections.Parts.{module-known, counts-agree}
 use Rattle.wc_binary.proofs.phrases.Laws.{one-spelled, spelled-or-stopped, one-stop}

@@ -6,7 +6,8 @@ use Rattle.wc_binary.specs.declared.parts.Parts.{Parts}
 use Rattle.wc_binary.specs.declared.section.Section.{Section}
 use Rattle.wc_binary.specs.declared.section.SectionKind.{SectionKind}
 use Rattle.wc_binary.specs.Standard.Style.{Style}
-use Rattle.wc_binary.specs.Standard.Sections.{section_id, in_order, Held, absent, held_by, section_of, kind_of, nothing, put}
+use Rattle.wc_binary.specs.Standard.Sections.{section_id, in_order, Held, absent, held_by, section_of, kind_of, nothing}
+use Rattle.wc_binary.specs.Standard.Sections.{put}
 use Rattle.wc_binary.specs.Standard.Module.{parts_of, HasFrom, AreSections, put_all, BinBy, RisesBy}
 use Rattle.wc_binary.proofs.sections.Places.{none-above, section-number, put-same, nothing-held, kept}
 use Rattle.wc_binary.proofs.sections.Rising.{Runs, behind-customs, then-rises, then-found, only-customs}

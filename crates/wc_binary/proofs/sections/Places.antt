@@ -10,8 +10,9 @@ use Rattle.wc_binary.specs.declared.section.SectionKind.{SectionKind}
 use Rattle.wc_binary.specs.declared.section.SectionKind.TheVariants as kinds
 use Rattle.wc_binary.specs.Standard.Style.{Style}
 use Rattle.wc_binary.specs.Standard.Phrase.{Phrase, gives, ◌>>=◌, SpellsBy}
-use Rattle.wc_binary.specs.Standard.Sections.{custom, section_id, in_order, kind_among, kind_of, id_of, ordered, Held, behind_id}
-use Rattle.wc_binary.specs.Standard.Sections.{absent, held_by, section_of, content, number, nothing, put, Stands}
+use Rattle.wc_binary.specs.Standard.Sections.{custom, section_id, in_order, kind_among, kind_of, id_of, ordered, Held}
+use Rattle.wc_binary.specs.Standard.Sections.{behind_id, absent, held_by, section_of, content, number, nothing, put}
+use Rattle.wc_binary.specs.Standard.Sections.{Stands}
 
 -- ---- ids
 

@@ -12,8 +12,9 @@ use Rattle.wc_binary.specs.Standard.Phrase.{SpellsBy}
 use Rattle.wc_binary.specs.Standard.Sections.{section_id, Held, behind_id, absent, held_by, section_of, kind_of, number}
 use Rattle.wc_binary.specs.Standard.Sections.{put, Stands}
 use Rattle.wc_binary.specs.Standard.Module.{AreCustoms, Customs, IsSection, Then, AreSections, put_all}
-use Rattle.wc_binary.proofs.sections.Places.{IsId, id-told, id-stands, content-number, content-held, held-content, custom-content}
-use Rattle.wc_binary.proofs.sections.Places.{content-custom, section-number, kind-is, stands-is, put-held, kept}
+use Rattle.wc_binary.proofs.sections.Places.{IsId, id-told, id-stands, content-number, content-held, held-content}
+use Rattle.wc_binary.proofs.sections.Places.{custom-content, content-custom, section-number, kind-is, stands-is}
+use Rattle.wc_binary.proofs.sections.Places.{put-held, kept}
 
 -- sections with ids above `last` lead from some parts to others
 abbrev pub Runs : Style → ℕ → List ℕ → Parts → Parts → Type 0

@@ -11,7 +11,8 @@ use Rattle.wc_binary.specs.declared.section.Section.{Section}
 use Rattle.wc_binary.specs.declared.section.SectionKind.{SectionKind}
 use Rattle.wc_binary.specs.Standard.Style.{free}
 use Rattle.wc_binary.specs.Standard.Sections.{id_of, content, after, nothing}
-use Rattle.wc_binary.specs.Standard.Module.{preamble, AreSections, StopsSections, put_all, RisesBy, Bin, StopB, FirstFault}
+use Rattle.wc_binary.specs.Standard.Module.{preamble, AreSections, StopsSections, put_all, RisesBy, Bin, StopB}
+use Rattle.wc_binary.specs.Standard.Module.{FirstFault}
 use Rattle.wc_binary.proofs.sections.Order.{rises-bin}
 use Rattle.wc_binary.specs.declared.fault.BinWhy.TheVariants.{Counts}
 use Rattle.wc_binary.proofs.sections.Parts.{module-of}

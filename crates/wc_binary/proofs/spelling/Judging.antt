@@ -8,7 +8,8 @@ use Rattle.wc_leb128.specs.Writing.Bytes.{unsigned_bytes, signed_bytes}
 use Rattle.wc_leb128.proofs.Laws.SignedLaws.{spelled-holds}
 use Rattle.wc_leb128.proofs.Writing.SignedShortest.{signed_bytes-spelled, signed_bytes-only, signed_bytes-or_longer}
 use Rattle.wc_leb128.proofs.Laws.UnsignedLaws.{spelled-below}
-use Rattle.wc_leb128.proofs.Writing.UnsignedShortest.{unsigned_bytes-spelled, unsigned_bytes-only, unsigned_bytes-or_longer}
+use Rattle.wc_leb128.proofs.Writing.UnsignedShortest.{unsigned_bytes-spelled, unsigned_bytes-only}
+use Rattle.wc_leb128.proofs.Writing.UnsignedShortest.{unsigned_bytes-or_longer}
 use Rattle.wc_leb128.proofs.Writing.Lengths.{length-unsigned_bytes-mono}
 use Rattle.wc_binary.specs.Standard.Style.{Style, free, canonical, IsShortest}
 use Rattle.wc_binary.specs.Standard.Module.{IsOrLonger}

@@ -14,16 +14,16 @@ use Rattle.wc_binary.specs.declared.fault.BinWhy.TheVariants.{WrongType}
 use Rattle.wc_binary.specs.Standard.Style.{Style, canonical}
 use Rattle.wc_binary.specs.Standard.Phrase.{gives, byte, ◌>>=◌, SpellsBy}
 use Rattle.wc_binary.specs.Standard.Values.{u32, vector, only}
-use Rattle.wc_binary.specs.Standard.Types.{value_type, value_type_of, func_type, flag, flag_of, maximum, limits, table_type}
-use Rattle.wc_binary.specs.Standard.Types.{global_type}
+use Rattle.wc_binary.specs.Standard.Types.{value_type, value_type_of, func_type, flag, flag_of, maximum, limits}
+use Rattle.wc_binary.specs.Standard.Types.{table_type, global_type}
 use Rattle.wc_body.specs.Standard.ValueBytes.{vector_bytes, value_type_bytes}
 use Rattle.wc_binary.specs.Writing.Values.{func_type_bytes, flag_bytes, maximum_bytes}
 use Rattle.wc_body.specs.Standard.ValueBytes.{Fits32, FitsVector}
 use Rattle.wc_binary.specs.Writing.Values.{limits_bytes, table_type_bytes, global_type_bytes, FitsFuncType}
 use Rattle.wc_binary.specs.Writing.Values.{FitsMaximum, FitsLimits, Anything}
 use Rattle.wc_binary.proofs.spelling.Judging.{HasBytes}
-use Rattle.wc_binary.proofs.spelling.Phrases.{of, writes-as, u32-writes, byte-writes, only-writes, then-writes, seen-writes}
-use Rattle.wc_binary.proofs.spelling.Phrases.{made-writes, vector-writes}
+use Rattle.wc_binary.proofs.spelling.Phrases.{of, writes-as, u32-writes, byte-writes, only-writes, then-writes}
+use Rattle.wc_binary.proofs.spelling.Phrases.{seen-writes, made-writes, vector-writes}
 
 abbrev ok_type : ValType → Result ValType BinWhy
 ok_type v = Ok v

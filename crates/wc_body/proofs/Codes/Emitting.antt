@@ -1,8 +1,8 @@
 -- A walk that writes pieces writes those of the instructions.
 use Rattle.std.proofs.Common.{◌≡◌, ◌≢◌, ◌⊎◌, List, [], ◌∷◌, ◌++◌, refl, sym, ap, ◌∙◌, append_assoc, inl, inr}
 use Rattle.std.proofs.lemmas.List.{append-nil}
-use Rattle.wc_body.specs.Standard.Nested.{Region, Code, empty, op, region, choice, Mark, plain, begin, begin_if, otherwise, close}
-use Rattle.wc_body.specs.Standard.Nested.{else_mark, flat, flatten}
+use Rattle.wc_body.specs.Standard.Nested.{Region, Code, empty, op, region, choice, Mark, plain, begin, begin_if}
+use Rattle.wc_body.specs.Standard.Nested.{otherwise, close, else_mark, flat, flatten}
 use Rattle.wc_body.specs.Standard.Grammar.{Grammar, Spells}
 use Rattle.wc_body.specs.Standard.Throughout.{Throughout}
 use Rattle.wc_body.specs.Standard.Pieces.{Pieces, emitted, else_piece}

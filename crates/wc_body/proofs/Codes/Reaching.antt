@@ -1,8 +1,8 @@
 -- What is spelled is reached by marks, and reading by marks ends in one way.
 use Rattle.std.proofs.Common.{◌≡◌, ℕ, ◌+◌, ◌≤◌, ◌<◌, max, true, List, [], ◌∷◌, ◌++◌, length, refl, ap, ◌∙◌}
 use Rattle.std.proofs.Common.{append_assoc, arith, inl, inr}
-use Rattle.wc_body.specs.Standard.Nested.{Code, empty, op, region, choice, Mark, plain, begin, begin_if, otherwise, close, ◌⧺◌}
-use Rattle.wc_body.specs.Standard.Nested.{nesting}
+use Rattle.wc_body.specs.Standard.Nested.{Code, empty, op, region, choice, Mark, plain, begin, begin_if, otherwise}
+use Rattle.wc_body.specs.Standard.Nested.{close, ◌⧺◌, nesting}
 use Rattle.wc_body.specs.Standard.Draft.{Frame, in_region, in_then, in_else, Draft, draft, whole, step, begins, reach}
 use Rattle.wc_body.specs.Stored.Rebuilt.{append-empty, append-assoc}
 use Rattle.wc_body.specs.Standard.Grammar.{Grammar, Spells, Opens, SpellsDraft, SpellsMark}

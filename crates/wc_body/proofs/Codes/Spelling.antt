@@ -1,7 +1,8 @@
 -- Letters that spell unfinished instructions, and then one more mark.
 use Rattle.std.proofs.Common.{◌≢◌, List, [], ◌∷◌, ◌++◌, refl, sym, ap, ◌∙◌, append_assoc, inl, inr}
 use Rattle.std.proofs.lemmas.List.{append-nil}
-use Rattle.wc_body.specs.Standard.Nested.{Code, empty, op, region, choice, Mark, plain, begin, begin_if, otherwise, close, ◌⧺◌}
+use Rattle.wc_body.specs.Standard.Nested.{Code, empty, op, region, choice, Mark, plain, begin, begin_if, otherwise}
+use Rattle.wc_body.specs.Standard.Nested.{close, ◌⧺◌}
 use Rattle.wc_body.specs.Standard.Draft.{Frame, in_region, in_then, in_else, Draft, draft, whole, step, closed, turned}
 use Rattle.wc_body.specs.Standard.Grammar.{Grammar, Spells, SpellsDraft, ElseIn, EndIn, SpellsMark}
 

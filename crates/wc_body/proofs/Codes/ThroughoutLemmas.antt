@@ -1,7 +1,7 @@
 -- What holds of each mark holds of each part, and the other way.
 use Rattle.std.proofs.Common.{List, [], ◌∷◌}
-use Rattle.wc_body.specs.Standard.Nested.{Code, empty, op, region, choice, Mark, plain, begin, begin_if, otherwise, close}
-use Rattle.wc_body.specs.Standard.Nested.{else_mark, flat, flatten}
+use Rattle.wc_body.specs.Standard.Nested.{Code, empty, op, region, choice, Mark, plain, begin, begin_if, otherwise}
+use Rattle.wc_body.specs.Standard.Nested.{close, else_mark, flat, flatten}
 use Rattle.wc_body.specs.Standard.Throughout.{Throughout}
 
 module _ {P H : Type 0} (F : P → Type 0) (G : H → Type 0) where

@@ -2,8 +2,8 @@
 use Rattle.std.proofs.Common.{◌≡◌, ℕ, ◌+◌, ◌-◌, ◌≤◌, List, [], ◌∷◌, ◌++◌, refl, sym, ap, ◌∙◌, append_assoc, arith}
 use Rattle.std.proofs.Common.{true, ◌<◌, length}
 use Rattle.std.proofs.lemmas.List.{append-nil}
-use Rattle.wc_body.specs.Standard.Nested.{Code, empty, op, region, choice, Mark, plain, begin, begin_if, otherwise, close}
-use Rattle.wc_body.specs.Standard.Nested.{else_mark, flat, flatten, nesting, ◌⧺◌}
+use Rattle.wc_body.specs.Standard.Nested.{Code, empty, op, region, choice, Mark, plain, begin, begin_if, otherwise}
+use Rattle.wc_body.specs.Standard.Nested.{close, else_mark, flat, flatten, nesting, ◌⧺◌}
 use Rattle.wc_body.specs.Standard.Draft.{Frame, in_region, in_then, in_else, Draft, draft, whole, step, begins}
 use Rattle.wc_body.specs.Drafting.Staying.{may_stay}
 use Rattle.wc_body.specs.Stored.Rebuilt.{append-empty, append-assoc}

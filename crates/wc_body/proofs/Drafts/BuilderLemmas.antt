@@ -15,7 +15,8 @@ use Rattle.wc_body.specs.declared.builder.Part.TheVariants.{Other}
 use Rattle.wc_body.specs.declared.builder.BuildFault.{BuildFault}
 use Rattle.wc_body.specs.declared.builder.BuildFault.TheVariants as BuildFaults
 use Rattle.wc_body.specs.Standard.Nested.{nesting_limit, Code, empty, Mark, close}
-use Rattle.wc_body.specs.Standard.Draft.{Frame, in_region, in_then, in_else, in_first_part, turned, Draft, whole, step, begins}
+use Rattle.wc_body.specs.Standard.Draft.{Frame, in_region, in_then, in_else, in_first_part, turned, Draft, whole, step}
+use Rattle.wc_body.specs.Standard.Draft.{begins}
 use Rattle.wc_body.specs.Drafting.Staying.{may_stay}
 use Rattle.wc_body.specs.Standard.Draft.{may_come, is_otherwise, is_open, built, so_far, kept_with as more_marks}
 use Rattle.wc_body.proofs.Drafts.DraftLaws.{steps-append}

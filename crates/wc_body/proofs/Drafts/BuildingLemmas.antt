@@ -3,10 +3,10 @@ use Rattle.std.proofs.Common.{◌≡◌, ℕ, ◌+◌, ◌≤◌, ◌<◌, Bool,
 use Rattle.std.proofs.Common.{set, take, refl, sym, ap, ◌∙◌, arith}
 use Rattle.std.proofs.lemmas.List.{length-append}
 use Rattle.std.proofs.Math.Seq.{set-append_seam, take-append_seam}
-use Rattle.wc_body.specs.Standard.Nested.{nesting_limit, Code, empty, op, region, choice, Mark, plain, begin, begin_if, otherwise}
-use Rattle.wc_body.specs.Standard.Nested.{close, ◌⧺◌, flat}
-use Rattle.wc_body.specs.Standard.Draft.{Frame, in_region, in_then, in_else, Draft, draft, whole, step, steps, built, closed}
-use Rattle.wc_body.specs.Standard.Draft.{turned, may_come, begins, in_first_part, is_open, is_otherwise, ended}
+use Rattle.wc_body.specs.Standard.Nested.{nesting_limit, Code, empty, op, region, choice, Mark, plain, begin, begin_if}
+use Rattle.wc_body.specs.Standard.Nested.{otherwise, close, ◌⧺◌, flat}
+use Rattle.wc_body.specs.Standard.Draft.{Frame, in_region, in_then, in_else, Draft, draft, whole, step, steps, built}
+use Rattle.wc_body.specs.Standard.Draft.{closed, turned, may_come, begins, in_first_part, is_open, is_otherwise, ended}
 use Rattle.wc_body.specs.Drafting.Staying.{may_stay, may_end, AllMayStay}
 use Rattle.wc_body.specs.Standard.Draft.{open_marks, upto, so_far, kept_with}
 use Rattle.wc_body.proofs.Drafts.DraftLaws.{steps-append, AllMayStay-append, AllMayStay-flat, step-reach, upto-built}

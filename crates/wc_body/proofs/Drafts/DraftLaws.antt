@@ -1,10 +1,10 @@
 -- Laws of nested instructions, their marks and drafts.
 use Rattle.std.proofs.Common.{◌≡◌, ℕ, ◌+◌, ◌≤◌, ◌<◌, max, true, List, [], ◌∷◌, ◌++◌, length, refl, sym, ap, ◌∙◌, arith}
 use Rattle.std.proofs.lemmas.List.{append-nil}
-use Rattle.wc_body.specs.Standard.Nested.{Code, empty, op, region, choice, Mark, plain, begin, begin_if, otherwise, close, ◌⧺◌}
-use Rattle.wc_body.specs.Standard.Nested.{else_mark, flat, flatten, nesting}
-use Rattle.wc_body.specs.Standard.Draft.{Frame, in_region, in_then, in_else, Draft, draft, whole, step, steps, built, closed}
-use Rattle.wc_body.specs.Standard.Draft.{turned, begins, in_first_part, open_marks, upto, reach}
+use Rattle.wc_body.specs.Standard.Nested.{Code, empty, op, region, choice, Mark, plain, begin, begin_if, otherwise}
+use Rattle.wc_body.specs.Standard.Nested.{close, ◌⧺◌, else_mark, flat, flatten, nesting}
+use Rattle.wc_body.specs.Standard.Draft.{Frame, in_region, in_then, in_else, Draft, draft, whole, step, steps, built}
+use Rattle.wc_body.specs.Standard.Draft.{closed, turned, begins, in_first_part, open_marks, upto, reach}
 use Rattle.wc_body.specs.Drafting.Staying.{may_stay, may_end, AllMayStay}
 use Rattle.wc_body.specs.Stored.Rebuilt.{append-empty, append-assoc, built_flatten}
 

@@ -5,8 +5,8 @@ use Rattle.wc_body.specs.declared.instr.BlockType.{BlockType}
 use Rattle.wc_body.specs.declared.instr.Instr.{Instr}
 use Rattle.wc_body.specs.declared.needs.Needs.{Needs}
 use Rattle.wc_body.specs.Standard.Nested.{Code, empty, Mark, plain, begin, begin_if, otherwise, close, flatten}
-use Rattle.wc_body.specs.Standard.Draft.{Frame, in_region, in_then, in_else, Draft, whole, step, steps, built, closed, turned}
-use Rattle.wc_body.specs.Standard.Draft.{ended}
+use Rattle.wc_body.specs.Standard.Draft.{Frame, in_region, in_then, in_else, Draft, whole, step, steps, built, closed}
+use Rattle.wc_body.specs.Standard.Draft.{turned, ended}
 use Rattle.wc_body.specs.Standard.Needed.{nothing, with_mark, with_all, needs_of}
 use Rattle.wc_body.specs.Drafting.NeededAlong.{needs_along}
 use Rattle.wc_body.specs.Standard.Placed.{deeper}

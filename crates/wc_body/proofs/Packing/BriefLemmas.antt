@@ -1,7 +1,7 @@
 -- Brief entries: the table of what they are like, and the entry that bytes begin with.
 use Rattle.std.specs.Prelude.{None, if◌then◌else◌}
-use Rattle.std.proofs.Common.{◌≡◌, ℕ, zero, suc, ◌+◌, ◌%◌, ◌<◌, ◌≤◌, ◌==◌, Bool, true, false, List, [], ◌∷◌, Some, inl, inr}
-use Rattle.std.proofs.Common.{length, get_or, drop, bit_and, bit_or, refl, ap, ◌∙◌, arith, add-zero, zero-add}
+use Rattle.std.proofs.Common.{◌≡◌, ℕ, zero, suc, ◌+◌, ◌%◌, ◌<◌, ◌≤◌, ◌==◌, Bool, true, false, List, [], ◌∷◌, Some, inl}
+use Rattle.std.proofs.Common.{inr, length, get_or, drop, bit_and, bit_or, refl, ap, ◌∙◌, arith, add-zero, zero-add}
 use Rattle.std.proofs.lemmas.Bool.{cases_lt, lt-ltb, le-ltb, true≢false}
 use Rattle.std.proofs.lemmas.Nat.{and_mask, or_comm, or_disjoint}
 use Rattle.wc_leb128.specs.Standard.OneByte.{signed_in_one}

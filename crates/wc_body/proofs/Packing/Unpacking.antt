@@ -16,7 +16,8 @@ use Rattle.wc_ops.specs.declared.op.OpByte.{OpByte}
 use Rattle.wc_ops.specs.declared.op.SimpleOp.{SimpleOp}
 use Rattle.wc_ops.specs.declared.op.SimpleOp.TheVariants.{MemorySize, MemoryGrow}
 use Rattle.wc_body.specs.declared.instr.Instr.{Instr}
-use Rattle.wc_body.specs.declared.instr.Instr.TheVariants.{Simple, Index, Mem, BrTable, CallIndirect, I32Const, I64Const}
+use Rattle.wc_body.specs.declared.instr.Instr.TheVariants.{Simple, Index, Mem, BrTable, CallIndirect, I32Const}
+use Rattle.wc_body.specs.declared.instr.Instr.TheVariants.{I64Const}
 use Rattle.wc_body.specs.declared.instr.BlockType.{BlockType}
 use Rattle.wc_body.specs.declared.instr.BlockType.TheVariants as block_types
 use Rattle.wc_body.specs.declared.entry.Kind.{Kind}
@@ -29,8 +30,8 @@ use Rattle.wc_body.specs.Standard.ValueBytes.{Fits32}
 use Rattle.wc_body.specs.Standard.InstructionBytes.{op_of, simple_rest, rest_bytes, block_type_bytes}
 use Rattle.wc_body.specs.Writing.EntryBytes.{entry_bytes, FitsEntry}
 use Rattle.wc_body.specs.Standard.InstructionBytes.{FitsInstr, FitsBlockType}
-use Rattle.wc_body.specs.Reading.Fronts.{unsigned_front, signed_front, labels_front, behind_labels, simple_front, known_front}
-use Rattle.wc_body.specs.Reading.Fronts.{block_type_front, begin_front, meant_front, entry_front}
+use Rattle.wc_body.specs.Reading.Fronts.{unsigned_front, signed_front, labels_front, behind_labels, simple_front}
+use Rattle.wc_body.specs.Reading.Fronts.{known_front, block_type_front, begin_front, meant_front, entry_front}
 use Rattle.wc_body.specs.Reading.Unpacked.{packed, unpacked_within, unpacked}
 use Rattle.wc_body.proofs.Packing.Integers.{unsigned-found, signed-found}
 use Rattle.wc_ops.proofs.Meanings.OfBytes.{row-meaning, meant}

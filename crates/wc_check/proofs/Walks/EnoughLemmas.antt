@@ -6,7 +6,8 @@ use Rattle.std.proofs.lemmas.Bool.{lt-leb, ne_eqb}
 use Rattle.wc_body.specs.declared.instr.BlockType as block_type
 use Rattle.wc_body.specs.declared.instr.BlockType.TheVariants as block_types
 use Rattle.wc_body.specs.declared.instr.Instr as instr
-use Rattle.wc_body.specs.declared.instr.Instr.TheVariants.{Simple, Index, Mem, BrTable, CallIndirect, I32Const, I64Const}
+use Rattle.wc_body.specs.declared.instr.Instr.TheVariants.{Simple, Index, Mem, BrTable, CallIndirect, I32Const}
+use Rattle.wc_body.specs.declared.instr.Instr.TheVariants.{I64Const}
 use Rattle.wc_ops.specs.declared.op.SimpleOp.{SimpleOp}
 use Rattle.wc_ops.specs.declared.op.SimpleOp.TheVariants.{MemorySize, MemoryGrow}
 use Rattle.wc_ops.specs.declared.op.IndexOp.{IndexOp}
@@ -14,8 +15,8 @@ use Rattle.wc_ops.specs.declared.op.IndexOp.TheVariants.{Br, BrIf, Call, LocalGe
 use Rattle.wc_ops.specs.declared.op.IndexOp.TheVariants.{GlobalSet}
 use Rattle.wc_body.specs.declared.needs.Needs.{Needs}
 use Rattle.wc_body.specs.Standard.Nested.{Code, Mark, plain, begin, begin_if, otherwise, close}
-use Rattle.wc_body.specs.Standard.Needed.{nothing, enough, with_simple, with_index, with_instr, with_block, with_mark, with_all}
-use Rattle.wc_body.specs.Standard.Needed.{needs_of}
+use Rattle.wc_body.specs.Standard.Needed.{nothing, enough, with_simple, with_index, with_instr, with_block, with_mark}
+use Rattle.wc_body.specs.Standard.Needed.{with_all, needs_of}
 use Rattle.wc_ops.specs.Standard.Opcodes.{memory}
 use Rattle.wc_body.specs.Standard.Placed.{placed, deeper}
 use Rattle.wc_check.specs.declared.context.Context.{Context}
@@ -23,8 +24,8 @@ use Rattle.wc_check.specs.declared.fault.Item.TheVariants as items
 use Rattle.wc_check.specs.declared.fault.CheckWhy.{CheckWhy}
 use Rattle.wc_check.specs.declared.fault.CheckWhy.TheVariants as whys
 use Rattle.wc_check.specs.Standard.Rules.{rule, at, each}
-use Rattle.wc_check.specs.Standard.InstructionRules.{simple_rules, is_constant_at, index_rules, instr_rules, block_rules, mark_rules}
-use Rattle.wc_check.specs.Standard.InstructionRules.{broken_instr, broken_in_body}
+use Rattle.wc_check.specs.Standard.InstructionRules.{simple_rules, is_constant_at, index_rules, instr_rules}
+use Rattle.wc_check.specs.Standard.InstructionRules.{block_rules, mark_rules, broken_instr, broken_in_body}
 use Rattle.wc_check.specs.Judging.Enough.{HasRoom, IsEnough}
 
 -- there is room for the index, and for what was needed before

@@ -1,5 +1,6 @@
 -- Runs of mutable globals: what stands in one between its beginning and a global of it is mutable.
-use Rattle.std.proofs.Common.{◌≡◌, ℕ, zero, suc, ◌+◌, ◌<◌, ◌≤◌, Bool, true, false, not, List, [], ◌∷◌, refl, ap, arith, cond}
+use Rattle.std.proofs.Common.{◌≡◌, ℕ, zero, suc, ◌+◌, ◌<◌, ◌≤◌, Bool, true, false, not, List, [], ◌∷◌, refl, ap, arith}
+use Rattle.std.proofs.Common.{cond}
 use Rattle.std.specs.Prelude.{slice_get, Some, ◌-◌}
 use Rattle.wc_ast.specs.declared.limits.GlobalType.{GlobalType}
 use Rattle.wc_check.specs.Standard.InstructionRules.{is_constant_at}

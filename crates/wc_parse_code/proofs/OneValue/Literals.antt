@@ -18,9 +18,6 @@ unsigned-or-plus e = cc
 unsigned-or-minus : {n k : ℕ} → Unsigned n ≡ Minus k → ⊥
 unsigned-or-minus e = cc
 
-plus-or-minus : {n k : ℕ} → Minus n ≡ Plus k → ⊥
-plus-or-minus e = cc
-
 same-literal : {text : List ℕ} {l m : Signed} → Literal text l → Literal text m → size l < 2 ^ 64 → l ≡ m
 same-literal (unsigned d) (unsigned e) f = ap Unsigned (same-Natural d e f)
 same-literal (unsigned d) (plus {text = t} e) f =

@@ -17,10 +17,6 @@ behind old ds new e = e ∙ ap (λ (x : List ℕ). old ++ (32 ∷ x)) (sym (appe
 pub number-put : (n : ℕ) (old new : List ℕ) → n < 2 ^ 32 → new ≡ old ++ (32 ∷ decimal n) → Put (after (number n) ∷ []) old new
 number-put n old new lt e = record { spelled = (omega (arith, lt), tt); bytes = behind old (decimal n) new e }
 
-integer-put : (z : ℤ) (old new : List ℕ) → mag z < 2 ^ 63 → new ≡ old ++ (32 ∷ signed_decimal z)
-    → Put (after (integer z) ∷ []) old new
-integer-put z old new lt e = record { spelled = (lt, tt); bytes = behind old (signed_decimal z) new e }
-
 module _ {F S : Type 0} {Has : F → S → List ℕ → Type 0} where
   -- a number of one digit
   pub digit-put : (n : ℕ) {old new : S} → n < 10 → Says Has (32 ∷ (48 + n) ∷ []) old new → Puts Has (after (number n) ∷ []) old new

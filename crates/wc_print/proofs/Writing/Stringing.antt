@@ -82,14 +82,6 @@ module _ {F S : Type 0} {Has : F → S → List ℕ → Type 0} where
     fewer = omega (arith, length-drop n all);
   }
 
-  -- some of those that were left, and then others
-  pub leaves-on : {less left all : List ℕ} {out mid old : S} → LeavesEscaped Has less left out mid
-      → LeavesEscaped Has left all mid old → LeavesEscaped Has less all out old
-  leaves-on h k = record {
-    finish = λ new p. k.finish new (h.finish new p);
-    fewer = omega (arith, h.fewer, k.fewer);
-  }
-
   -- a space and a quote, all bytes, and a quote
   pub string-put : (bs rest : List ℕ) {old mid out new : S} → ((k : ℕ) → Fits w8 (get_or bs k 0)) → length rest ≡ 0
       → Says Has (32 ∷ 34 ∷ []) old mid → LeavesEscaped Has rest bs out mid → Says Has (34 ∷ []) out new

@@ -42,7 +42,7 @@ use Rattle.wc_readback.proofs.GrammarLemmas.Parts.{type-means, natural-means, in
 use Rattle.wc_readback.proofs.GrammarLemmas.Parts.{indices-means, params-means, results-means, locals-means}
 use Rattle.wc_readback.proofs.GrammarLemmas.Parts.{typeuse-means, exported-means}
 use Rattle.wc_readback.proofs.GrammarLemmas.Codes.{code-means}
-use Rattle.wc_readback.proofs.GrammarLemmas.Utf8Bytes.{bytes}
+use Rattle.wc_ast.proofs.Utf8Bytes.{utf8-bytes}
 
 -- any type of a function is printed
 abbrev Anything : FuncType → Type 0
@@ -80,8 +80,8 @@ globaltype-means true t =
 names-means : (i : Import) → FitsImport i
     → Means import_names (name role.ModuleName i.«module» ∷ name role.ItemName i.name ∷ [])
 names-means i h =
-    first (name-means role.ModuleName i.«module» h.0 (bytes i.«module» h.0))
-    (name-means role.ItemName i.name h.1 (bytes i.name h.1))
+    first (name-means role.ModuleName i.«module» h.0 (utf8-bytes i.«module» h.0))
+    (name-means role.ItemName i.name h.1 (utf8-bytes i.name h.1))
 
 desc-means : (t : Desc) → FitsDesc t → Means importdesc (desc_signs t)
 desc-means (descs.Func n) h = in-left (first (kept-means role.Description kind.FuncWord refl) (skip (typeuse-means n h)))
@@ -146,7 +146,7 @@ module _ (d : ℕ) (deep : nesting_limit ≤ d) where
   export-field e h =
       by-rule (in-right (in-right (in-right (in-right (in-right (in-right (in-left
       (first open-means (first (kept-means role.Field kind.ExportWord refl)
-      (first (name-means role.ExportName e.name h.0 (bytes e.name h.0))
+      (first (name-means role.ExportName e.name h.0 (utf8-bytes e.name h.0))
       (first open-means (first (space-means e.kind) (first (index-means role.Target e.index h.1)
       (first close-means end-means))))))))))))))
 

@@ -1,11 +1,11 @@
 -- Each word is a number, or it is none.
-use Rattle.std.proofs.Common.{◌≡◌, ◌≢◌, ℕ, zero, suc, ◌-◌, ◌^◌, ◌<◌, ◌≤◌, false, List, [], ◌∷◌, Option, Some, None, refl, sym, ap}
-use Rattle.std.proofs.Common.{subst, ◌∙◌, ◌⊎◌, inl, inr, arith}
+use Rattle.std.proofs.Common.{◌≡◌, ◌≢◌, ℕ, zero, suc, ◌-◌, ◌^◌, ◌<◌, ◌≤◌, false, List, [], ◌∷◌, Option, Some, None}
+use Rattle.std.proofs.Common.{refl, sym, ap, subst, ◌∙◌, ◌⊎◌, inl, inr, arith}
 use Rattle.std.proofs.lemmas.Bool.{cases_lt, cases_eq}
 use Rattle.wc_tokens.specs.Standard.Digits.{Digits}
 use Rattle.wc_tokens.specs.Reading.Scans.{scan}
-use Rattle.wc_tokens.specs.Standard.Numbers.{Natural, decimal, hexadecimal, Signed, Unsigned, Plus, Minus, Literal, unsigned}
-use Rattle.wc_tokens.specs.Standard.Numbers.{plus, minus, FitsBits, bits_of}
+use Rattle.wc_tokens.specs.Standard.Numbers.{Natural, decimal, hexadecimal, Signed, Unsigned, Plus, Minus, Literal}
+use Rattle.wc_tokens.specs.Standard.Numbers.{unsigned, plus, minus, FitsBits, bits_of}
 use Rattle.wc_tokens.specs.declared.numbers.Num.TheVariants.{NotANumber}
 use Rattle.wc_tokens.proofs.Integers.NumberLaws.{no-digits, more-behind, all-digits, IsNum-hexadecimal, IsNum-decimal}
 use Rattle.wc_syntax.specs.declared.kind.Kind.TheVariants as kind

@@ -74,10 +74,6 @@ pub Short-small : (text : List ℕ) (at value : ℕ) → Short text at value →
 Short-small text at value s l =
     let p : 10 ^ at ≤ 10 ^ 9 = pow-le-pow_right (omega arith) l in omega (arith, p, s.within)
 
-pub Short-smaller : (text : List ℕ) (at value : ℕ) → Short text at value → at ≤ 8 → value < 10 ^ 8
-Short-smaller text at value s l =
-    let p : 10 ^ at ≤ 10 ^ 8 = pow-le-pow_right (omega arith) l in omega (arith, p, s.within)
-
 -- all of the text is digits
 pub Short-whole : (text : List ℕ) (at value : ℕ) → Short text at value → 0 < length text → length text ≤ 9
     → length text ≤ at → at ≤ length text → Digits 10 text value × (value < 10 ^ 9)

@@ -8,7 +8,8 @@ use Rattle.wc_syntax.specs.declared.place.Place.{Place}
 use Rattle.wc_syntax.specs.declared.place.Frame.{Frame}
 use Rattle.wc_syntax.specs.Standard.Phrases.{Terminal, word, mark, Phrase}
 use Rattle.wc_syntax.specs.Standard.Deriving.{Item, terminal_of, Event}
-use Rattle.wc_syntax.specs.Tables.Kinds.{code_of, same, all_terminals}
+use Rattle.wc_syntax.specs.Tables.Kinds.{code_of, same}
+use Rattle.wc_syntax.proofs.Parser.Terminals.{all_terminals}
 use Rattle.wc_syntax.specs.Tables.Table.{leads_to, is_end}
 use Rattle.wc_syntax.proofs.Stacks.Run.{Mode, Run}
 use Rattle.wc_syntax.proofs.Stacks.Edges.{Edge, edge, Edges, edges, edges-of, keep, AlongAny, edges-out, edges-in}

@@ -9,7 +9,7 @@ use Rattle.wc_syntax.specs.declared.place.Move.{Move}
 use Rattle.wc_syntax.specs.declared.place.Move.TheVariants.{On, Past, Turn, Into, Out}
 use Rattle.wc_syntax.specs.declared.place.Action.{Action}
 use Rattle.wc_syntax.specs.Standard.Phrases.{Terminal, Phrase}
-use Rattle.wc_syntax.specs.Tables.Kinds.{all_terminals}
+use Rattle.wc_syntax.proofs.Parser.Terminals.{all_terminals}
 use Rattle.wc_syntax.specs.Tables.Table.{leads_to, is_end, resume}
 use Rattle.wc_syntax.proofs.Stacks.Edges.{Edges, edges}
 use Rattle.wc_syntax.proofs.Tabled.Places.{edges-all, pick, the-edges, left, front, over, is-open, fuel, means, Alt}

@@ -1,6 +1,6 @@
 -- Places of a text that are looked at each on its own: elements begin at those that have no backslash in front.
-use Rattle.std.proofs.Common.{◌≡◌, ◌≢◌, ℕ, zero, suc, ◌+◌, ◌<◌, ◌≤◌, ◌⊎◌, List, take, length, get_or, set, Bool, true, false}
-use Rattle.std.proofs.Common.{◌==◌, ◌&&◌, not, if◌then◌else◌, inl, inr, refl, sym, ap, ◌∙◌, arith, add-zero}
+use Rattle.std.proofs.Common.{◌≡◌, ◌≢◌, ℕ, zero, suc, ◌+◌, ◌<◌, ◌≤◌, ◌⊎◌, List, take, length, get_or, set, Bool, true}
+use Rattle.std.proofs.Common.{false, ◌==◌, ◌&&◌, not, if◌then◌else◌, inl, inr, refl, sym, ap, ◌∙◌, arith, add-zero}
 use Rattle.std.proofs.lemmas.Bool.{cases_eq, ne_eqb}
 use Rattle.std.proofs.lemmas.List.{take-set}
 use Rattle.wc_tokens.specs.Standard.Digits.{IsDigit}

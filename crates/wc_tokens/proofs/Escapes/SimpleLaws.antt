@@ -1,7 +1,7 @@
 -- Simple elements, and where the elements of a string end.
-use Rattle.std.proofs.Common.{◌≡◌, ◌≢◌, ℕ, zero, suc, ◌+◌, ◌-◌, ◌*◌, ◌<◌, ◌≤◌, List, [], ◌∷◌, ◌++◌, length, take, drop, get_or, set}
-use Rattle.std.proofs.Common.{Some, None, refl, sym, ap, subst, ◌∙◌, append_assoc, length-drop, inl, inr, lit≤, arith}
-use Rattle.std.proofs.Common.{Bool, true, false, ◌==◌, if◌then◌else◌, length-set}
+use Rattle.std.proofs.Common.{◌≡◌, ◌≢◌, ℕ, zero, suc, ◌+◌, ◌-◌, ◌*◌, ◌<◌, ◌≤◌, List, [], ◌∷◌, ◌++◌, length, take, drop}
+use Rattle.std.proofs.Common.{get_or, set, Some, None, refl, sym, ap, subst, ◌∙◌, append_assoc, length-drop, inl, inr}
+use Rattle.std.proofs.Common.{lit≤, arith, Bool, true, false, ◌==◌, if◌then◌else◌, length-set}
 use Rattle.std.specs.List.{between}
 use Rattle.std.proofs.lemmas.List.Edits.{length-between, get_or-between}
 use Rattle.std.proofs.lemmas.Bool.{cases_lt}
@@ -13,7 +13,8 @@ use Rattle.wc_tokens.specs.Standard.Digits.{digit_of, IsDigit}
 use Rattle.wc_tokens.specs.Standard.Strings.{IsPlain, Element, plain, byte, Elements, none, more, EndsElements}
 use Rattle.wc_tokens.specs.Reading.Elements.{ValueAndRest, read_element}
 use Rattle.wc_tokens.specs.Reading.Simple.{IsSimpleAt, simple_len}
-use Rattle.wc_tokens.proofs.Escapes.ElementLaws.{Elements-append, Elements-one, read-Element, read-plain, read_element-is, NoElement-read}
+use Rattle.wc_tokens.proofs.Escapes.ElementLaws.{Elements-append, Elements-one, read-Element, read-plain}
+use Rattle.wc_tokens.proofs.Escapes.ElementLaws.{read_element-is, NoElement-read}
 
 -- ---- one more element in front
 

@@ -5,7 +5,8 @@ use Rattle.std.proofs.lemmas.List.{append_cancel_right}
 use Rattle.wc_tokens.specs.declared.token.TokenKind.{TokenKind}
 use Rattle.wc_tokens.specs.declared.fault.LexWhy.{LexWhy}
 use Rattle.wc_tokens.specs.Standard.Gaps.{Gap, Gaps, none, more}
-use Rattle.wc_tokens.specs.Standard.Lexemes.{HasForm, IsToken, Lexeme, spanned, Lexed, place, ended, gap, token, longest}
+use Rattle.wc_tokens.specs.Standard.Lexemes.{HasForm, IsToken, Lexeme, spanned, Lexed, place, ended, gap, token}
+use Rattle.wc_tokens.specs.Standard.Lexemes.{longest}
 use Rattle.wc_tokens.specs.Standard.Faults.{Stuck, Stops}
 use Rattle.wc_tokens.specs.Standard.Faults as faults
 use Rattle.wc_tokens.specs.Standard.Streams.{Unread, unread, Gives}

@@ -1,6 +1,6 @@
 -- Codes that lie ahead, in their canonical bytes, are those that reading gives.
-use Rattle.std.proofs.Common.{◌≡◌, ◌≢◌, ℕ, suc, ◌+◌, ◌-◌, ◌<◌, ◌≤◌, List, [], ◌∷◌, ◌++◌, length, take, drop, refl, sym, ap, ◌∙◌}
-use Rattle.std.proofs.Common.{arith, Ok, true}
+use Rattle.std.proofs.Common.{◌≡◌, ◌≢◌, ℕ, suc, ◌+◌, ◌-◌, ◌<◌, ◌≤◌, List, [], ◌∷◌, ◌++◌, length, take, drop, refl, sym}
+use Rattle.std.proofs.Common.{ap, ◌∙◌, arith, Ok, true}
 use Rattle.std.proofs.lemmas.List.{length-append, length-take, length-take-le, take-take, take-append-drop, take_at}
 use Rattle.std.specs.Prelude.{IsTrue, Some}
 use Rattle.wc_leb128.proofs.Writing.UnsignedShortest.{unsigned_bytes-low}

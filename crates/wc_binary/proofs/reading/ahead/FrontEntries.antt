@@ -11,7 +11,8 @@ use Rattle.wc_body.specs.declared.entry.Kind.TheVariants.{Block, Loop, If}
 use Rattle.wc_body.specs.declared.entry.Entry.{Entry}
 use Rattle.wc_body.specs.declared.entry.Entry.TheVariants.{Plain, Begin, Else, End}
 use Rattle.wc_body.specs.declared.instr.Instr.{Instr}
-use Rattle.wc_body.specs.declared.instr.Instr.TheVariants.{Simple, Index, Mem, BrTable, CallIndirect, I32Const, I64Const}
+use Rattle.wc_body.specs.declared.instr.Instr.TheVariants.{Simple, Index, Mem, BrTable, CallIndirect, I32Const}
+use Rattle.wc_body.specs.declared.instr.Instr.TheVariants.{I64Const}
 use Rattle.wc_body.specs.declared.instr.BlockType.{BlockType}
 use Rattle.wc_body.specs.Standard.Nested.{block, loop, nesting_limit}
 use Rattle.wc_body.specs.Standard.Draft.{Draft, step, steps, may_come, begins}

@@ -18,7 +18,7 @@ use Rattle.wc_binary.specs.Standard.Externals.{kind, kind_of, desc, desc_of, imp
 use Rattle.wc_binary.specs.Reading.Source.{Input, AreAhead, Passes, Gives}
 use Rattle.wc_binary.specs.Reading.NextItem.{BeginsWith, AddsFirst}
 use Rattle.wc_binary.proofs.phrases.Freed.{freed}
-use Rattle.wc_binary.proofs.spelling.Utf8Bytes.{utf8-bytes}
+use Rattle.wc_ast.proofs.Utf8Bytes.{utf8-bytes}
 use Rattle.wc_binary.proofs.spelling.whole.Externals.{raw-written}
 use Rattle.wc_binary.proofs.reading.ahead.FrontCode.{passed-gives}
 

@@ -15,8 +15,8 @@ use Rattle.wc_body.specs.declared.instr.BlockType.TheVariants.{Empty, Value, Ind
 use Rattle.wc_binary.specs.declared.fault.BinWhy.{BinWhy}
 use Rattle.wc_binary.specs.Standard.Style.{Style, canonical}
 use Rattle.wc_binary.specs.Standard.Phrase.{Phrase, byte_or_signed, SpellsBy}
-use Rattle.wc_binary.specs.Standard.Instructions.{is_short, BlockHead, short, whole, valued, head_of, index_fault, type_of}
-use Rattle.wc_binary.specs.Standard.Instructions.{block_type}
+use Rattle.wc_binary.specs.Standard.Instructions.{is_short, BlockHead, short, whole, valued, head_of, index_fault}
+use Rattle.wc_binary.specs.Standard.Instructions.{type_of, block_type}
 use Rattle.wc_binary.specs.Standard.Types.{value_type_of}
 use Rattle.wc_body.specs.Standard.ValueBytes.{value_type_bytes, Fits32}
 use Rattle.wc_body.specs.Standard.InstructionBytes.{block_type_bytes, FitsBlockType}

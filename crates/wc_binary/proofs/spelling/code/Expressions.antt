@@ -5,7 +5,8 @@ use Rattle.std.proofs.lemmas.List.{length-append}
 use Rattle.wc_ops.specs.declared.op.Op.{Op}
 use Rattle.wc_ops.specs.declared.op.Op.TheVariants as ops
 use Rattle.wc_body.specs.declared.instr.Instr.{Instr}
-use Rattle.wc_body.specs.declared.instr.Instr.TheVariants.{Simple, Index, Mem, BrTable, CallIndirect, I32Const, I64Const}
+use Rattle.wc_body.specs.declared.instr.Instr.TheVariants.{Simple, Index, Mem, BrTable, CallIndirect, I32Const}
+use Rattle.wc_body.specs.declared.instr.Instr.TheVariants.{I64Const}
 use Rattle.wc_body.specs.declared.instr.BlockType.{BlockType}
 use Rattle.wc_body.specs.Standard.Nested.{Region, block, loop, Code, empty, op, region, choice}
 use Rattle.wc_body.specs.Standard.Grammar.{Grammar, Spells}
@@ -17,8 +18,9 @@ use Rattle.wc_binary.specs.Standard.Style.{Style, canonical}
 use Rattle.wc_binary.specs.Standard.Phrase.{SpellsBy}
 use Rattle.wc_binary.specs.Standard.Expression.{plain_op, region_op, if_op, else_op, end_op, letters}
 use Rattle.wc_binary.specs.Standard.Instructions.{opcode, follows, block_type, expr}
-use Rattle.wc_body.specs.Standard.InstructionBytes.{op_of, rest_bytes, instr_bytes, block_type_bytes, region_bytes, code_pieces}
-use Rattle.wc_body.specs.Standard.InstructionBytes.{code_bytes, expr_bytes, FitsInstr, FitsBlockType, FitsExpr}
+use Rattle.wc_body.specs.Standard.InstructionBytes.{op_of, rest_bytes, instr_bytes, block_type_bytes, region_bytes}
+use Rattle.wc_body.specs.Standard.InstructionBytes.{code_pieces, code_bytes, expr_bytes, FitsInstr, FitsBlockType}
+use Rattle.wc_body.specs.Standard.InstructionBytes.{FitsExpr}
 use Rattle.wc_binary.proofs.spelling.Judging.{Judges, HasBytes}
 use Rattle.wc_binary.proofs.spelling.Phrases.{of}
 use Rattle.wc_binary.proofs.spelling.code.Opcodes.{row-begins, opcode-byte}

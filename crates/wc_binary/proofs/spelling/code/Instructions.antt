@@ -10,7 +10,8 @@ use Rattle.wc_ops.specs.declared.op.IndexOp.{IndexOp}
 use Rattle.wc_ops.specs.declared.op.MemOp.{MemOp}
 use Rattle.wc_body.specs.declared.instr.MemArg.{MemArg}
 use Rattle.wc_body.specs.declared.instr.Instr.{Instr}
-use Rattle.wc_body.specs.declared.instr.Instr.TheVariants.{Simple, Index, Mem, BrTable, CallIndirect, I32Const, I64Const}
+use Rattle.wc_body.specs.declared.instr.Instr.TheVariants.{Simple, Index, Mem, BrTable, CallIndirect, I32Const}
+use Rattle.wc_body.specs.declared.instr.Instr.TheVariants.{I64Const}
 use Rattle.wc_binary.specs.declared.fault.BinWhy.TheVariants.{ZeroByte}
 use Rattle.wc_binary.specs.Standard.Phrase.{Phrase, signed}
 use Rattle.wc_binary.specs.Standard.Values.{u32, vector}

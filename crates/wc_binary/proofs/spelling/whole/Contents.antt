@@ -19,7 +19,8 @@ use Rattle.wc_binary.specs.Writing.Locals.{locals_bytes, FitsLocals}
 use Rattle.wc_binary.specs.Writing.Contents.{global_bytes, elem_bytes, data_bytes, func_bytes, code_bytes, FitsGlobal}
 use Rattle.wc_binary.specs.Writing.Contents.{FitsElem, FitsBytes, FitsData, FitsFunc, FitsCode}
 use Rattle.wc_binary.proofs.spelling.Judging.{HasBytes}
-use Rattle.wc_binary.proofs.spelling.Phrases.{of, writes-as, u32-writes, then-writes, seen-writes, vector-writes, sized-writes}
+use Rattle.wc_binary.proofs.spelling.Phrases.{of, writes-as, u32-writes, then-writes, seen-writes, vector-writes}
+use Rattle.wc_binary.proofs.spelling.Phrases.{sized-writes}
 use Rattle.wc_binary.proofs.spelling.Types.{global_type-writes}
 use Rattle.wc_binary.proofs.spelling.whole.Externals.{raw-written, raw-told}
 use Rattle.wc_binary.proofs.spelling.code.Expressions.{expr-writes}

@@ -27,8 +27,9 @@ use Rattle.wc_binary.specs.Writing.Values.{desc_bytes, import_bytes, export_byte
 use Rattle.wc_binary.specs.Writing.Values.{FitsImport, FitsExport, Anything}
 use Rattle.wc_binary.proofs.phrases.AnyByte.{byte-stands, byte-told}
 use Rattle.wc_binary.proofs.spelling.Judging.{HasBytes}
-use Rattle.wc_binary.proofs.spelling.Utf8Bytes.{utf8-bytes}
-use Rattle.wc_binary.proofs.spelling.Phrases.{of, writes-as, u32-writes, byte-writes, then-writes, seen-writes, made-writes}
+use Rattle.wc_ast.proofs.Utf8Bytes.{utf8-bytes}
+use Rattle.wc_binary.proofs.spelling.Phrases.{of, writes-as, u32-writes, byte-writes, then-writes, seen-writes}
+use Rattle.wc_binary.proofs.spelling.Phrases.{made-writes}
 use Rattle.wc_binary.proofs.spelling.Types.{limits-writes, table_type-writes, global_type-writes}
 
 -- ---- names

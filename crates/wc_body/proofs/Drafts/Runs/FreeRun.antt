@@ -1,7 +1,8 @@
 -- Entries that bytes begin with, one after the other, and are added: runs of canonical ones, and others between them.
 use Rattle.std.proofs.Common.{◌≡◌, ℕ, ◌-◌, ◌<◌, ◌≤◌, List, [], ◌∷◌, ◌++◌, length, take, drop, inl, inr}
 use Rattle.std.proofs.Common.{refl, sym, ap, ◌∙◌, append_assoc, arith}
-use Rattle.std.proofs.lemmas.List.{append-nil, map-append, take-append-drop, take_at, take_rest, length-append, length-take}
+use Rattle.std.proofs.lemmas.List.{append-nil, map-append, take-append-drop, take_at, take_rest, length-append}
+use Rattle.std.proofs.lemmas.List.{length-take}
 use Rattle.std.specs.List.{AllByRecursion}
 use Rattle.wc_body.specs.declared.instr.BlockType.{BlockType}
 use Rattle.wc_body.specs.declared.instr.Instr.{Instr}

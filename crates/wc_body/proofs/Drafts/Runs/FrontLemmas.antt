@@ -1,7 +1,7 @@
 -- Entries that bytes begin with.
 use Rattle.std.specs.Prelude.{ℤ, pos, negsuc, IfSome}
-use Rattle.std.proofs.Common.{◌≡◌, ℕ, ◌+◌, ◌-◌, ◌*◌, ◌/◌, ◌%◌, ◌^◌, ◌<◌, ◌≤◌, Bool, true, false, List, [], ◌∷◌, ◌++◌, length}
-use Rattle.std.proofs.Common.{inl, inr, refl, sym, ap, ◌∙◌, arith}
+use Rattle.std.proofs.Common.{◌≡◌, ℕ, ◌+◌, ◌-◌, ◌*◌, ◌/◌, ◌%◌, ◌^◌, ◌<◌, ◌≤◌, Bool, true, false, List, [], ◌∷◌, ◌++◌}
+use Rattle.std.proofs.Common.{length, inl, inr, refl, sym, ap, ◌∙◌, arith}
 use Rattle.std.proofs.lemmas.Bool.{cases_lt}
 use Rattle.std.proofs.lemmas.List.{take-append-le, length-append}
 use Rattle.std.proofs.Math.Seq.{take-length}
@@ -24,8 +24,8 @@ use Rattle.wc_body.specs.declared.entry.Entry.TheVariants.{Plain, Begin, End}
 use Rattle.wc_body.specs.declared.builder.Part.{Part}
 use Rattle.wc_body.specs.declared.needs.Needs.{Needs}
 use Rattle.wc_body.specs.Writing.EntryBytes.{opening_bytes}
-use Rattle.wc_body.specs.Drafting.AtFront.{IsSpelled, AreLast, IsSplit, NotesIndex, NotesAccess, NotesPlain, NotesBegin, Opens, Notes}
-use Rattle.wc_body.specs.Drafting.AtFront.{NotesMark}
+use Rattle.wc_body.specs.Drafting.AtFront.{IsSpelled, AreLast, IsSplit, NotesIndex, NotesAccess, NotesPlain, NotesBegin}
+use Rattle.wc_body.specs.Drafting.AtFront.{Opens, Notes, NotesMark}
 use Rattle.wc_body.proofs.Drafts.BuilderLemmas.{begin-needs}
 
 -- ---- integers

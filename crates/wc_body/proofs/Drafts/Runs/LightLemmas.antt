@@ -1,6 +1,7 @@
 -- Light entries: the table of them, and what is noted of one.
-use Rattle.std.proofs.Common.{◌≡◌, ℕ, zero, suc, ◌+◌, ◌-◌, ◌*◌, ◌<◌, ◌≤◌, Bool, true, false, ◌||◌, nat_lt, max, min, List, [], ◌∷◌}
-use Rattle.std.proofs.Common.{◌⊎◌, inl, inr, ◌++◌, length, get_or, drop, bit_and, refl, sym, ap, ◌∙◌, arith, add-zero, zero-add}
+use Rattle.std.proofs.Common.{◌≡◌, ℕ, zero, suc, ◌+◌, ◌-◌, ◌*◌, ◌<◌, ◌≤◌, Bool, true, false, ◌||◌, nat_lt, max, min}
+use Rattle.std.proofs.Common.{List, [], ◌∷◌, ◌⊎◌, inl, inr, ◌++◌, length, get_or, drop, bit_and, refl, sym, ap, ◌∙◌}
+use Rattle.std.proofs.Common.{arith, add-zero, zero-add}
 use Rattle.std.proofs.Math.Bool.{or-false, or-true}
 use Rattle.std.proofs.lemmas.Bool.Decides.{nat_tests}
 use Rattle.std.proofs.lemmas.Nat.{and_mask}

@@ -1,6 +1,7 @@
 -- Entries whose integers have one byte each, whose alignment is the natural one and whose block type is the empty one
 -- (Core 1.0, 5.4), by their opcode and that integer: an index, the byte of a constant, or an offset.
-use Rattle.std.specs.Prelude.{ℕ, ◌≡◌, ◌<◌, ◌==◌, nat_lt, Bool, true, false, ℤ, pos, ◌-ℤ◌, List, ◌∷◌, Option, Some, None, if◌then◌else◌}
+use Rattle.std.specs.Prelude.{ℕ, ◌≡◌, ◌<◌, ◌==◌, nat_lt, Bool, true, false, ℤ, pos, ◌-ℤ◌, List, ◌∷◌, Option, Some, None}
+use Rattle.std.specs.Prelude.{if◌then◌else◌}
 use Rattle.wc_ops.specs.declared.op.Op.{Op}
 use Rattle.wc_ops.specs.declared.op.Op.TheVariants as ops
 use Rattle.wc_ops.specs.declared.op.OpByte.{OpByte}

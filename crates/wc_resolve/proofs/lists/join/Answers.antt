@@ -1,5 +1,5 @@
 use Rattle.std.proofs.Common.{refl}
-use Rattle.wc_resolve.proofs.Joining.{told-apart}
+use Rattle.wc_declare.proofs.Joining.{told-apart}
 use Rattle.wc_resolve.proofs.lists.join.Goals as goal
 
 pub returns-in-None : goal.returns-in-None

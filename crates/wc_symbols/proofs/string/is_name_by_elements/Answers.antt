@@ -1,4 +1,5 @@
-use Rattle.std.proofs.Common.{◌≡◌, ℕ, List, [], ◌++◌, Bool, true, false, ◌↔◌, IsTrue, IsUtf8, refl, ap, sym, ◌∙◌, subst, option_map}
+use Rattle.std.proofs.Common.{◌≡◌, ℕ, List, [], ◌++◌, Bool, true, false, ◌↔◌, IsTrue, IsUtf8, refl, ap, sym, ◌∙◌, subst}
+use Rattle.std.proofs.Common.{option_map}
 use Rattle.wc_tokens.specs.Reading.Elements.{first_element, bytes_of}
 use Rattle.wc_tokens.proofs.Escapes.ElementLaws.{IsBegun-more, read_element-shorter}
 use Rattle.wc_tokens.proofs.Escapes.StringLaws.{IsBegun-quote, IsBegun-end}

@@ -1,5 +1,6 @@
 use Rattle.std.proofs.Common.{arith}
-use Rattle.wc_tokens.proofs.Lexing.RunLaws.{EndsWith-token, EndsWith-shorter, Gaps-shorter, Stuck-shorter, token-shorter}
+use Rattle.wc_tokens.proofs.Lexing.RunLaws.{EndsWith-token, EndsWith-shorter, Gaps-shorter, Stuck-shorter}
+use Rattle.wc_tokens.proofs.Lexing.RunLaws.{token-shorter}
 use Rattle.wc_tokens.proofs.Lexing.StreamLaws.{IsPassed-token, IsPassed-end, Stops-behind}
 use Rattle.wc_tokens.proofs.stream.Lexer.check_rest.Goals as goal
 

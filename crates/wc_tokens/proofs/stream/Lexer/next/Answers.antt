@@ -1,5 +1,6 @@
 use Rattle.std.proofs.Common.{arith, refl}
-use Rattle.wc_tokens.proofs.Lexing.RunLaws.{EndsWith-token, EndsWith-shorter, StandsIn-token, Gaps-shorter, Stuck-shorter}
+use Rattle.wc_tokens.proofs.Lexing.RunLaws.{EndsWith-token, EndsWith-shorter, StandsIn-token, Gaps-shorter}
+use Rattle.wc_tokens.proofs.Lexing.RunLaws.{Stuck-shorter}
 use Rattle.wc_tokens.proofs.Lexing.StreamLaws.{Gives-token, Stops-behind}
 use Rattle.wc_tokens.proofs.stream.Lexer.next.Goals as goal
 

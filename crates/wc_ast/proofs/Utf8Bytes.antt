@@ -4,7 +4,9 @@ use Rattle.std.proofs.Common.{IsUtf8}
 use Rattle.std.specs.List.{AllByRecursion}
 use lib.Utf8.{scalar, scalars, next, encode, encodes, scalar_cases}
 use mathlib.Core.Bool.{cond, ◌&&◌}
-use Rattle.wc_print.specs.Standard.Printable.{IsByte}
+
+abbrev pub IsByte : ℕ → Type 0
+IsByte b = b < 256
 
 bytes-append : (a b : List ℕ) → AllByRecursion IsByte a → AllByRecursion IsByte b → AllByRecursion IsByte (a ++ b)
 bytes-append [] b h k = k
@@ -44,5 +46,5 @@ encodes-bytes (c ∷ cs) e =
     bytes-append (encode c) (encodes cs) (encode-bytes c (left (scalar c) (scalars cs) e))
     (encodes-bytes cs (right (scalar c) (scalars cs) e))
 
-pub bytes : (name : List ℕ) → IsUtf8 name → AllByRecursion IsByte name
-bytes name u = subst (AllByRecursion IsByte) u.1.1 (encodes-bytes u.0 u.1.0)
+pub utf8-bytes : (name : List ℕ) → IsUtf8 name → AllByRecursion IsByte name
+utf8-bytes name u = subst (AllByRecursion IsByte) u.1.1 (encodes-bytes u.0 u.1.0)
