@@ -6,10 +6,13 @@ make_wasm.py KIND MEGABYTES FILE [--padded]
 KIND is one of
     code    functions of a usual mix of instructions: a few locals, blocks, loops, ifs, loads, stores and calls
     fixed   the same, and a constant global stands before the one that they set
+    mixed   functions of every opcode alike, constants of each length, indices of one byte and of two, and blocks of
+            each type
     tiny    a great many functions of one or two instructions
     nested  functions of blocks, loops and ifs in one another, 20,000 deep
     names   imports, exports and custom sections with long names, some of them beyond ASCII
     many    imports and exports with a great many names of a usual length
+    mangled the same with names as compilers of C++ and Rust write them: 20 to 120 bytes, many with one beginning
     data    one data segment
 
 With --padded each integer that has room for it takes five bytes: counts, sizes, indices and constants.
@@ -139,6 +142,103 @@ class Statements:
         return b"".join(out)
 
 
+class Mixed:
+    """Instructions drawn alike by their opcodes, each behind operands of its types; what it leaves is dropped."""
+
+    PLAIN = {0x45: (I32,), 0x50: (I64,), 0xA7: (I64,), 0xAC: (I32,), 0xAD: (I32,)}
+    PLAIN |= {opcode: (I32, I32) for opcode in [*range(0x46, 0x50), *range(0x6A, 0x79)]}
+    PLAIN |= {opcode: (I64, I64) for opcode in [*range(0x51, 0x5B), *range(0x7C, 0x8B)]}
+    PLAIN |= {opcode: (I32,) for opcode in [0x67, 0x68, 0x69, 0xC0, 0xC1]}
+    PLAIN |= {opcode: (I64,) for opcode in [0x79, 0x7A, 0x7B, 0xC2, 0xC3, 0xC4]}
+    LOADS = {0x28: 2, 0x29: 3, 0x2C: 0, 0x2D: 0, 0x2E: 1, 0x2F: 1, 0x30: 0, 0x31: 0, 0x32: 1, 0x33: 1, 0x34: 2, 0x35: 2}
+    STORES = {0x36: (2, I32), 0x37: (3, I64), 0x3A: (0, I32), 0x3B: (1, I32), 0x3C: (0, I64), 0x3D: (1, I64),
+              0x3E: (2, I64)}
+    GLOBALS = {I32: 0, I64: 150}  # from these on there are 150 of each type
+    LOCALS = {I32: 10, I64: 160}  # the same, behind the parameters
+    TYPES = [([], []), ([I32], []), ([], [I32, I64]), ([I64], [I32]), ([I32, I32, I64], [I64, I32])]
+    CALLEES = 300
+
+    def __init__(self, integers, seed):
+        self.u = integers.unsigned
+        self.s = integers.signed
+        self.random = random.Random(seed)
+        self.results = []  # those of the function that is being made
+
+    def constant(self, ty):
+        bits = self.random.randrange(32 if ty == I32 else 64)
+        return (b"\x41" if ty == I32 else b"\x42") + self.s(self.random.choice([1, -1]) * self.random.getrandbits(bits))
+
+    def variable(self, first):
+        return self.u(first + self.random.randrange(150))
+
+    def operand(self, ty):
+        draw = self.random.random()
+        if draw < 0.4:
+            return self.constant(ty)
+        return b"\x20" + self.variable(self.LOCALS[ty]) if draw < 0.8 else b"\x23" + self.variable(self.GLOBALS[ty])
+
+    def operands(self, types):
+        return b"".join(map(self.operand, types))
+
+    def access(self, natural):
+        offset = self.random.getrandbits(self.random.randrange(32))
+        return self.u(self.random.randrange(natural + 1)) + self.u(offset)
+
+    def plain(self):
+        opcode = self.random.choice(list(self.PLAIN))
+        return self.operands(self.PLAIN[opcode]) + bytes([opcode]) + b"\x1a"
+
+    def load(self):
+        opcode = self.random.choice(list(self.LOADS))
+        return self.operand(I32) + bytes([opcode]) + self.access(self.LOADS[opcode]) + b"\x1a"
+
+    def store(self):
+        opcode = self.random.choice(list(self.STORES))
+        natural, ty = self.STORES[opcode]
+        return self.operands((I32, ty)) + bytes([opcode]) + self.access(natural)
+
+    def setting(self):
+        ty = self.random.choice([I32, I64])
+        return self.operand(ty) + self.random.choice([
+            b"\x21" + self.variable(self.LOCALS[ty]), b"\x22" + self.variable(self.LOCALS[ty]) + b"\x1a",
+            b"\x24" + self.variable(self.GLOBALS[ty])])
+
+    def call(self):
+        index = self.random.randrange(self.CALLEES)
+        params, results = self.TYPES[index % len(self.TYPES)]
+        if self.random.random() < 0.5:
+            return self.operands(params) + b"\x10" + self.u(index) + b"\x1a" * len(results)
+        return (self.operands(params) + self.operand(I32) + b"\x11" + self.u(index % len(self.TYPES)) + b"\x00"
+                + b"\x1a" * len(results))
+
+    def other(self):
+        ty = self.random.choice([I32, I64])
+        return self.random.choice([
+            b"\x01", b"\x3f\x00\x1a", self.operand(I32) + b"\x40\x00\x1a",
+            self.operands((ty, ty, I32)) + b"\x1b\x1a", b"\x02\x40" + self.operand(I32) + b"\x0d\x00\x00\x0b",
+            b"\x02\x40" + self.operand(I32) + b"\x0d\x00" + self.operands(self.results) + b"\x0f\x0b"])
+
+    def switch(self):
+        labels = [self.u(self.random.randrange(2)) for _ in range(self.random.randrange(20))]
+        table = b"\x0e" + self.u(len(labels)) + b"".join(labels) + self.u(0)
+        return b"\x02\x40\x02\x40" + self.operand(I32) + table + b"\x0b\x0b"
+
+    def nested(self, depth):
+        opcode = self.random.choice([b"\x02", b"\x03", b"\x04"])
+        index = self.random.randrange(len(self.TYPES) + 3)
+        params, results = ([([], []), ([], [I32]), ([], [I64])] + self.TYPES)[index]
+        ty = [b"\x40", b"\x7f", b"\x7e"][index] if index < 3 else self.s(index - 3)
+        inside = b"\x1a" * len(params) + self.some(self.random.randrange(1, 5), depth - 1) + self.operands(results)
+        head = self.operands(params) + (self.operand(I32) if opcode == b"\x04" else b"") + opcode + ty
+        otherwise = b"\x05" + inside if opcode == b"\x04" and (results or params or index % 2) else b""
+        return head + inside + otherwise + b"\x0b" + b"\x1a" * len(results)
+
+    def some(self, count, depth):
+        kinds = [self.plain] * 62 + [self.load] * 12 + [self.store] * 7 + [self.setting] * 4 + [self.call] * 3
+        kinds += [self.other] * 6 + [self.switch] + [lambda: self.nested(depth)] * (6 if depth > 0 else 0)
+        return b"".join(self.random.choice(kinds)() for _ in range(count))
+
+
 def locals_of(integers):
     return integers.vector([integers.unsigned(count) + bytes([ty]) for count, ty in LOCALS])
 
@@ -194,6 +294,30 @@ def code(integers, size, constants=0):
 
 def fixed(integers, size):
     return code(integers, size, constants=1)
+
+
+def mixed(integers, size):
+    u = integers.unsigned
+    instructions = Mixed(integers, 97531)
+    types = [func_type(integers, *ty) for ty in Mixed.TYPES]
+    pool = []
+    for index in range(1000):
+        params, results = Mixed.TYPES[index % len(types)]
+        instructions.results = results
+        declared = integers.vector([u(160 - len(params)) + bytes([I32]), u(150) + bytes([I64])])
+        statements = instructions.some(instructions.random.randrange(20, 120), 4)
+        pool.append(with_size(integers, declared + statements + instructions.operands(results) + b"\x0b"))
+    codes = repeated(pool, max(size, sum(map(len, pool[:Mixed.CALLEES]))))
+    sections = {
+        1: integers.vector(types),
+        3: integers.vector([u(index % len(pool) % len(types)) for index in range(len(codes))]),
+        4: integers.vector([b"\x70\x00" + u(16)]),
+        5: integers.vector([b"\x00" + u(2)]),
+        6: integers.vector([bytes([ty, 1]) + instructions.constant(ty) + b"\x0b" for ty in [I32] * 150 + [I64] * 150]),
+        9: integers.vector([u(0) + b"\x41\x00\x0b" + integers.vector([u(n) for n in range(16)])]),
+        10: integers.vector(codes),
+    }
+    return b"".join(integers.section(number, content) for number, content in sections.items())
 
 
 def tiny(integers, size):
@@ -253,6 +377,29 @@ def many(integers, size):
             + integers.section(2, integers.vector(imports)) + integers.section(7, integers.vector(exports)))
 
 
+def mangled(integers, size):
+    u = integers.unsigned
+    chooser = random.Random(86420)
+    words = "core alloc string vec map set iter fmt write read next push pop len slice hash node list".split()
+    kept = ["_ZNSt3__112basic_stringIcNS_11char_traitsIcEENS_9allocatorIcEEE", "_ZN4core3fmt9Formatter",
+            "_ZNSt3__16vectorIiNS_9allocatorIiEEE", "_ZN5alloc7raw_vec19RawVec$LT$T$C$A$GT$", "_ZN"]
+
+    def symbol():
+        path = [chooser.choice(words) for _ in range(chooser.randrange(2, 6))]
+        text = chooser.choice(kept) + "".join(f"{len(word)}{word}" for word in path)
+        return text + f"17h{chooser.getrandbits(64):016x}E" if chooser.random() < 0.5 else text + "E" + chooser.choice(
+            ["v", "i", "RKS_", "PKcm", "jjRKNS_9allocatorIcEE"])
+
+    imports, exports, total, count = [], [], 0, 0
+    while total < size:
+        imports.append(integers.name("env") + integers.name(f"{symbol()[:110]}.{count}") + b"\x00" + u(0))
+        exports.append(integers.name(f"{symbol()[:110]}.{count}") + b"\x00" + u(count))
+        total += len(imports[-1]) + len(exports[-1])
+        count += 1
+    return (integers.section(1, integers.vector([func_type(integers, [], [])]))
+            + integers.section(2, integers.vector(imports)) + integers.section(7, integers.vector(exports)))
+
+
 def data(integers, size):
     content = random.Random(999).randbytes(size)
     segment = integers.unsigned(0) + b"\x41" + integers.signed(0) + b"\x0b" + integers.unsigned(len(content)) + content
@@ -261,7 +408,7 @@ def data(integers, size):
             + integers.section(11, integers.vector([segment])))
 
 
-KINDS = {"code": code, "fixed": fixed, "tiny": tiny, "nested": nested, "names": names, "many": many, "data": data}
+KINDS = {kind.__name__: kind for kind in (code, fixed, mixed, tiny, nested, names, many, mangled, data)}
 
 
 def main():
