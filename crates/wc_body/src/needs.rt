@@ -177,7 +177,7 @@ fn enough(count: u32, index: u32) -> u32
     count.max(index.saturating_add(1))
 }
 
-/// The bit of this index, where it is below 64.
+/// The bit of this index where it is below 64, and else none.
 #[inline(always)]
 pub(crate) fn low_bit(index: u32) -> u64
     ensures { result ≡ low_bit index }

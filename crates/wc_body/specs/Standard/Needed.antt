@@ -40,7 +40,7 @@ nothing = record {
 abbrev pub enough : ℕ → ℕ → ℕ
 enough count n = max count (min (n + 1) (2 ^ 32 - 1))
 
--- the bit of this index, where it is below 64
+-- the bit of this index where it is below 64, and else none
 abbrev pub low_bit : ℕ → ℕ
 low_bit n = if nat_lt n 64 then 2 ^ n else 0
 
