@@ -6,6 +6,7 @@ make_wasm.py KIND MEGABYTES FILE [--padded]
 KIND is one of
     code    functions of a usual mix of instructions: a few locals, blocks, loops, ifs, loads, stores and calls
     fixed   the same, and a constant global stands before the one that they set
+    between the same, and two are set, with a constant one between them
     mixed   functions of every opcode alike, constants of each length, indices of one byte and of two, and blocks of
             each type
     tiny    a great many functions of one or two instructions
@@ -63,11 +64,11 @@ class Integers:
 class Statements:
     """Random statements over the locals, each of which leaves the stack as it was."""
 
-    def __init__(self, integers, seed, variable):
+    def __init__(self, integers, seed, variables):
         self.u = integers.unsigned
         self.s = integers.signed
         self.random = random.Random(seed)
-        self.variable = self.u(variable)  # the global that is read and set
+        self.variables = [self.u(index) for index in variables]  # the globals that are read and set
 
     def local(self):
         return self.u(self.random.randrange(5))
@@ -104,7 +105,7 @@ class Statements:
                 + b"\x21" + self.u(5))
 
     def globals(self):
-        return b"\x23" + self.variable + self.constant() + b"\x6b\x24" + self.variable
+        return b"".join(b"\x23" + index + self.constant() + b"\x6b\x24" + index for index in self.variables)
 
     def indirect(self):
         return self.operand() * 2 + self.operand() + b"\x11" + self.u(0) + b"\x00\x21" + self.local()
@@ -271,9 +272,9 @@ def functions(integers, types, codes, others=()):
     return b"".join(integers.section(number, sections[number]) for number in sorted(sections))
 
 
-def code(integers, size, constants=0):
-    """So many constant globals stand before the one that is set."""
-    statements = Statements(integers, 12345, constants)
+def code(integers, size, mutables=(True,)):
+    """Of each global it is told whether it is set, and not constant."""
+    statements = Statements(integers, 12345, [index for index, mutable in enumerate(mutables) if mutable])
     declared = locals_of(integers)
     pool = []
     for _ in range(1000):
@@ -283,8 +284,8 @@ def code(integers, size, constants=0):
     others = {
         4: integers.vector([b"\x70\x00" + integers.unsigned(16)]),
         5: integers.vector([b"\x00" + integers.unsigned(2)]),
-        6: integers.vector([b"\x7f" + mutable + b"\x41" + integers.signed(65536) + b"\x0b"
-                            for mutable in [b"\x00"] * constants + [b"\x01"]]),
+        6: integers.vector([b"\x7f" + bytes([mutable]) + b"\x41" + integers.signed(65536) + b"\x0b"
+                            for mutable in mutables]),
         7: integers.vector([integers.name("run") + b"\x00" + integers.unsigned(0)]),
         9: integers.vector([integers.unsigned(0) + b"\x41" + integers.signed(0) + b"\x0b"
                             + integers.vector([integers.unsigned(n) for n in range(16)])]),
@@ -293,7 +294,11 @@ def code(integers, size, constants=0):
 
 
 def fixed(integers, size):
-    return code(integers, size, constants=1)
+    return code(integers, size, (False, True))
+
+
+def between(integers, size):
+    return code(integers, size, (True, False, True))
 
 
 def mixed(integers, size):
@@ -408,7 +413,7 @@ def data(integers, size):
             + integers.section(11, integers.vector([segment])))
 
 
-KINDS = {kind.__name__: kind for kind in (code, fixed, mixed, tiny, nested, names, many, mangled, data)}
+KINDS = {kind.__name__: kind for kind in (code, fixed, between, mixed, tiny, nested, names, many, mangled, data)}
 
 
 def main():

@@ -2,5 +2,6 @@
 pub mod Walks
 pub mod Emitting
 pub mod ThroughoutLemmas
+pub mod SpelledMark
 pub mod Spelling
 pub mod Reaching

@@ -1,7 +1,7 @@
 //! What instructions need of what is around them.
 
 ghost use Rattle.std.specs.Prelude.{◌≡◌};
-ghost use Rattle.wc_body.specs.Standard.Needed.{nothing, enough, with_simple, with_index, with_access};
+ghost use Rattle.wc_body.specs.Standard.Needed.{nothing, enough, low_bit, with_simple, with_index, with_access};
 ghost use Rattle.wc_body.specs.Standard.Needed.{with_instr, with_block, joined, own_of};
 
 use crate::instr::{BlockType, Instr};
@@ -22,6 +22,8 @@ pub struct Needs {
     pub set_globals: u32,
     /// The lowest index of those that are set, or `2^32 - 1` where none is.
     pub lowest_set_global: u32,
+    /// Which of the globals below 64 are set: bit n is 1 where global n is one of them.
+    pub set_below_64: u64,
     /// How many locals, parameters counted.
     pub locals: u32,
     /// Whether a table is needed.
@@ -57,6 +59,7 @@ impl Needs {
             globals: self.globals.max(other.globals),
             set_globals: self.set_globals.max(other.set_globals),
             lowest_set_global: self.lowest_set_global.min(other.lowest_set_global),
+            set_below_64: self.set_below_64 | other.set_below_64,
             locals: self.locals.max(other.locals),
             table: self.table || other.table,
             memory: self.memory || other.memory,
@@ -85,6 +88,7 @@ impl Needs {
             globals: 0,
             set_globals: 0,
             lowest_set_global: u32::MAX,
+            set_below_64: 0,
             locals: 0,
             table: false,
             memory: false,
@@ -114,6 +118,7 @@ impl Needs {
             IndexOp::GlobalSet => {
                 self.set_globals = enough(self.set_globals, index);
                 self.lowest_set_global = self.lowest_set_global.min(index);
+                self.set_below_64 |= low_bit(index);
             }
             IndexOp::Call => self.funcs = enough(self.funcs, index),
             IndexOp::Br => self.outer_label = self.outer_label || enclosing < index as usize,
@@ -170,4 +175,12 @@ fn enough(count: u32, index: u32) -> u32
     ensures { result ≡ enough count index }
 {
     count.max(index.saturating_add(1))
+}
+
+/// The bit of this index where it is below 64, and else none.
+#[inline(always)]
+pub(crate) fn low_bit(index: u32) -> u64
+    ensures { result ≡ low_bit index }
+{
+    if index < 64 { 1 << index } else { 0 }
 }

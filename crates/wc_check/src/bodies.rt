@@ -5,6 +5,7 @@ ghost use Rattle.wc_body.specs.Standard.Entries.{mark};
 ghost use Rattle.wc_body.specs.Standard.Needed.{needs_of};
 ghost use Rattle.wc_ast.specs.declared.limits.GlobalType.{GlobalType};
 ghost use Rattle.wc_check.specs.Judging.Enough.{HasRoom, HasCommon, HasOwnRooms, HasOwn, AreSettable, run_starts};
+ghost use Rattle.wc_check.specs.Judging.Enough.{AreMarkedSettable, IsKnown};
 ghost use Rattle.wc_check.specs.Standard.InstructionRules.{broken_in_body};
 ghost use Rattle.wc_check.specs.Judging.Marks.{judged_mark};
 ghost use Rattle.wc_check.specs.Judging.Verdicts.{verdict};
@@ -12,7 +13,7 @@ ghost use Rattle.wc_check.specs.Judging.Verdicts.{verdict};
 use crate::context::Context;
 use crate::fault::{CheckFault, CheckWhy, Item, judge};
 use crate::instructions::{block_rule, instr_rule};
-use wc_ast::{BodyRef, Entry, Needs, OwnNeeds};
+use wc_ast::{BodyRef, Entry, GlobalType, Needs, OwnNeeds};
 
 /// What an entry comes to.
 #[derive(Clone, Copy, Debug)]
@@ -103,7 +104,7 @@ fn has_run(starts: &[usize], first: u32, end: u32) -> bool
 
 /// Whether there is room for each index but those of locals and of globals that are set, and no instruction breaks a
 /// rule whatever is around.
-pub(crate) fn has_common(context: &Context, needs: Needs) -> bool
+fn has_common(context: &Context, needs: Needs) -> bool
     ensures { result ≡ true ↔ HasCommon context.now needs }
 {
     has_room(context.types, needs.types)
@@ -115,6 +116,44 @@ pub(crate) fn has_common(context: &Context, needs: Needs) -> bool
         && !needs.over_aligned
 }
 
+/// Whether none of the globals is constant whose bit is 1: bit n is that of global n.
+fn are_marked_settable(globals: &[GlobalType], bits: u64) -> bool
+    ensures { result ≡ true ↔ AreMarkedSettable globals.now bits }
+{
+    let mut left = bits;
+    for global in globals {
+        if left == 0 {
+            return true;
+        }
+        if left % 2 == 1 && !global.mutable {
+            return false;
+        }
+        left /= 2;
+    }
+    true
+}
+
+/// What is known of the bodies of all functions together.
+#[derive(Clone, Copy, Debug)]
+pub(crate) struct Known {
+    /// There is what they need, but for locals and for globals to set.
+    has_common: bool,
+    /// None of the globals below 64 that they set is constant.
+    low_settable: bool,
+}
+
+/// What is known of bodies that need this.
+pub(crate) fn known_of(context: &Context, needs: Needs) -> Known
+    ensures common { result.has_common ≡ true ↔ HasCommon context.now needs }
+    ensures settable { result.low_settable ≡ true
+        ↔ AreMarkedSettable context.now.globals needs.set_below_64 }
+{
+    Known {
+        has_common: has_common(context, needs),
+        low_settable: are_marked_settable(context.globals.as_slice(), needs.set_below_64),
+    }
+}
+
 /// Whether there is room for the other indices, in a function of so many locals.
 fn has_own_rooms(context: &Context, locals: usize, own: OwnNeeds) -> bool
     ensures { result ≡ true ↔ HasOwnRooms context.now locals own }
@@ -123,31 +162,41 @@ fn has_own_rooms(context: &Context, locals: usize, own: OwnNeeds) -> bool
 }
 
 /// Whether there are these in a function of so many locals, and no global that is set is constant, as far as it can be
-/// told without looking at each entry: where several globals are set, all between them must be mutable. Of each global
-/// it is told where the run of mutable ones begins that it ends.
-fn has_own(context: &Context, starts: &[usize], locals: usize, own: OwnNeeds) -> bool
+/// told without looking at each entry: where several globals are set, all between them must be mutable, but for those
+/// below 64 where it is known that none that is set is constant. Of each global it is told where the run of mutable
+/// ones begins that it ends.
+fn has_own(
+    context: &Context,
+    starts: &[usize],
+    low_settable: bool,
+    locals: usize,
+    own: OwnNeeds,
+) -> bool
     requires { starts.now ≡ run_starts 0 0 context.now.globals }
-    ensures { result ≡ true → HasOwn context.now locals own }
+    ensures { result ≡ true → HasOwn context.now low_settable locals own }
 {
-    has_own_rooms(context, locals, own) && has_run(starts, own.lowest_set_global, own.set_globals)
+    let lowest = own.lowest_set_global;
+    let first = if low_settable { lowest.max(64) } else { lowest };
+    has_own_rooms(context, locals, own) && has_run(starts, first, own.set_globals)
 }
 
 /// The body of the function of this index, which has so many locals, parameters counted. Of each global it is told
-/// where the run of mutable ones begins that it ends, and it may be told that there is what the bodies of all functions
-/// need. Entries are looked at only where one of them may break a rule.
+/// where the run of mutable ones begins that it ends, and it is told what is known of the bodies of all functions.
+/// Entries are looked at only where one of them may break a rule.
 pub(crate) fn check_body(
     context: &Context,
     starts: &[usize],
-    has_common: bool,
+    known: Known,
     locals: usize,
     func: usize,
     body: &BodyRef<'_>,
 ) -> Result<(), CheckFault>
     requires starts { starts.now ≡ run_starts 0 0 context.now.globals }
-    requires common { has_common ≡ true → HasCommon context.now (needs_of body.now) }
+    requires known { IsKnown context.now known (needs_of body.now) }
     ensures { result ≡ verdict (broken_in_body context.now locals func body.now) }
 {
-    if has_common && has_own(context, starts, locals, body.own_needs()) {
+    let own = body.own_needs();
+    if known.has_common && has_own(context, starts, known.low_settable, locals, own) {
         return Ok(());
     }
     check_entries(context, locals, func, body)

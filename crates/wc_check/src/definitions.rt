@@ -5,10 +5,10 @@ ghost use Rattle.wc_check.specs.Standard.Rules.{each};
 ghost use Rattle.wc_check.specs.Judging.Verdicts.{verdict};
 ghost use Rattle.wc_check.specs.Standard.Spaces.{module_context, param_count, imported_funcs, imported_globals};
 ghost use Rattle.wc_check.specs.Standard.Broken.{broken_func, broken_global};
-ghost use Rattle.wc_check.specs.Judging.Enough.{HasCommon, run_starts};
+ghost use Rattle.wc_check.specs.Judging.Enough.{IsKnown, run_starts};
 ghost use Rattle.wc_body.specs.Standard.Needed.{needs_of};
 
-use crate::bodies::{check_body, has_common};
+use crate::bodies::{Known, check_body, known_of};
 use crate::constants::has_constant;
 use crate::context::Context;
 use crate::fault::{CheckFault, CheckWhy, Item, broken_if, judge};
@@ -33,24 +33,24 @@ fn locals_of(types: &[FuncType], func: &FuncRef<'_>) -> usize
 }
 
 /// The function of this index, and then its instructions. Of each global it is told where the run of mutable ones
-/// begins that it ends, and it may be told that there is what the bodies of all functions need.
+/// begins that it ends, and it is told what is known of the bodies of all functions.
 fn check_func(
     module: &Module,
     context: &Context,
     starts: &[usize],
-    has_common: bool,
+    known: Known,
     index: usize,
     func: &FuncRef<'_>,
 ) -> Result<(), CheckFault>
     requires rules { context.now ≡ module_context «module».now }
     requires starts { starts.now ≡ run_starts 0 0 context.now.globals }
-    requires common { has_common ≡ true → HasCommon context.now (needs_of func.now.body) }
+    requires known { IsKnown context.now known (needs_of func.now.body) }
     ensures { result ≡ verdict (broken_func «module».now index func.now) }
 {
     let why = broken_if(CheckWhy::TypeIndex, context.types <= func.ty() as usize);
     judge(Item::Func(index), why)?;
     let locals = locals_of(module.types.as_slice(), func);
-    check_body(context, starts, has_common, locals, index, func.body())
+    check_body(context, starts, known, locals, index, func.body())
 }
 
 /// Of each global, where the run of mutable ones begins that it ends, or what follows it where it is constant. The
@@ -80,11 +80,11 @@ pub(crate) fn check_funcs(
     ensures { result
         ≡ verdict (each (broken_func «module».now) (length (imported_funcs «module».now.imports)) «module».now.funcs) }
 {
-    let common = has_common(context, module.funcs.needs());
+    let known = known_of(context, module.funcs.needs());
     let mut index = context.funcs - module.funcs.len();
     let mut funcs = module.funcs.iter();
     while let Some(func) = funcs.next() {
-        check_func(module, context, starts, common, index, &func)?;
+        check_func(module, context, starts, known, index, &func)?;
         index += 1;
     }
     Ok(())

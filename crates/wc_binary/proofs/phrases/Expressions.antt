@@ -9,7 +9,8 @@ use Rattle.wc_body.specs.Standard.Nested.{nesting_limit}
 use Rattle.wc_body.specs.Standard.Draft.{Frame, in_region, in_then, in_else, Draft, draft, whole, step, begins}
 use Rattle.wc_body.specs.Standard.Draft.{in_first_part, reach}
 use Rattle.wc_body.proofs.Drafts.DraftLaws.{step-reach}
-use Rattle.wc_body.specs.Standard.Grammar.{Grammar, SpellsDraft, ElseIn, EndIn, SpellsMark}
+use Rattle.wc_body.specs.Standard.Grammar.{Grammar, SpellsDraft}
+use Rattle.wc_body.proofs.Codes.SpelledMark.{ElseIn, EndIn, SpellsMark}
 use Rattle.wc_body.proofs.Codes.Spelling.{neat-free, step-spelled, start-spelled, whole-spelled}
 use Rattle.wc_body.proofs.Codes.Reaching.{Reaches, here, more, reach-draft}
 use Rattle.wc_binary.specs.declared.fault.BinWhy.{BinWhy}

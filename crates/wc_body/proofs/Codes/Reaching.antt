@@ -5,7 +5,8 @@ use Rattle.wc_body.specs.Standard.Nested.{Code, empty, op, region, choice, Mark,
 use Rattle.wc_body.specs.Standard.Nested.{close, ◌⧺◌, nesting}
 use Rattle.wc_body.specs.Standard.Draft.{Frame, in_region, in_then, in_else, Draft, draft, whole, step, begins, reach}
 use Rattle.wc_body.specs.Stored.Rebuilt.{append-empty, append-assoc}
-use Rattle.wc_body.specs.Standard.Grammar.{Grammar, Spells, Opens, SpellsDraft, SpellsMark}
+use Rattle.wc_body.specs.Standard.Grammar.{Grammar, Spells, Opens, SpellsDraft}
+use Rattle.wc_body.proofs.Codes.SpelledMark.{SpellsMark}
 
 -- From the first draft, with the first letters before it, whole marks lead to the second, with the second letters left; at most limit are open.
 pub data Reaches {A P H : Type 0} (g : Grammar A P H) (limit : ℕ) : Draft P H → List A → Draft P H → List A

@@ -4,7 +4,8 @@ use Rattle.std.proofs.lemmas.List.{append-nil}
 use Rattle.wc_body.specs.Standard.Nested.{Code, empty, op, region, choice, Mark, plain, begin, begin_if, otherwise}
 use Rattle.wc_body.specs.Standard.Nested.{close, ◌⧺◌}
 use Rattle.wc_body.specs.Standard.Draft.{Frame, in_region, in_then, in_else, Draft, draft, whole, step, closed, turned}
-use Rattle.wc_body.specs.Standard.Grammar.{Grammar, Spells, SpellsDraft, ElseIn, EndIn, SpellsMark}
+use Rattle.wc_body.specs.Standard.Grammar.{Grammar, Spells, SpellsDraft}
+use Rattle.wc_body.proofs.Codes.SpelledMark.{ElseIn, EndIn, SpellsMark}
 
 module _ {A P H : Type 0} (g : Grammar A P H) where
   pub Spells-append : (a b : List A) (is js : Code P H) → Spells g a is → Spells g b js → Spells g (a ++ b) (is ⧺ js)

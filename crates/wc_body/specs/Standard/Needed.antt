@@ -1,6 +1,7 @@
 -- What instructions need of the function and of the module around them, so that the rules on each of them hold (Core
 -- 1.0, 3.3).
-use Rattle.std.specs.Prelude.{ℕ, ◌+◌, ◌-◌, ◌^◌, max, min, true, false, ◌||◌, nat_lt, List, [], ◌∷◌}
+use Rattle.std.specs.Prelude.{ℕ, ◌+◌, ◌-◌, ◌^◌, max, min, true, false, ◌||◌, nat_lt, if◌then◌else◌, bit_or}
+use Rattle.std.specs.Prelude.{List, [], ◌∷◌}
 use Rattle.std.specs.List.{list_any}
 use Rattle.wc_body.specs.declared.instr.BlockType.{BlockType}
 use Rattle.wc_body.specs.declared.instr.BlockType.TheVariants.{Empty, Value, Index as type_index}
@@ -27,6 +28,7 @@ nothing = record {
   globals = 0;
   set_globals = 0;
   lowest_set_global = 2 ^ 32 - 1;
+  set_below_64 = 0;
   locals = 0;
   table = false;
   memory = false;
@@ -37,6 +39,10 @@ nothing = record {
 -- so many, and enough for this index; no more are told than a u32 has room for
 abbrev pub enough : ℕ → ℕ → ℕ
 enough count n = max count (min (n + 1) (2 ^ 32 - 1))
+
+-- the bit of this index where it is below 64, and else none
+abbrev pub low_bit : ℕ → ℕ
+low_bit n = if nat_lt n 64 then 2 ^ n else 0
 
 -- each of the following: this, and what one more needs
 
@@ -55,8 +61,11 @@ with_index s enclosing LocalGet n = record s { locals = enough s.locals n }
 with_index s enclosing LocalSet n = record s { locals = enough s.locals n }
 with_index s enclosing LocalTee n = record s { locals = enough s.locals n }
 with_index s enclosing GlobalGet n = record s { globals = enough s.globals n }
-with_index s enclosing GlobalSet n =
-    record s { set_globals = enough s.set_globals n; lowest_set_global = min s.lowest_set_global n }
+with_index s enclosing GlobalSet n = record s {
+  set_globals = enough s.set_globals n;
+  lowest_set_global = min s.lowest_set_global n;
+  set_below_64 = bit_or s.set_below_64 (low_bit n);
+}
 
 -- it is an access of memory, of this alignment (3.3.4.1 to 3.3.4.4)
 abbrev pub with_access : Needs → MemOp → ℕ → Needs
@@ -105,6 +114,7 @@ joined s t = record {
   globals = max s.globals t.globals;
   set_globals = max s.set_globals t.set_globals;
   lowest_set_global = min s.lowest_set_global t.lowest_set_global;
+  set_below_64 = bit_or s.set_below_64 t.set_below_64;
   locals = max s.locals t.locals;
   table = s.table || t.table;
   memory = s.memory || t.memory;

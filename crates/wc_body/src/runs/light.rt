@@ -11,7 +11,7 @@ ghost use Rattle.wc_body.specs.Drafting.LightRows.{light_at, with_noted, IsOuter
 ghost use Rattle.wc_body.specs.declared.runs.light.LightNeeds.{LightNeeds};
 ghost use Rattle.wc_body.specs.declared.needs.Needs.{Needs};
 
-use crate::needs::Needs;
+use crate::needs::{Needs, low_bit};
 use crate::runs::front::are_last;
 
 /// What an opcode's light entries are like.
@@ -187,6 +187,7 @@ fn note_outer(needs: &mut Needs, opcode: u8, index: u32)
     } else {
         needs.set_globals = needs.set_globals.max(index + 1);
         needs.lowest_set_global = needs.lowest_set_global.min(index);
+        needs.set_below_64 |= low_bit(index);
     }
 }
 

@@ -1,17 +1,37 @@
 -- What all bodies need, and what each of them does.
-use Rattle.std.proofs.Common.{◌≡◌, ℕ, Bool, true, false, ◌||◌, List, [], ◌∷◌, map, max, refl, arith}
+use Rattle.std.proofs.Common.{◌≡◌, ℕ, ◌<◌, ◌≤◌, Bool, true, false, ◌||◌, List, [], ◌∷◌, map, max}
+use Rattle.std.proofs.Common.{inl, inr, refl, arith}
+use Rattle.std.specs.Int.{bit_at}
+use Rattle.std.proofs.lemmas.Bool.{cases_lt}
 use Rattle.std.specs.List.{AllByRecursion}
 use Rattle.wc_body.specs.declared.needs.Needs.{Needs}
 use Rattle.wc_body.specs.Standard.Needed.{needs_of, own_of, joined, with_bodies}
 use Rattle.wc_ast.specs.declared.func.Func.{Func}
 use Rattle.wc_check.specs.declared.context.Context.{Context}
-use Rattle.wc_check.specs.Judging.Enough.{HasRoom, HasCommon, HasOwn, IsEnough}
+use Rattle.wc_check.specs.declared.bodies.Known.{Known}
+use Rattle.wc_check.specs.Judging.Enough.{HasRoom, AreSettable, AreMarkedSettable, HasCommon, IsKnown, first_asked}
+use Rattle.wc_check.specs.Judging.Enough.{HasOwn}
+use Rattle.wc_check.specs.Standard.InstructionRules.{is_constant_at}
+use Rattle.wc_check.proofs.Walks.IsEnough.{IsEnough}
+use Rattle.wc_check.proofs.Walks.BitLemmas.{bit-one, bit-other}
 use Rattle.wc_check.proofs.Walks.EnoughLemmas.{neither}
 
+-- those are not constant that may be set
+settable-by : (c : Context) (low : Bool) (needs : Needs)
+    → (low ≡ true → AreMarkedSettable c.globals needs.set_below_64)
+    → AreSettable c.globals (first_asked low needs.lowest_set_global) needs.set_globals
+    → (n : ℕ) → needs.lowest_set_global ≤ n → n < needs.set_globals → (n < 64 → bit_at needs.set_below_64 n ≡ 1)
+    → is_constant_at c.globals n ≡ false
+settable-by c false needs known run n least most marked = run n least most
+settable-by c true needs known run n least most marked = elim (cases_lt n 64) [
+  | inl lt ↦ known refl n (marked lt)
+  | inr le ↦ run n (omega (arith, least, le)) most
+]
+
 -- both together are all
-pub enough-by : (c : Context) (locals : ℕ) (needs : Needs) → HasCommon c needs → HasOwn c locals (own_of needs)
-    → IsEnough c locals needs
-enough-by c locals needs common own = record {
+pub enough-by : (c : Context) (known : Known) (locals : ℕ) (needs : Needs) → known.has_common ≡ true
+    → IsKnown c known needs → HasOwn c known.low_settable locals (own_of needs) → IsEnough c locals needs
+enough-by c known locals needs all h own = let common : HasCommon c needs = h.common all in record {
   rooms = record {
     types = common.types;
     funcs = common.funcs;
@@ -23,7 +43,7 @@ enough-by c locals needs common own = record {
     outer_label = common.outer_label;
     over_aligned = common.over_aligned;
   };
-  settable = own.settable;
+  settable = settable-by c known.low_settable needs h.settable own.settable;
 }
 
 room-one : (count a b : ℕ) → HasRoom count (max a b) → HasRoom count a
@@ -59,14 +79,29 @@ other c s t h = record {
   over_aligned = (neither s.over_aligned t.over_aligned h.over_aligned).1;
 }
 
--- what all functions need is there for each
-both-each : (c : Context) (s : Needs) (fs : List Func) → HasCommon c (with_bodies s (map (λ f. f.body) fs))
-    → HasCommon c s × AllByRecursion (λ f. HasCommon c (needs_of f.body)) fs
-both-each c s [] h = (h, tt)
-both-each c s (f ∷ fs) h =
-    let rest = both-each c (joined s (needs_of f.body)) fs h in
-    (one c s (needs_of f.body) rest.0, (other c s (needs_of f.body) rest.0, rest.1))
+-- what is known of both is known of either
+known-one : (c : Context) (known : Known) (s t : Needs) → IsKnown c known (joined s t) → IsKnown c known s
+known-one c known s t h = record {
+  common = λ e. one c s t (h.common e);
+  settable = λ e n set. h.settable e n (bit-one s.set_below_64 t.set_below_64 n set);
+}
 
-pub common-each : (c : Context) (s : Needs) (fs : List Func) → HasCommon c (with_bodies s (map (λ f. f.body) fs))
-    → AllByRecursion (λ f. HasCommon c (needs_of f.body)) fs
-common-each c s fs h = (both-each c s fs h).1
+known-other : (c : Context) (known : Known) (s t : Needs) → IsKnown c known (joined s t) → IsKnown c known t
+known-other c known s t h = record {
+  common = λ e. other c s t (h.common e);
+  settable = λ e n set. h.settable e n (bit-other s.set_below_64 t.set_below_64 n set);
+}
+
+-- what is known of all functions is known of each
+both-each : (c : Context) (known : Known) (s : Needs) (fs : List Func)
+    → IsKnown c known (with_bodies s (map (λ f. f.body) fs))
+    → IsKnown c known s × AllByRecursion (λ f. IsKnown c known (needs_of f.body)) fs
+both-each c known s [] h = (h, tt)
+both-each c known s (f ∷ fs) h =
+    let rest = both-each c known (joined s (needs_of f.body)) fs h in
+    (known-one c known s (needs_of f.body) rest.0, (known-other c known s (needs_of f.body) rest.0, rest.1))
+
+pub known-each : (c : Context) (known : Known) (s : Needs) (fs : List Func)
+    → IsKnown c known (with_bodies s (map (λ f. f.body) fs))
+    → AllByRecursion (λ f. IsKnown c known (needs_of f.body)) fs
+known-each c known s fs h = (both-each c known s fs h).1

@@ -15,8 +15,8 @@ use Rattle.wc_ops.specs.declared.op.IndexOp.TheVariants.{Br, BrIf, Call, LocalGe
 use Rattle.wc_ops.specs.declared.op.IndexOp.TheVariants.{GlobalSet}
 use Rattle.wc_body.specs.declared.needs.Needs.{Needs}
 use Rattle.wc_body.specs.Standard.Nested.{Code, Mark, plain, begin, begin_if, otherwise, close}
-use Rattle.wc_body.specs.Standard.Needed.{nothing, enough, with_simple, with_index, with_instr, with_block, with_mark}
-use Rattle.wc_body.specs.Standard.Needed.{with_all, needs_of}
+use Rattle.wc_body.specs.Standard.Needed.{nothing, enough, low_bit, with_simple, with_index, with_instr, with_block}
+use Rattle.wc_body.specs.Standard.Needed.{with_mark, with_all, needs_of}
 use Rattle.wc_ops.specs.Standard.Opcodes.{memory}
 use Rattle.wc_body.specs.Standard.Placed.{placed, deeper}
 use Rattle.wc_check.specs.declared.context.Context.{Context}
@@ -26,7 +26,9 @@ use Rattle.wc_check.specs.declared.fault.CheckWhy.TheVariants as whys
 use Rattle.wc_check.specs.Standard.Rules.{rule, at, each}
 use Rattle.wc_check.specs.Standard.InstructionRules.{simple_rules, is_constant_at, index_rules, instr_rules}
 use Rattle.wc_check.specs.Standard.InstructionRules.{block_rules, mark_rules, broken_instr, broken_in_body}
-use Rattle.wc_check.specs.Judging.Enough.{HasRoom, IsEnough}
+use Rattle.wc_check.specs.Judging.Enough.{HasRoom}
+use Rattle.wc_check.proofs.Walks.IsEnough.{IsEnough}
+use Rattle.wc_check.proofs.Walks.BitLemmas.{bit-joins, bit-one}
 
 -- there is room for the index, and for what was needed before
 before : (count so_far n : ℕ) → HasRoom count (enough so_far n) → HasRoom count so_far
@@ -214,7 +216,7 @@ module _ (c : Context) (locals : ℕ) where
   )
   index-keeps s k GlobalSet n e =
       let lt = below (length c.globals) s.set_globals n e.rooms.set_globals in
-      let variable = e.settable n (omega arith) (omega (arith, e.rooms.set_globals.0)) in (
+      let variable = e.settable n (omega arith) (omega (arith, e.rooms.set_globals.0)) (bit-joins s.set_below_64 n) in (
         record {
           rooms = record {
             types = e.rooms.types;
@@ -227,7 +229,9 @@ module _ (c : Context) (locals : ℕ) where
             outer_label = e.rooms.outer_label;
             over_aligned = e.rooms.over_aligned;
           };
-          settable = λ m low high. e.settable m (omega (arith, low)) (omega (arith, high));
+          settable =
+              λ m low high marked. e.settable m (omega (arith, low)) (omega (arith, high))
+              (λ lt. bit-one s.set_below_64 (low_bit n) m (marked lt));
         },
         rw (no-count whys.Index (length c.globals) s.set_globals n e.rooms.set_globals)
             (no-rule whys.Immutable (is_constant_at c.globals n) variable),

@@ -1,8 +1,10 @@
 -- What is around a body gives all that its instructions need, so that they break no rule (Core 1.0, 3.3).
-use Rattle.std.specs.Prelude.{ℕ, ◌≡◌, ◌+◌, ◌-◌, ◌<◌, ◌≤◌, ◌^◌, true, false, cond, List, [], ◌∷◌, length}
+use Rattle.std.specs.Prelude.{ℕ, ◌≡◌, ◌+◌, ◌-◌, ◌<◌, ◌≤◌, ◌^◌, max, Bool, true, false, cond, List, [], ◌∷◌, length}
+use Rattle.std.specs.Int.{bit_at}
 use Rattle.wc_ast.specs.declared.limits.GlobalType.{GlobalType}
 use Rattle.wc_body.specs.declared.needs.Needs.{Needs}
 use Rattle.wc_body.specs.declared.needs.OwnNeeds.{OwnNeeds}
+use Rattle.wc_check.specs.declared.bodies.Known.{Known}
 use Rattle.wc_check.specs.declared.context.Context.{Context}
 use Rattle.wc_check.specs.Standard.InstructionRules.{is_constant_at}
 
@@ -21,22 +23,9 @@ run_starts place start (g ∷ gs) =
 abbrev pub AreSettable : List GlobalType → ℕ → ℕ → Type 0
 AreSettable globals first end = (n : ℕ) → first ≤ n → n < end → is_constant_at globals n ≡ false
 
--- there is room for each index, in a function of so many locals, and no instruction breaks a rule whatever is around
-pub record HasRooms (c : Context) (local_count : ℕ) (needs : Needs) : Type 0 where
-  pub types : HasRoom c.types needs.types
-  pub funcs : HasRoom c.funcs needs.funcs
-  pub globals : HasRoom (length c.globals) needs.globals
-  pub set_globals : HasRoom (length c.globals) needs.set_globals
-  pub locals : HasRoom local_count needs.locals
-  pub table : needs.table ≡ true → 0 < c.tables
-  pub memory : needs.memory ≡ true → 0 < c.mems
-  pub outer_label : needs.outer_label ≡ false
-  pub over_aligned : needs.over_aligned ≡ false
-
--- and no global that is set is constant
-pub record IsEnough (c : Context) (local_count : ℕ) (needs : Needs) : Type 0 where
-  pub rooms : HasRooms c local_count needs
-  pub settable : AreSettable c.globals needs.lowest_set_global needs.set_globals
+-- none of the globals is constant whose bit is 1
+abbrev pub AreMarkedSettable : List GlobalType → ℕ → Type 0
+AreMarkedSettable globals bits = (n : ℕ) → bit_at bits n ≡ 1 → is_constant_at globals n ≡ false
 
 -- of what a body needs, that which doesn't hang on the function's locals or on the globals that are set
 pub record HasCommon (c : Context) (needs : Needs) : Type 0 where
@@ -48,12 +37,22 @@ pub record HasCommon (c : Context) (needs : Needs) : Type 0 where
   pub outer_label : needs.outer_label ≡ false
   pub over_aligned : needs.over_aligned ≡ false
 
+-- it holds of what a body needs, as far as it is known
+pub record IsKnown (c : Context) (known : Known) (needs : Needs) : Type 0 where
+  pub common : known.has_common ≡ true → HasCommon c needs
+  pub settable : known.low_settable ≡ true → AreMarkedSettable c.globals needs.set_below_64
+
 -- room for the other indices, in a function of so many locals
 pub record HasOwnRooms (c : Context) (local_count : ℕ) (own : OwnNeeds) : Type 0 where
   pub set_globals : HasRoom (length c.globals) own.set_globals
   pub locals : HasRoom local_count own.locals
 
--- and no global that is set is constant
-pub record HasOwn (c : Context) (local_count : ℕ) (own : OwnNeeds) : Type 0 where
+-- the lowest global to be asked of, where this is the lowest that is set: where it is known of those below 64 that none
+-- that is set is constant, they aren't asked of
+abbrev pub first_asked : Bool → ℕ → ℕ
+first_asked low_settable lowest = cond low_settable (max lowest 64) lowest
+
+-- and none of the globals from there on up to the highest that is set is constant
+pub record HasOwn (c : Context) (low_settable : Bool) (local_count : ℕ) (own : OwnNeeds) : Type 0 where
   pub rooms : HasOwnRooms c local_count own
-  pub settable : AreSettable c.globals own.lowest_set_global own.set_globals
+  pub settable : AreSettable c.globals (first_asked low_settable own.lowest_set_global) own.set_globals

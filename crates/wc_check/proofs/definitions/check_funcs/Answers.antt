@@ -6,7 +6,8 @@ use Rattle.wc_check.specs.Standard.Broken.{broken_func}
 use Rattle.wc_check.proofs.Lists.SpaceLemmas.{func_start, func_count}
 use Rattle.wc_check.proofs.Lists.VerdictLemmas.{verdict-fails, verdict-passes}
 use Rattle.wc_body.specs.Standard.Needed.{nothing}
-use Rattle.wc_check.proofs.Walks.CommonLemmas.{common-each}
+use Rattle.wc_check.specs.Judging.Enough.{IsKnown}
+use Rattle.wc_check.proofs.Walks.CommonLemmas.{known-each}
 use Rattle.wc_check.proofs.definitions.check_funcs.Goals as goal
 
 pub loop-func-init : goal.loop-func-init
@@ -16,11 +17,15 @@ loop-func-init c =
     rw (c.requires.rules, c.len.ensures) (func_start m) in
     let all : c.args.context.now.funcs ≡ length (imported_funcs m.imports) + length m.funcs =
     rw c.requires.rules (func_count m) in
+    let known : IsKnown c.args.context.now c.known_of-known.result c.needs.result = record {
+      common = c.known_of-known.ensures.common.0;
+      settable = c.known_of-known.ensures.settable.0;
+    } in
     let few : c.args.context.now.funcs < 2 ^ 64 = search rules in
     record {
       few = rw (start, c.iter-funcs.ensures) (omega (arith, all, few));
-      common = λ e. rw c.iter-funcs.ensures
-          (common-each c.args.context.now nothing m.funcs (rw c.needs.ensures at (c.has_common-common.ensures.0 e)));
+      known = rw c.iter-funcs.ensures
+          (known-each c.args.context.now c.known_of-known.result nothing m.funcs (rw c.needs.ensures at known));
       rest = rw (start, c.iter-funcs.ensures) refl;
     }
 
@@ -32,7 +37,7 @@ loop-func-preserved c =
     let m = c.args.module.now in
     record {
       few = omega (arith, rw c.in-Some.ensures.steps at c.loop-func.invariant.few);
-      common = λ e. (rw c.in-Some.ensures.steps at (c.loop-func.invariant.common e)).1;
+      known = (rw c.in-Some.ensures.steps at c.loop-func.invariant.known).1;
       rest =
           sym (verdict-passes (broken_func m c.loop-func.index c.in-Some.func)
           (each (broken_func m) (c.loop-func.index + 1) c.next.new.self) c.in_ok-check_func.ensures)
