@@ -1,5 +1,5 @@
 -- A byte leads to a value type exactly where it is that type's byte.
-use Rattle.std.proofs.Common.{◌≡◌, ◌↔◌, ℕ, Bool, true, false, nat_eq, Option, Some, None, refl, sym, ap, ◌∙◌}
+use Rattle.std.proofs.Common.{◌≡◌, ◌↔◌, ℕ, Bool, true, false, nat_eq, Option, Some, refl, sym, ap, ◌∙◌}
 use Rattle.std.proofs.lemmas.Bool.{eqb-true}
 use Rattle.wc_ops.specs.declared.val_type.ValType.{ValType}
 use Rattle.wc_ops.specs.declared.val_type.ValType.TheVariants.{I32, I64}
