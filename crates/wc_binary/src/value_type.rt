@@ -1,8 +1,7 @@
 //! The bytes of value types (Core 1.0, 5.3.1).
 
-ghost use Rattle.std.specs.Prelude.{◌≡◌, ◌∷◌, []};
-ghost use Rattle.wc_body.specs.Standard.ValueBytes.{value_type_bytes};
-ghost use Rattle.wc_binary.specs.Standard.Types.{value_type_of};
+ghost use Rattle.std.specs.Prelude.{◌≡◌};
+ghost use Rattle.wc_binary.specs.Standard.Types.{value_type_of, no_type as no_type_of};
 
 use crate::decoder::ByteTable;
 use crate::fault::BinWhy;
@@ -11,23 +10,17 @@ use wc_ast::ValType;
 impl ByteTable for ValType {
     ghost table = { value_type_of };
 
-    /// Those of floats are told apart from what is no type.
     fn of_byte(byte: u8) -> Result<ValType, BinWhy> {
-        match byte {
-            0x7f => Ok(ValType::I32),
-            0x7e => Ok(ValType::I64),
-            0x7d | 0x7c => Err(BinWhy::Float),
-            _ => Err(BinWhy::WrongType),
-        }
+        ValType::of_byte(byte).ok_or(no_type(byte))
     }
 }
 
-/// The byte of a value type.
-pub fn byte_of(value_type: ValType) -> u8
-    ensures { value_type_bytes value_type ≡ result ∷ [] }
+/// Why a byte is no value type's: those of floats are told apart.
+fn no_type(byte: u8) -> BinWhy
+    ensures { result ≡ no_type_of byte }
 {
-    match value_type {
-        ValType::I32 => 0x7f,
-        ValType::I64 => 0x7e,
+    match byte {
+        0x7d | 0x7c => BinWhy::Float,
+        _ => BinWhy::WrongType,
     }
 }

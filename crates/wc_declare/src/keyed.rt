@@ -19,11 +19,7 @@ pub struct Reading {
 fn type_of(byte: u8) -> ValType
     ensures { result ≡ byte_type byte }
 {
-    if byte == 0x7f {
-        ValType::I32
-    } else {
-        ValType::I64
-    }
+    ValType::of_byte(byte).unwrap_or(ValType::I64)
 }
 
 /// Reads one more byte.

@@ -3,4 +3,5 @@ pub mod SignedPush
 pub mod Digits
 pub mod Push
 pub mod AtFront
+pub mod ShortFront
 pub mod OneByte

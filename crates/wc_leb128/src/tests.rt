@@ -1,6 +1,6 @@
 ghost use Rattle.std.specs.Prelude.{◌<◌, ◌≤◌};
 
-use crate::{Signed, Step, Unsigned, shortest_s, shortest_u, signed_at, unsigned_at};
+use crate::{Signed, Step, Unsigned, shortest_s, shortest_u, signed_at, u32_front, unsigned_at};
 use std::process::Abort;
 
 /// Bytes, and the answer to the last of them.
@@ -258,6 +258,14 @@ fn unsigned_at_the_front(rt: HostRuntime) {
     unsigned_fronts::<1>(&rt, &FRONTS_U1);
     unsigned_fronts::<32>(&rt, &FRONTS_U32);
     unsigned_fronts::<64>(&rt, &FRONTS_U64);
+}
+
+#[test]
+fn u32_at_the_front(rt: HostRuntime) {
+    for (bytes, want) in &FRONTS_U32 {
+        let found = u32_front(*bytes).map(|(n, rest)| (u64::from(n), rest));
+        assert_eq!(rt; found, *want, "{bytes:?}");
+    }
 }
 
 static FRONTS_S1: [(&[u8], Option<(i64, &[u8])>); 4] = [

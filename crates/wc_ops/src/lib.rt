@@ -9,5 +9,7 @@ pub mod op_row;
 pub mod val_type;
 
 pub use crate::op::{IndexOp, MemOp, Op, OpByte, OpName, SimpleOp};
-pub use crate::op_law::{leads_back, meaning_is_the_table, one_meaning, rows_differ};
+pub use crate::op_law::{
+    leads_back, meaning_is_the_table, one_meaning, rows_differ, value_types_lead_back,
+};
 pub use crate::val_type::ValType;

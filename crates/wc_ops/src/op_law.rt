@@ -1,15 +1,17 @@
-//! Laws of the opcode table. Each function only states its law: it does nothing.
+//! Laws of the tables. Each function only states its law: it does nothing.
 
-ghost use Rattle.std.specs.Prelude.{◌≡◌, ℕ, List};
+ghost use Rattle.std.specs.Prelude.{◌≡◌, ◌↔◌, ℕ, List, Some};
 ghost use Rattle.wc_ops.specs.Standard.ByteMeaning.{IsOpByte};
 ghost use Rattle.wc_ops.specs.Standard.NameMeaning.{IsOpName};
 ghost use Rattle.wc_ops.specs.Standard.Opcodes.{row};
+ghost use Rattle.wc_ops.specs.Standard.ValueTypes.{value_type_byte, value_type_of_byte};
 ghost use Rattle.wc_ops.specs.Reading.OpcodeMeaning.{meaning};
 ghost use Rattle.wc_ops.specs.declared.op.Op.{Op};
 ghost use Rattle.wc_ops.specs.declared.op.OpByte.{OpByte};
 ghost use Rattle.wc_ops.specs.declared.op.OpByte.TheVariants as bytes;
 ghost use Rattle.wc_ops.specs.declared.op.OpName.{OpName};
 ghost use Rattle.wc_ops.specs.declared.op.OpName.TheVariants as names;
+ghost use Rattle.wc_ops.specs.declared.val_type.ValType.{ValType};
 
 use crate::op::Op;
 
@@ -17,6 +19,11 @@ use crate::op::Op;
 pub fn one_meaning()
     ensures byte { (byte : ℕ) (x y : OpByte) → IsOpByte byte x → IsOpByte byte y → x ≡ y }
     ensures name { (word : List ℕ) (x y : OpName) → IsOpName word x → IsOpName word y → x ≡ y }
+{}
+
+/// A byte leads to a value type exactly where it is that type's byte.
+pub fn value_types_lead_back()
+    ensures { (byte : ℕ) (t : ValType) → (value_type_of_byte byte ≡ Some t) ↔ (value_type_byte t ≡ byte) }
 {}
 
 /// What is computed of a byte is what the table of opcodes says of it: so whoever reads that table needs no other.

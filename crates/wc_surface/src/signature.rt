@@ -2,7 +2,7 @@
 
 ghost use Rattle.std.specs.Prelude.{◌≡◌, ◌++◌, ◌∷◌, IfOk, OnOk, IfSome, OnSome};
 ghost use Rattle.wc_surface.specs.Kept.Keyed.{key_in};
-ghost use Rattle.wc_surface.specs.Standard.Keys.{func_type, type_byte, type_bytes, result_bytes, key_of};
+ghost use Rattle.wc_surface.specs.Standard.Keys.{func_type, type_bytes, result_bytes, key_of};
 
 use crate::few_bytes::FewBytes;
 use crate::rare::Apart;
@@ -90,7 +90,7 @@ fn put_few_types(bytes: &mut FewBytes, types: &[ValType]) -> Option<()>
     ensures { OnSome result (bytes.new ≡ bytes.old ++ type_bytes types.now) }
 {
     for value_type in types {
-        bytes.try_push(byte_of(*value_type))?;
+        bytes.try_push(value_type.byte())?;
     }
     Some(())
 }
@@ -121,7 +121,7 @@ fn put_types(bytes: &mut Vec<u8>, types: &[ValType]) -> Result<(), AllocError>
     ensures { OnOk result (bytes.new.items ≡ bytes.old.items ++ type_bytes types.now) }
 {
     for value_type in types {
-        bytes.push(byte_of(*value_type))?;
+        bytes.push(value_type.byte())?;
     }
     Ok(())
 }
@@ -134,14 +134,4 @@ fn put_results(bytes: &mut Vec<u8>, results: &[ValType]) -> Result<(), AllocErro
     }
     bytes.push(0)?;
     put_types(bytes, results)
-}
-
-#[inline(always)]
-fn byte_of(value_type: ValType) -> u8
-    ensures { result ≡ type_byte value_type }
-{
-    match value_type {
-        ValType::I32 => 0x7f,
-        ValType::I64 => 0x7e,
-    }
 }

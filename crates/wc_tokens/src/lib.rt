@@ -2,6 +2,7 @@
 #![tactic(auto)]
 
 mod bytes;
+mod chunks;
 mod classes;
 mod digits;
 mod elements;

@@ -1,26 +1,29 @@
 //! Blanks one after another, many at a time.
 
-ghost use Rattle.std.specs.Prelude.{◌≡◌, ◌+◌, ◌<◌, ◌≤◌, ℕ, not, true, IsTrue, length, map, slice_index};
-ghost use Rattle.std.specs.Simd.Lanes.{chunk, mask_l};
+ghost use Rattle.std.specs.Prelude.{◌≡◌, ◌<◌, ◌≤◌, ℕ, true, IsTrue, length, slice_index};
 ghost use Rattle.wc_tokens.specs.Standard.Gaps.{is_blank};
 
+use crate::chunks::{CHUNK, Ending, count_before};
 use std::simd::prelude::*;
 
-/// How many bytes are looked at together.
-pub const CHUNK: usize = 16;
+/// A byte that isn't a blank.
+struct Other;
 
-/// A bit for each byte of a chunk, which is set where the byte isn't a blank.
-#[inline(always)]
-fn others_in_chunk(text: &[u8], at: usize) -> u64
-    requires { at + 16 ≤ length text.now }
-    ensures { result ≡ mask_l (map (λ c. not (is_blank c)) (chunk at 16 text.now)) }
-{
-    let bytes = u8x16::from_slice(&text[at..]);
-    let others = bytes.simd_ne(u8x16::splat(b' '))
-        & bytes.simd_ne(u8x16::splat(b'\t'))
-        & bytes.simd_ne(u8x16::splat(b'\n'))
-        & bytes.simd_ne(u8x16::splat(b'\r'));
-    others.to_bitmask()
+impl Ending for Other {
+    ghost use Rattle.std.specs.Prelude.{not};
+    ghost use Rattle.wc_tokens.specs.Standard.Gaps.{is_blank};
+
+    ghost ends = { λ c. not (is_blank c) };
+
+    #[inline(always)]
+    fn in_chunk(text: &[u8], at: usize) -> u64 {
+        let bytes = u8x16::from_slice(&text[at..]);
+        let others = bytes.simd_ne(u8x16::splat(b' '))
+            & bytes.simd_ne(u8x16::splat(b'\t'))
+            & bytes.simd_ne(u8x16::splat(b'\n'))
+            & bytes.simd_ne(u8x16::splat(b'\r'));
+        others.to_bitmask()
+    }
 }
 
 /// Whether a text has a chunk, and its first three bytes may all be blanks.
@@ -42,13 +45,5 @@ pub fn count_blanks(text: &[u8]) -> usize
     if !begins_many(text) {
         return 0;
     }
-    let mut at = 0;
-    while text.len() - at >= CHUNK {
-        let others = others_in_chunk(text, at);
-        if others != 0 {
-            return at + others.trailing_zeros() as usize;
-        }
-        at += CHUNK;
-    }
-    at
+    count_before::<Other>(text)
 }

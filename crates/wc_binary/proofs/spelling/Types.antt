@@ -1,11 +1,13 @@
 -- The canonical bytes of types.
 use Rattle.std.proofs.Common.{◌≡◌, ℕ, Bool, true, false, nat_eq, List, [], ◌∷◌, ◌++◌, Option, Some, None, Result, Ok}
-use Rattle.std.proofs.Common.{refl, sym, ap}
-use Rattle.std.specs.Option.{is_some}
+use Rattle.std.proofs.Common.{refl, sym, ap, ◌∙◌}
+use Rattle.std.specs.Option.{is_some, ok_or}
 use Rattle.std.proofs.lemmas.Bool.{eqb-true}
 use Rattle.wc_leb128.specs.Writing.Bytes.{unsigned_bytes}
 use Rattle.wc_ops.specs.declared.val_type.ValType.{ValType}
 use Rattle.wc_ops.specs.declared.val_type.ValType.TheVariants.{I32, I64}
+use Rattle.wc_ops.specs.Standard.ValueTypes.{value_type_byte, value_type_of_byte}
+use Rattle.wc_ops.proofs.Meanings.OfTypes.{type-byte}
 use Rattle.wc_ast.specs.declared.func_type.FuncType.{FuncType}
 use Rattle.wc_ast.specs.declared.limits.Limits.{Limits}
 use Rattle.wc_ast.specs.declared.limits.GlobalType.{GlobalType}
@@ -14,8 +16,8 @@ use Rattle.wc_binary.specs.declared.fault.BinWhy.TheVariants.{WrongType}
 use Rattle.wc_binary.specs.Standard.Style.{Style, canonical}
 use Rattle.wc_binary.specs.Standard.Phrase.{gives, byte, ◌>>=◌, SpellsBy}
 use Rattle.wc_binary.specs.Standard.Values.{u32, vector, only}
-use Rattle.wc_binary.specs.Standard.Types.{value_type, value_type_of, func_type, flag, flag_of, maximum, limits}
-use Rattle.wc_binary.specs.Standard.Types.{table_type, global_type}
+use Rattle.wc_binary.specs.Standard.Types.{value_type, value_type_of, no_type, func_type, flag, flag_of, maximum}
+use Rattle.wc_binary.specs.Standard.Types.{limits, table_type, global_type}
 use Rattle.wc_body.specs.Standard.ValueBytes.{vector_bytes, value_type_bytes}
 use Rattle.wc_binary.specs.Writing.Values.{func_type_bytes, flag_bytes, maximum_bytes}
 use Rattle.wc_body.specs.Standard.ValueBytes.{Fits32, FitsVector}
@@ -25,24 +27,21 @@ use Rattle.wc_binary.proofs.spelling.Judging.{HasBytes}
 use Rattle.wc_binary.proofs.spelling.Phrases.{of, writes-as, u32-writes, byte-writes, only-writes, then-writes}
 use Rattle.wc_binary.proofs.spelling.Phrases.{seen-writes, made-writes, vector-writes}
 
-abbrev ok_type : ValType → Result ValType BinWhy
-ok_type v = Ok v
+-- a value type has one byte
+value_type-byte : (v : ValType) → value_type_bytes v ≡ value_type_byte v ∷ []
+value_type-byte I32 = refl
+value_type-byte I64 = refl
+
+-- what isn't refused was there
+found : {A E : Type 0} (o : Option A) (why : E) (v : A) → ok_or o why ≡ Ok v → o ≡ Some v
+found None why v h = absurd cc
+found (Some u) why v h = let e : u ≡ v = cc in cc
 
 -- the byte of each value type
 pub value_type-only : (x : ℕ) (v : ValType) → value_type_of x ≡ Ok v → x ∷ [] ≡ value_type_bytes v
-value_type-only x v h = go (nat_eq x 0x7F) (nat_eq x 0x7E) (nat_eq x 0x7D) (nat_eq x 0x7C) refl refl refl refl
-  where
-    go : (a b c d : Bool) → nat_eq x 0x7F ≡ a → nat_eq x 0x7E ≡ b → nat_eq x 0x7D ≡ c → nat_eq x 0x7C ≡ d
-        → x ∷ [] ≡ value_type_bytes v
-    go true b c d p q r s =
-        let e : ok_type I32 ≡ Ok v = rw p at h in
-        let f : I32 ≡ v = cc in rw (← f) (ap (λ (y : ℕ). y ∷ []) (eqb-true x 0x7F p))
-    go false true c d p q r s =
-        let e : ok_type I64 ≡ Ok v = rw (p, q) at h in
-        let f : I64 ≡ v = cc in rw (← f) (ap (λ (y : ℕ). y ∷ []) (eqb-true x 0x7E q))
-    go false false true d p q r s = let e = rw (p, q, r) at h in absurd cc
-    go false false false true p q r s = let e = rw (p, q, r, s) at h in absurd cc
-    go false false false false p q r s = let e = rw (p, q, r, s) at h in absurd cc
+value_type-only x v h =
+    let known = found (value_type_of_byte x) (no_type x) v h in
+    ap (λ (y : ℕ). y ∷ []) (sym ((type-byte x v).0 known)) ∙ sym (value_type-byte v)
 
 pub value_type-writes : HasBytes (of value_type) Anything value_type_bytes
 unfolding value_type

@@ -1,7 +1,8 @@
 -- Types (Core 1.0, 5.3).
 use Rattle.std.specs.Prelude.{ℕ, ◌==◌, Bool, true, false, Option, Some, None, Result, Ok, Err, if◌then◌else◌}
+use Rattle.std.specs.Option.{ok_or}
 use Rattle.wc_ops.specs.declared.val_type.ValType.{ValType}
-use Rattle.wc_ops.specs.declared.val_type.ValType.TheVariants.{I32, I64}
+use Rattle.wc_ops.specs.Standard.ValueTypes.{value_type_of_byte}
 use Rattle.wc_ast.specs.declared.func_type.FuncType.{FuncType}
 use Rattle.wc_ast.specs.declared.limits.Limits.{Limits}
 use Rattle.wc_ast.specs.declared.limits.GlobalType.{GlobalType}
@@ -10,14 +11,13 @@ use Rattle.wc_binary.specs.declared.fault.BinWhy.TheVariants.{WrongType, Float, 
 use Rattle.wc_binary.specs.Standard.Phrase.{Phrase, gives, byte, ◌>>=◌}
 use Rattle.wc_binary.specs.Standard.Values.{only, u32, vector}
 
--- the value type of a byte (5.3.1); those of floats are outside the profile
+-- why a byte is no value type's: those of floats are outside the profile
+abbrev pub no_type : ℕ → BinWhy
+no_type x = if x == 0x7D then Float else (if x == 0x7C then Float else WrongType)
+
+-- the value type of a byte (5.3.1)
 abbrev pub value_type_of : ℕ → Result ValType BinWhy
-value_type_of x =
-    if x == 0x7F then Ok I32
-    else (if x == 0x7E then Ok I64
-    else (if x == 0x7D then Err Float
-    else (if x == 0x7C then Err Float
-    else Err WrongType)))
+value_type_of x = ok_or (value_type_of_byte x) (no_type x)
 
 -- a value type (5.3.1)
 unfoldable pub value_type : Phrase ValType

@@ -1,19 +1,16 @@
 //! What bytes at hand begin with, told before any of them is taken.
 
-ghost use Rattle.std.specs.Prelude.{◌≡◌, ◌≤◌, ◌∷◌, IfSome, MatchOption};
+ghost use Rattle.std.specs.Prelude.{◌≡◌, IfSome, MatchOption};
 ghost use Rattle.std.specs.Str.{IsUtf8};
 ghost use Rattle.wc_binary.specs.Standard.Values.{u32 as u32_phrase, name as name_phrase};
 ghost use Rattle.wc_binary.specs.Reading.NextItem.{BeginsWith};
-
-use wc_leb128::unsigned_at;
 
 /// The unsigned integer of 32 bits that these bytes begin with (Core 1.0, 5.2.2), of any length, and what follows it.
 #[inline(never)]
 fn long_u32_front(bytes: &[u8]) -> Option<(u32, &[u8])>
     ensures { IfSome result (λ found. BeginsWith u32_phrase bytes.now found.0 found.1.now) }
 {
-    let (n, rest) = unsigned_at::<32>(bytes)?;
-    Some((n as u32, rest))
+    wc_leb128::u32_front(bytes)
 }
 
 /// The same. Most have one byte, so that case comes first and is inlined.
@@ -26,35 +23,6 @@ pub fn u32_front(bytes: &[u8]) -> Option<(u32, &[u8])>
         return long_u32_front(bytes);
     }
     Some((u32::from(*first), rest))
-}
-
-/// The same of one of two bytes or more, the first of which was taken.
-#[inline(always)]
-pub fn u32_behind(first: u8, bytes: &[u8]) -> Option<(u32, &[u8])>
-    requires { 128 ≤ first }
-    ensures { IfSome result (λ found. BeginsWith u32_phrase (first ∷ bytes.now) found.0 found.1.now) }
-{
-    let low = u32::from(first - 128);
-    let (second, rest) = bytes.split_first()?;
-    if *second < 128 {
-        return Some((low + 0x80 * u32::from(*second), rest));
-    }
-    let low = low + 0x80 * u32::from(*second - 128);
-    let (third, rest) = rest.split_first()?;
-    if *third < 128 {
-        return Some((low + 0x4000 * u32::from(*third), rest));
-    }
-    let low = low + 0x4000 * u32::from(*third - 128);
-    let (fourth, rest) = rest.split_first()?;
-    if *fourth < 128 {
-        return Some((low + 0x20_0000 * u32::from(*fourth), rest));
-    }
-    let low = low + 0x20_0000 * u32::from(*fourth - 128);
-    let (fifth, rest) = rest.split_first()?;
-    if *fifth >= 16 {
-        return None;
-    }
-    Some((low + 0x1000_0000 * u32::from(*fifth), rest))
 }
 
 /// The text that these bytes are, if they are UTF-8.

@@ -112,7 +112,7 @@ fn short_type(byte: u8) -> Result<BlockType, BinWhy>
 {
     match byte {
         0x40 => Ok(BlockType::Empty),
-        _ => Ok(BlockType::Value(ValType::of_byte(byte)?)),
+        _ => Ok(BlockType::Value(<ValType as ByteTable>::of_byte(byte)?)),
     }
 }
 

@@ -7,10 +7,9 @@ ghost use Rattle.wc_binary.specs.Standard.Values.{u32 as u32_phrase};
 ghost use Rattle.wc_binary.specs.Reading.Source.{Gives, Gave, TakesRest};
 
 use crate::decoder::byte::any_byte;
-use crate::decoder::front::u32_behind;
 use crate::fault::{BinFault, BinWhy, bad};
 use crate::source::Source;
-use wc_leb128::{Step, Unsigned, unsigned_in_one};
+use wc_leb128::{Step, Unsigned, u32_behind, unsigned_in_one};
 
 /// The unsigned integer of 32 bits whose first byte was read, where all of it lies ahead. Else nothing is taken.
 #[inline(never)]

@@ -9,7 +9,6 @@ ghost use Rattle.wc_binary.specs.Writing.Writes.{Writes, Measures};
 use crate::encoder::measured::{Measured, vector_size, write_vector};
 use crate::encoder::value::{u32_size, write_u32};
 use crate::fault::EncFault;
-use crate::value_type::byte_of;
 use wc_ast::{FuncType, GlobalType, Limits, ValType};
 
 impl Measured for ValType {
@@ -22,7 +21,7 @@ impl Measured for ValType {
     }
 
     fn write(&self, out: &mut Vec<u8>) -> Result<(), EncFault> {
-        out.push(byte_of(*self))?;
+        out.push(self.byte())?;
         Ok(())
     }
 }

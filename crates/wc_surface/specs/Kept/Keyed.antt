@@ -1,7 +1,9 @@
 -- Function types read back from their keys.
-use Rattle.std.specs.Prelude.{◌≡◌, ℕ, zero, suc, List, [], ◌∷◌, map, if◌then◌else◌, ◌==◌}
+use Rattle.std.specs.Prelude.{◌≡◌, ℕ, zero, suc, List, [], ◌∷◌, map}
+use Rattle.std.specs.Option.{unwrap_or}
 use Rattle.wc_ops.specs.declared.val_type.ValType.{ValType}
-use Rattle.wc_ops.specs.declared.val_type.ValType.TheVariants.{I32, I64}
+use Rattle.wc_ops.specs.declared.val_type.ValType.TheVariants.{I64}
+use Rattle.wc_ops.specs.Standard.ValueTypes.{value_type_of_byte}
 use Rattle.wc_ast.specs.declared.func_type.FuncType.{FuncType}
 use Rattle.wc_surface.specs.declared.signature.KeyBytes.{KeyBytes}
 use Rattle.wc_surface.specs.declared.signature.KeyBytes.TheVariants.{Few, Many}
@@ -12,9 +14,9 @@ abbrev pub key_in : KeyBytes → List ℕ
 key_in (Few bytes) = bytes
 key_in (Many bytes) = bytes.items
 
--- the value type of its byte (Core 1.0, 5.3.1): 0x7F is i32, and any other one stands for i64
+-- the value type of its byte (Core 1.0, 5.3.1); a byte that is no value type's stands for i64
 abbrev pub byte_type : ℕ → ValType
-byte_type b = if b == 0x7F then I32 else I64
+byte_type b = unwrap_or (value_type_of_byte b) I64
 
 -- the parameters: the types before the zero, or all where there is none
 abbrev pub params_in : List ℕ → List ValType

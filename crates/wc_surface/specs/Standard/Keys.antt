@@ -1,21 +1,16 @@
 -- The keys of function types (Core 1.0, 2.3.3): a row of bytes for each.
 use Rattle.std.specs.Prelude.{ℕ, List, [], ◌∷◌, ◌++◌, map}
 use Rattle.wc_ops.specs.declared.val_type.ValType.{ValType}
-use Rattle.wc_ops.specs.declared.val_type.ValType.TheVariants.{I32, I64}
+use Rattle.wc_ops.specs.Standard.ValueTypes.{value_type_byte}
 use Rattle.wc_ast.specs.declared.func_type.FuncType.{FuncType}
 
 -- the function type of these parameters and results
 abbrev pub func_type : List ValType → List ValType → FuncType
 func_type params results = record { params = params; results = results }
 
--- its byte in the binary format (5.3.1)
-abbrev pub type_byte : ValType → ℕ
-type_byte I32 = 0x7F
-type_byte I64 = 0x7E
-
--- the bytes of value types, one for each
+-- the bytes of value types in the binary format (5.3.1), one for each
 abbrev pub type_bytes : List ValType → List ℕ
-type_bytes ts = map type_byte ts
+type_bytes ts = map value_type_byte ts
 
 -- behind a zero; nothing where there is no result
 abbrev pub result_bytes : List ValType → List ℕ

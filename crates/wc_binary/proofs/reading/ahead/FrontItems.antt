@@ -1,13 +1,11 @@
 -- Items that bytes begin with, and that are added at once.
-use Rattle.std.specs.Prelude.{MatchOption, IfSome, ◌↔◌}
+use Rattle.std.specs.Prelude.{IfSome}
 use Rattle.std.specs.Borrow.{Bor}
 use Rattle.std.specs.Str.{IsUtf8}
-use Rattle.std.proofs.Common.{◌≡◌, ℕ, ◌≤◌, ◌<◌, ◌^◌, List, [], ◌∷◌, ◌++◌, length, take, Option, Ok, refl, sym, ap, ◌∙◌}
+use Rattle.std.proofs.Common.{◌≡◌, ℕ, ◌≤◌, ◌<◌, List, [], ◌∷◌, ◌++◌, length, take, Option, Ok, refl, sym, ap, ◌∙◌}
 use Rattle.std.proofs.Common.{append_assoc, drop, inl, subst, Some, None, arith}
 use Rattle.std.proofs.lemmas.List.{length-append, take_at, take-append-drop}
 use Rattle.std.proofs.lemmas.Str.{is_utf8-from_IsUtf8}
-use Rattle.wc_leb128.specs.Standard.Integers.{U, IsAtFront}
-use Rattle.wc_leb128.proofs.Laws.UnsignedLaws.{spelled-below}
 use Rattle.wc_ast.specs.declared.export.ExportKind.{ExportKind}
 use Rattle.wc_ast.specs.declared.export.ExportKind.TheVariants as kinds
 use Rattle.wc_ast.specs.declared.import.Desc.TheVariants as descs
@@ -35,20 +33,6 @@ then-begins p f x y z u v h k = (
 )
 
 -- ---- integers
-
-abbrev Told : List ℕ → Option (ℕ × Bor (List ℕ)) → Type 0
-Told x r = (n : ℕ) (y : List ℕ) → IsAtFront (U 32) x n y ↔ MatchOption r ⊥ (λ f. (f.0 ≡ n) × (f.1.now ≡ y))
-
-module _ (x : List ℕ) (r : Option (ℕ × Bor (List ℕ))) (f : ℕ × Bor (List ℕ)) (h : Told x r) (e : r ≡ Some f) where
-  at_front : IsAtFront (U 32) x f.0 f.1.now
-  at_front = (rw e at h f.0 f.1.now).1 (refl, refl)
-
-  pub long-below : f.0 < 2 ^ 32
-  long-below = spelled-below 32 at_front.0 f.0 at_front.2
-
-  pub long-begins : BeginsWith u32 x f.0 f.1.now
-  unfolding u32
-  long-begins = at_front
 
 pub short-begins : (x rest : List ℕ) (b : ℕ) → x ≡ b ∷ rest → b < 128 → BeginsWith u32 x b rest
 unfolding u32

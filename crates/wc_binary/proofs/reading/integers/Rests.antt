@@ -1,8 +1,8 @@
 -- The other bytes of an integer whose first byte was taken.
 use Rattle.std.specs.Prelude.{IsTrue}
 use Rattle.std.specs.List.{AllByRecursion}
-use Rattle.std.proofs.Common.{◌≡◌, ℕ, ◌+◌, ◌-◌, ◌*◌, ◌^◌, ◌<◌, ◌≤◌, List, [], ◌∷◌, ◌++◌, length, take, drop, Some, Ok}
-use Rattle.std.proofs.Common.{inl, inr, refl, sym, subst, ap, ◌∙◌, arith}
+use Rattle.std.proofs.Common.{◌≡◌, ℕ, ◌+◌, ◌≤◌, List, [], ◌∷◌, ◌++◌, length, take, drop, Some, Ok, sym, subst, ap, ◌∙◌}
+use Rattle.std.proofs.Common.{arith}
 use Rattle.std.proofs.lemmas.List.{length-append, take-take, take-append-drop, take_at}
 use Rattle.wc_leb128.specs.Standard.Integers.{U, IsAtFront}
 use Rattle.wc_binary.specs.Standard.Values.{IsByte}
@@ -68,13 +68,3 @@ rest-gives N start first v old new e (a, s, t) = (
             ∙ unsigned-spelled N start (first ∷ a) new.left v s ∙ ap (λ (q : ℕ). got v q new.left) place,
       ),
 )
-
--- ---- one byte after the other
-
-pub last-behind : (N b : ℕ) (x y : List ℕ) → x ≡ b ∷ y → b < 128 → b < 2 ^ N → IsAtFront (U N) x b y
-last-behind N b x y e lt fits = (b ∷ [], e, inl (omega (arith, lt), fits, refl, refl))
-
-pub next-behind : (N b m v : ℕ) (x r y : List ℕ) → x ≡ b ∷ r → 128 ≤ b → b < 256 → 7 < N → IsAtFront (U (N - 7)) r m y
-    → v ≡ 128 * m + (b - 128) → IsAtFront (U N) x v y
-next-behind N b m v x r y e le lt more (a, f, s) is =
-    (b ∷ a, e ∙ ap (λ (z : List ℕ). b ∷ z) f, inr (omega (arith, le), omega (arith, lt), more, m, s, is))

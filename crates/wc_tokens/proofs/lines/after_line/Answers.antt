@@ -1,6 +1,6 @@
 use Rattle.std.proofs.Common.{arith}
 use Rattle.std.proofs.lemmas.List.{take_rest}
-use Rattle.wc_tokens.proofs.Lexing.LineLaws.{line-to, no-feeds-past}
+use Rattle.wc_tokens.proofs.Lexing.LineLaws.{line-to, no-feed, no-feeds-past}
 use Rattle.wc_tokens.proofs.lines.after_line.Goals as goal
 
 pub returns-then-at-few : goal.returns-then-at-few
@@ -12,9 +12,9 @@ returns-then-at-few c =
 pub count_to-requires-clause-no_feed : goal.count_to-requires-clause-no_feed
 count_to-requires-clause-no_feed c =
     let text = c.args.text.now in
-    no-feeds-past text _ c.min-few.result c.count_in_line.result (take_rest text c.min-few.result)
+    no-feeds-past text _ c.min-few.result c.count_before.result (take_rest text c.min-few.result)
     (λ k less. c.count_to-at.ensures.no_feed k (omega (arith, less, c.if-at-few.false)))
-    c.count_in_line.ensures.no_feed
+    (λ k less. no-feed _ (c.count_before.ensures.none k less))
 
 pub returns : goal.returns
 returns c =

@@ -3,7 +3,7 @@ use Rattle.std.proofs.lemmas.Simd.{length-chunk, chunk-fits, zip2_splat, zip2_sp
 use lib.Lanes.{chunk}
 use Rattle.wc_tokens.specs.Reading.Heads.{is_rare}
 use Rattle.wc_tokens.proofs.Lexing.MaskLaws.{mask-of}
-use Rattle.wc_tokens.proofs.names.rare_in_chunk.Goals as goal
+use Rattle.wc_tokens.proofs.names.RareEnding.in_chunk.Goals as goal
 
 -- the lanes of each comparison, and of those before it
 abbrev below : ℕ → ℕ → ℕ

@@ -3,7 +3,7 @@ use Rattle.std.proofs.lemmas.Simd.{length-chunk, chunk-fits, zip2_splat, zip2_of
 use lib.Lanes.{chunk}
 use Rattle.wc_tokens.specs.Standard.Gaps.{is_blank}
 use Rattle.wc_tokens.proofs.Lexing.MaskLaws.{mask-of}
-use Rattle.wc_tokens.proofs.spaces.others_in_chunk.Goals as goal
+use Rattle.wc_tokens.proofs.spaces.OtherEnding.in_chunk.Goals as goal
 
 -- the lanes of each comparison, and of those before it
 abbrev miss : ℕ → ℕ → ℕ

@@ -1,7 +1,7 @@
 use Rattle.std.proofs.Common.{eqb, arith, w8}
 use lib.Lanes.{chunk}
 use Rattle.std.proofs.lemmas.Simd.{length-chunk, bitmask_splat}
-use Rattle.wc_tokens.proofs.lines.feeds_in_chunk.Goals as goal
+use Rattle.wc_tokens.proofs.lines.LineFeedEnding.in_chunk.Goals as goal
 
 pub returns : goal.returns
 returns c =
