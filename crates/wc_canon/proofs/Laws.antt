@@ -226,7 +226,8 @@ IsUnformed x f =
 
 -- a fault of the module that is denoted: a rule, or its size
 abbrev IsBroken : List ℕ → Refusal → Type 0
-IsBroken x f = (m : Module) × (item : Item) × (why : CheckWhy) × (f ≡ Check item why) × Denotes x m × BreaksFirst m item why
+IsBroken x f = (m : Module) × (item : Item) × (why : CheckWhy) × (f ≡ Check item why) × Denotes x m
+    × BreaksFirst m item why
 
 abbrev IsLarge : List ℕ → Refusal → Type 0
 IsLarge x f = (m : Module) × (f ≡ Oversize) × Denotes x m × KeepsRules m
@@ -291,7 +292,8 @@ one-fault x f g p q = one-kind x f g (kind x f p.1) (kind x g q.1)
 abbrev IsAnswered : List ℕ → Type 0
 IsAnswered x = ((b : List ℕ) × HasAnswer x b) ⊎ ((f : Refusal) × HasFault x f)
 
-sized : (x : List ℕ) (m : Module) → Denotes x m → KeepsRules m → ((b : List ℕ) × Canon b m) ⊎ ((b : List ℕ) → Bin b m → ⊥)
+sized : (x : List ℕ) (m : Module) → Denotes x m → KeepsRules m → ((b : List ℕ) × Canon b m)
+    ⊎ ((b : List ℕ) → Bin b m → ⊥)
     → IsAnswered x
 sized x m p k (inl c) = inl (c.0, has-answer x c.0 m p k c.1)
 sized x m p k (inr none) = inr (Oversize, has-oversize x m p k none)

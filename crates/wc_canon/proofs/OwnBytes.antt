@@ -18,17 +18,20 @@ as-long x b e (inl same) = same
 as-long x b e (inr longer) = absurd (omega arith)
 
 -- the module that the input denotes has so many canonical bytes
-module _ (x : List ℕ) (m : Module) (n : ℕ) (denoted : Denotes x m) (kept : KeepsRules m) (long : HasLength m (Some n)) where
-  others : long.0 ≢ x → IsNotCanonical x
-  others h = (long.0, has-answer x long.0 m denoted kept long.1, h)
+module _ (x : List ℕ) (m : Module) (n : ℕ) (denoted : Denotes x m) (kept : KeepsRules m) (long : HasLength m (Some n))
+  where
+    others : long.0 ≢ x → IsNotCanonical x
+    others h = (long.0, has-answer x long.0 m denoted kept long.1, h)
 
-  pub text-tells : is_binary x ≡ false → TellsCanonical x false
-  text-tells e = others (λ same. both-formats (is_binary x) (subst (λ (y : List ℕ). is_binary y ≡ true) same (canon-is-binary long.0 m long.1)) e)
+    pub text-tells : is_binary x ≡ false → TellsCanonical x false
+    text-tells e = others (λ same. both-formats (is_binary x) (subst (λ (y : List ℕ).
+        is_binary y ≡ true) same (canon-is-binary long.0 m long.1)) e)
 
-  pub binary-tells : is_binary x ≡ true → (r : Bool) → nat_eq (length x) n ≡ r → TellsCanonical x r
-  binary-tells e true same =
-      let longer = shortest-and-only long.0 m long.1 x (denotes-binary x m e denoted) in
-      let is = as-long x long.0 (eqb-true (length x) n same ∙ long.2) longer in
-      has-answer x x m denoted kept (subst (λ (y : List ℕ). Canon y m) (sym is) long.1)
-  binary-tells e false other =
-      others (λ same. both-formats (nat_eq (length x) n) (eq-eqb (length x) n (ap length (sym same) ∙ sym long.2)) other)
+    pub binary-tells : is_binary x ≡ true → (r : Bool) → nat_eq (length x) n ≡ r → TellsCanonical x r
+    binary-tells e true same =
+        let longer = shortest-and-only long.0 m long.1 x (denotes-binary x m e denoted) in
+        let is = as-long x long.0 (eqb-true (length x) n same ∙ long.2) longer in
+        has-answer x x m denoted kept (subst (λ (y : List ℕ). Canon y m) (sym is) long.1)
+    binary-tells e false other =
+        others (λ same. both-formats (nat_eq (length x) n) (eq-eqb (length x) n (ap length (sym same)
+        ∙ sym long.2)) other)

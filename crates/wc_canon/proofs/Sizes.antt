@@ -158,8 +158,10 @@ start (Some index) = both (less _ (2 ^ 32)) (fits index)
 
 held : (k : SectionKind) (v : Held k) → Decided (FitsHeld k v)
 held kinds.Custom v = inl tt
-held kinds.Type v = section_of func_type_bytes FitsFuncType (λ t. both (vector Anything anything t.params) (vector Anything anything t.results)) v
-held kinds.Import v = section_of import_bytes FitsImport (λ i. both (name i.«module») (both (name i.name) (desc i.desc))) v
+held kinds.Type v = section_of func_type_bytes FitsFuncType (λ t.
+    both (vector Anything anything t.params) (vector Anything anything t.results)) v
+held kinds.Import v = section_of import_bytes FitsImport (λ i.
+    both (name i.«module») (both (name i.name) (desc i.desc))) v
 held kinds.Function v = section_of unsigned_bytes Fits32 fits v
 held kinds.Table v = section_of table_type_bytes FitsLimits limits v
 held kinds.Memory v = section_of limits_bytes FitsLimits limits v
@@ -168,9 +170,11 @@ held kinds.Export v = section_of export_bytes FitsExport (λ e. both (name e.nam
 held kinds.Start v = start v
 held kinds.Element v =
     section_of elem_bytes FitsElem (λ e. both (fits e.table) (both (expr e.offset) (vector Fits32 fits e.funcs))) v
-held kinds.Code v = section_of code_bytes FitsCode (λ f. both (less (length (func_bytes f)) (2 ^ 32)) (both (at-most (length f.locals) locals_limit) (expr f.body))) v
+held kinds.Code v = section_of code_bytes FitsCode (λ f.
+    both (less (length (func_bytes f)) (2 ^ 32)) (both (at-most (length f.locals) locals_limit) (expr f.body))) v
 held kinds.Data v =
-    section_of data_bytes FitsData (λ d. both (fits d.memory) (both (expr d.offset) (both (fits (length d.bytes)) (each IsByte (λ b. less b 256) d.bytes)))) v
+    section_of data_bytes FitsData (λ d. both (fits d.memory)
+    (both (expr d.offset) (both (fits (length d.bytes)) (each IsByte (λ b. less b 256) d.bytes)))) v
 
 all-held : (p : Parts) (ks : List SectionKind) → Decided (FitsFrom p ks)
 all-held p [] = inl tt

@@ -148,8 +148,8 @@ fn read_nothing(alloc: Global) -> Result<Found, RunFault>
     })
 }
 
-/// The module that the reader's bytes denote, to the reader's end, or else their first fault. One piece is read, and its
-/// first byte tells a binary, which is read no further than its fault shows; a text is read to its end.
+/// The module that the reader's bytes denote, to the reader's end, or else their first fault. One piece is read, and
+/// its first byte tells a binary, which is read no further than its fault shows; a text is read to its end.
 pub(crate) fn read_module<R: Read>(alloc: Global, r: &mut Device<R>) -> Result<Found, RunFault>
     requires well { has_failed r.old ≡ false }
     requires unread { read_count r.old ≡ 0 }

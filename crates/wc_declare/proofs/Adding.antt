@@ -29,11 +29,13 @@ pub repeated-append : (before : List (Option (List ℕ))) (ds es : List (Option 
 repeated-append before ds es =
     ap (λ (x : List (Option (ℕ × List ℕ))). duplicates_after DuplicateId before x) (map-append told_in ds es)
     ∙ duplicates_after-append DuplicateId before (map told_in ds) (map told_in es)
-    ∙ ap (λ (x : List (Option (List ℕ))). repeated_after before ds ++ duplicates_after DuplicateId (before ++ x) (map told_in es))
+    ∙ ap (λ (x : List (Option (List ℕ))). repeated_after before ds ++ duplicates_after DuplicateId (before ++ x)
+    (map told_in es))
     (same-texts ds)
 
 -- of the declarations `all` behind `start`, the `rest` is still to come; what is kept speaks of those before
-pub record Adding (Keeps : List (Option (List ℕ)) → Type 0) (start : List (Option (List ℕ))) (total noted : Option (Fault NameWhy))
+pub record Adding (Keeps : List (Option (List ℕ))
+    → Type 0) (start : List (Option (List ℕ))) (total noted : Option (Fault NameWhy))
     (all rest : List (Option Identifier)) : Type 0 where
   pub so_far : List (Option (List ℕ))
   pub kept : Keeps so_far
@@ -41,11 +43,13 @@ pub record Adding (Keeps : List (Option (List ℕ)) → Type 0) (start : List (O
   pub faults : least_from noted (repeated_after so_far rest) ≡ total
 
 pub begun : (Keeps : List (Option (List ℕ)) → Type 0) (start : List (Option (List ℕ))) (noted : Option (Fault NameWhy))
-    (all : List (Option Identifier)) → Keeps start → Adding Keeps start (least_from noted (repeated_after start all)) noted all all
+    (all : List (Option Identifier)) → Keeps start
+    → Adding Keeps start (least_from noted (repeated_after start all)) noted all all
 begun Keeps start noted all k = record { so_far = start; kept = k; whole = refl; faults = refl }
 
 -- one more step
-pub added : (Keeps After : List (Option (List ℕ)) → Type 0) (start : List (Option (List ℕ))) (total noted now : Option (Fault NameWhy))
+pub added : (Keeps After : List (Option (List ℕ))
+    → Type 0) (start : List (Option (List ℕ))) (total noted now : Option (Fault NameWhy))
     (all from ds rest : List (Option Identifier)) → from ≡ ds ++ rest → Adding Keeps start total noted all from
     → ((x : List (Option (List ℕ))) → Keeps x → After (x ++ texts ds))
     → ((x : List (Option (List ℕ))) → Keeps x → now ≡ least_from noted (repeated_after x ds))
@@ -66,4 +70,5 @@ pub space-next : (k : SpaceKind) (fs : List Field) (i : ℕ) (f : Field) (ds : L
     → f ≡ get_or fs i f → ds ≡ declares k f → space k (drop i fs) ≡ ds ++ space k (drop (i + 1) fs)
 space-next k fs i f ds lt e g =
     ap (λ (x : List Field). space k x) (next fs i f lt)
-    ∙ ap (λ (x : List (Option Identifier)). x ++ space k (drop (i + 1) fs)) (ap (λ (x : Field). declares k x) (sym e) ∙ sym g)
+    ∙ ap (λ (x : List (Option Identifier)). x ++ space k (drop (i + 1) fs)) (ap (λ (x : Field). declares k x) (sym e)
+    ∙ sym g)

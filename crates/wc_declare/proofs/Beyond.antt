@@ -13,11 +13,13 @@ use Rattle.wc_declare.proofs.Faults.{next}
 abbrev pub token_at : List Local → ℕ → Option ℕ
 token_at ls k = option_map (λ l. l.token) (slice_get ls k)
 
-in-group : (id : Option Identifier) (ty : ValType) (token count k sum : ℕ) (ls : List Local) → k < count → sum ≡ token + k
+in-group : (id : Option Identifier) (ty : ValType) (token count k sum : ℕ) (ls : List Local) → k < count
+    → sum ≡ token + k
     → token_at (locals_from id ty token count ++ ls) k ≡ Some sum
 in-group id ty token zero k sum ls lt e = absurd (omega (arith, lt))
 in-group id ty token (suc count) zero sum ls lt e = ap (λ (n : ℕ). Some n) (omega (arith, e))
-in-group id ty token (suc count) (suc k) sum ls lt e = in-group id ty (suc token) count k sum ls (omega (arith, lt)) (omega (arith, e))
+in-group id ty token (suc count) (suc k) sum ls lt e =
+    in-group id ty (suc token) count k sum ls (omega (arith, lt)) (omega (arith, e))
 
 past-group : (id : Option Identifier) (ty : ValType) (token count k : ℕ) (ls : List Local) → count ≤ k
     → token_at (locals_from id ty token count ++ ls) k ≡ token_at ls (k - count)

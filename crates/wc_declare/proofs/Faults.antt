@@ -14,13 +14,15 @@ pub next : {X : Type 0} (xs : List X) (i : ℕ) (d : X) → i < length xs → dr
 next xs i d h = rw add-one (drop-cons xs i d h)
 
 -- faults that were told come first
-pub told : (o p all : Option (Fault NameWhy)) (fs gs : List (Fault NameWhy)) → p ≡ least_from o fs → least_from o (fs ++ gs) ≡ all
+pub told : (o p all : Option (Fault NameWhy)) (fs gs : List (Fault NameWhy)) → p ≡ least_from o fs
+    → least_from o (fs ++ gs) ≡ all
     → least_from p gs ≡ all
 told o p all fs gs e h = rw e (sym (least-append o fs gs) ∙ h)
 
 module _ {X : Type 0} (f : X → List (Fault NameWhy)) where
   -- the faults of a part of what is still to come
-  pub faults-on : (o p all : Option (Fault NameWhy)) (from xs rest : List X) → from ≡ xs ++ rest → p ≡ least_from o (flat_map f xs)
+  pub faults-on : (o p all : Option (Fault NameWhy)) (from xs rest : List X) → from ≡ xs ++ rest
+      → p ≡ least_from o (flat_map f xs)
       → least_from o (flat_map f from) ≡ all → least_from p (flat_map f rest) ≡ all
   faults-on o p all from xs rest e g h =
       told o p all (flat_map f xs) (flat_map f rest) g

@@ -33,7 +33,8 @@ pub record Listing (total : List FuncType) (types : Types) (rest : List TypeUse)
   pub whole : with_uses so_far rest ≡ total
 
 -- one more step
-pub listed-more : (total : List FuncType) (old new : Types) (from us rest : List TypeUse) → from ≡ us ++ rest → Listing total old from
+pub listed-more : (total : List FuncType) (old new : Types) (from us rest : List TypeUse) → from ≡ us ++ rest
+    → Listing total old from
     → ((ts : List FuncType) → AreTypes (map key_of ts) old → AreTypes (map key_of (with_uses ts us)) new)
     → Listing total new rest
 listed-more total old new from us rest e w h = record {

@@ -140,11 +140,15 @@ silent kind.Global (field.Start f) e = refl
 silent kind.Global (field.Elem f) e = refl
 silent kind.Global (field.Data f) e = refl
 
-module _ (k : SpaceKind) (fs : List Field) (ih : late_after false fs ≡ [] → imported k fs ++ defined k fs ≡ space k fs) where
-  from-import : (ds : List (Option Identifier)) → late_after false fs ≡ [] → (ds ++ imported k fs) ++ defined k fs ≡ ds ++ space k fs
-  from-import ds e = append_assoc ds (imported k fs) (defined k fs) ∙ ap (λ (x : List (Option Identifier)). ds ++ x) (ih e)
+module _ (k : SpaceKind) (fs : List Field) (ih : late_after false fs ≡ []
+    → imported k fs ++ defined k fs ≡ space k fs) where
+  from-import : (ds : List (Option Identifier)) → late_after false fs ≡ []
+      → (ds ++ imported k fs) ++ defined k fs ≡ ds ++ space k fs
+  from-import ds e = append_assoc ds (imported k fs) (defined k fs)
+      ∙ ap (λ (x : List (Option Identifier)). ds ++ x) (ih e)
 
-  from-definition : (ds : List (Option Identifier)) → late_after true fs ≡ [] → imported k fs ++ (ds ++ defined k fs) ≡ ds ++ space k fs
+  from-definition : (ds : List (Option Identifier)) → late_after true fs ≡ []
+      → imported k fs ++ (ds ++ defined k fs) ≡ ds ++ space k fs
   from-definition ds e = rw (none-imported k fs e, rest-defined k fs e) refl
 
   from-silence : (ds : List (Option Identifier)) → ds ≡ [] → late_after false fs ≡ []
@@ -152,29 +156,34 @@ module _ (k : SpaceKind) (fs : List Field) (ih : late_after false fs ≡ [] → 
   from-silence ds none e = rw none (ih e)
 
   from-func : (d : FuncDesc) (ds : List (Option Identifier)) → late_after (defines (func_sort d)) fs ≡ []
-      → (if_import (func_sort d) ds ++ imported k fs) ++ (unless_import (func_sort d) ds ++ defined k fs) ≡ ds ++ space k fs
+      → (if_import (func_sort d) ds ++ imported k fs) ++ (unless_import (func_sort d) ds ++ defined k fs) ≡ ds ++ space
+      k fs
   from-func (func.Import names) ds e = from-import ds e
   from-func (func.Code locals body) ds e = from-definition ds e
 
   from-table : (d : TableDesc) (ds : List (Option Identifier)) → late_after (defines (table_sort d)) fs ≡ []
-      → (if_import (table_sort d) ds ++ imported k fs) ++ (unless_import (table_sort d) ds ++ defined k fs) ≡ ds ++ space k fs
+      → (if_import (table_sort d) ds ++ imported k fs) ++ (unless_import (table_sort d) ds ++ defined k fs) ≡ ds ++
+      space k fs
   from-table (table.Import names limits) ds e = from-import ds e
   from-table (table.Limits limits) ds e = from-definition ds e
   from-table (table.Elems funcs) ds e = from-definition ds e
 
   from-memory : (d : MemoryDesc) (ds : List (Option Identifier)) → late_after (defines (memory_sort d)) fs ≡ []
-      → (if_import (memory_sort d) ds ++ imported k fs) ++ (unless_import (memory_sort d) ds ++ defined k fs) ≡ ds ++ space k fs
+      → (if_import (memory_sort d) ds ++ imported k fs) ++ (unless_import (memory_sort d) ds ++ defined k fs) ≡ ds ++
+      space k fs
   from-memory (memory.Import names limits) ds e = from-import ds e
   from-memory (memory.Limits limits) ds e = from-definition ds e
   from-memory (memory.Bytes bytes) ds e = from-definition ds e
 
   from-global : (d : GlobalDesc) (ds : List (Option Identifier)) → late_after (defines (global_sort d)) fs ≡ []
-      → (if_import (global_sort d) ds ++ imported k fs) ++ (unless_import (global_sort d) ds ++ defined k fs) ≡ ds ++ space k fs
+      → (if_import (global_sort d) ds ++ imported k fs) ++ (unless_import (global_sort d) ds ++ defined k fs) ≡ ds ++
+      space k fs
   from-global (global.Import names) ds e = from-import ds e
   from-global (global.Init body) ds e = from-definition ds e
 
 -- a type field: types are not imported, and no other space has it
-from-type : (k : SpaceKind) (fs : List Field) (f : TypeField) → (late_after false fs ≡ [] → imported k fs ++ defined k fs ≡ space k fs)
+from-type : (k : SpaceKind) (fs : List Field) (f : TypeField)
+    → (late_after false fs ≡ [] → imported k fs ++ defined k fs ≡ space k fs)
     → late_after false fs ≡ []
     → imported k fs ++ (declares k (field.FuncType f) ++ defined k fs) ≡ declares k (field.FuncType f) ++ space k fs
 from-type kind.Type fs f ih e =
@@ -186,7 +195,8 @@ from-type kind.Table fs f ih e = ih e
 from-type kind.Memory fs f ih e = ih e
 from-type kind.Global fs f ih e = ih e
 
-pub imports-first : (k : SpaceKind) (fs : List Field) → late_after false fs ≡ [] → imported k fs ++ defined k fs ≡ space k fs
+pub imports-first : (k : SpaceKind) (fs : List Field) → late_after false fs ≡ []
+    → imported k fs ++ defined k fs ≡ space k fs
 imports-first k [] e = refl
 imports-first k (field.FuncType f ∷ fs) e = from-type k fs f (imports-first k fs) e
 imports-first k (field.Import f ∷ fs) e = from-import k fs (imports-first k fs) (declares k (field.Import f)) e

@@ -44,13 +44,15 @@ copies-next n k id lt =
     let e : n - k ≡ suc (n - (k + 1)) = omega (arith, lt) in
     ap (λ (m : ℕ). copies m id) e
 
-pub same-copies : (id : Identifier) (ty : ValType) (token n : ℕ) → local_ids (locals_from (Some id) ty token n) ≡ copies n id
+pub same-copies : (id : Identifier) (ty : ValType) (token n : ℕ)
+    → local_ids (locals_from (Some id) ty token n) ≡ copies n id
 same-copies id ty token zero = refl
 same-copies id ty token (suc n) = ap (λ (x : List (Option Identifier)). Some id ∷ x) (same-copies id ty (suc token) n)
 
 -- ---- locals without identifiers
 
-no-name : (q : List ℕ) (ty : ValType) (token n : ℕ) → list_any (is_named q) (texts (local_ids (locals_from None ty token n))) ≡ false
+no-name : (q : List ℕ) (ty : ValType) (token n : ℕ)
+    → list_any (is_named q) (texts (local_ids (locals_from None ty token n))) ≡ false
 no-name q ty token zero = refl
 no-name q ty token (suc n) = no-name q ty (suc token) n
 
@@ -84,7 +86,8 @@ groups-next gs i g lt e = ap (λ (x : List LocalGroup). local_ids (written_out x
 
 -- ---- a field
 
-pub field-faults : (o p q r : Option (Fault NameWhy)) (xs ys front back : List (Option Identifier)) (fs gs : List (Fault NameWhy))
+pub field-faults : (o p q r : Option (Fault NameWhy)) (xs ys front back : List (Option Identifier))
+    (fs gs : List (Fault NameWhy))
     → xs ≡ front → ys ≡ back → fs ≡ gs
     → p ≡ least_from o (repeated_after [] xs) → q ≡ least_from p (repeated_after (texts xs) ys) → r ≡ least_from q fs
     → r ≡ least_from o (repeated_after [] (front ++ back) ++ gs)

@@ -24,4 +24,5 @@ pub all-back : (ks : List (Bor (List ℕ))) (ts : List FuncType) (n : ℕ) (out 
     → out ≡ map (λ (k : Bor (List ℕ)). keyed k.now) (take n ks)
     → map (λ (k : Bor (List ℕ)). k.now) ks ≡ map key_of ts → out ≡ ts
 all-back ks ts n out le e h =
-    e ∙ ap (λ (x : List (Bor (List ℕ))). map (λ (k : Bor (List ℕ)). keyed k.now) x) (take_all n ks le) ∙ types-back ks ts h
+    e ∙ ap (λ (x : List (Bor (List ℕ))). map (λ (k : Bor (List ℕ)). keyed k.now) x) (take_all n ks le)
+    ∙ types-back ks ts h

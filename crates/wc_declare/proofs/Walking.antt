@@ -33,7 +33,8 @@ use Rattle.wc_declare.proofs.Ordering.{late-next, second-next}
 -- ---- how many there are
 
 -- one field adds one at most to each index space
-pub few-more : (most : ℕ) (f : Field) (old new : Spaces) (told now : Repeats) → AtMost most old → Declares f old new told now
+pub few-more : (most : ℕ) (f : Field) (old new : Spaces) (told now : Repeats) → AtMost most old
+    → Declares f old new told now
     → AtMost (most + 1) new
 few-more most f old new told now a d = record {
   types = omega (arith, a.types, d.types.size);
@@ -55,7 +56,8 @@ few-enough i n s lt few a = record {
 -- ---- what is declared
 
 -- what was found of a field is what it declares
-pub adds-found : (k : SpaceKind) (f : Field) (ds : List (Option Identifier)) (old new : Space) (o p : Option (Fault NameWhy))
+pub adds-found : (k : SpaceKind) (f : Field) (ds : List (Option Identifier)) (old new : Space)
+    (o p : Option (Fault NameWhy))
     → ds ≡ declares k f → size_of new ≤ size_of old + 1
     → ((x : List (Option (List ℕ))) → IsSpace x old → IsSpace (x ++ texts ds) new)
     → ((x : List (Option (List ℕ))) → IsSpace x old → p ≡ least_from o (repeated_after x ds))
@@ -65,7 +67,8 @@ adds-found k f ds old new o p e n w g =
 
 -- of all that is declared in an index space, what the rest of the fields declare is still to come
 abbrev pub Placing : SpaceKind → List Field → List Field → Space → Option (Fault NameWhy) → Type 0
-Placing k all rest s noted = Adding (λ (ds : List (Option (List ℕ))). IsSpace ds s) [] (least (repeated (space k all))) noted
+Placing k all rest s noted = Adding (λ (ds : List (Option (List ℕ))).
+    IsSpace ds s) [] (least (repeated (space k all))) noted
     (space k all) (space k rest)
 
 -- of all types that fields define, those of the rest of the fields are still to come
@@ -129,7 +132,8 @@ module _ (fs : List Field) (i : ℕ) (f : Field) (lt : i < length fs) (e : f ≡
         ∙ ap (λ (x : List FuncType). w.so_far ++ x) (sym types-next) ∙ w.whole;
   }
 
-  pub walking-more : (old new : Gathered) (told now : Notes) → Grows f old new told now → Walking fs (drop i fs) old told
+  pub walking-more : (old new : Gathered) (told now : Notes) → Grows f old new told now
+      → Walking fs (drop i fs) old told
       → Walking fs (drop (i + 1) fs) new now
   walking-more old new told now g w = record {
     types = placed-more kind.Type old.spaces.types new.spaces.types _ _ g.spaces.types w.types;
@@ -138,7 +142,8 @@ module _ (fs : List Field) (i : ℕ) (f : Field) (lt : i < length fs) (e : f ≡
     memories = placed-more kind.Memory old.spaces.memories new.spaces.memories _ _ g.spaces.memories w.memories;
     globals = placed-more kind.Global old.spaces.globals new.spaces.globals _ _ g.spaces.globals w.globals;
     defining = defined-more old.types new.types g.types w.defining;
-    late = late-next fs i f (sort_of f) told.order.defined now.order.defined told.order.late.first now.order.late.first _
+    late = late-next fs i f (sort_of f) told.order.defined now.order.defined told.order.late.first now.order.late.first
+        _
         lt e refl g.order.defined g.order.late w.late;
     second = second-next fs i f (sort_of f) told.order.started now.order.started told.order.second.first
         now.order.second.first _ lt e refl g.order.started g.order.second w.second;
@@ -164,7 +169,8 @@ spaces-end fs g n w = record {
 pub types-end : (fs : List Field) (g : Gathered) (n : Notes) → Walking fs [] g n
     → AreTypes (map key_of (written_types fs)) g.types
 types-end fs g n w =
-    subst (λ (x : List FuncType). AreTypes (map key_of x) g.types) (sym (append-nil w.defining.so_far) ∙ w.defining.whole)
+    subst (λ (x : List FuncType). AreTypes (map key_of x) g.types) (sym (append-nil w.defining.so_far)
+    ∙ w.defining.whole)
     w.defining.listed
 
 pub notes-end : (fs : List Field) (g : Gathered) (n : Notes) → Walking fs [] g n → AreTold fs n

@@ -71,7 +71,8 @@ with_use-grows d = record { heads = same refl; uses = behind d.uses _; ids = sam
 one-head : (heads : List Head) (h : Head) → Continues (map begun_head heads) (map begun_head (heads ++ h ∷ []))
 one-head heads h = record { more = begun_head h ∷ []; is = map-append begun_head heads (h ∷ []) }
 
-head-grows : (short : Option (Option ValueType)) (label : Option Identifier) (d : BodyDraft) → Grown d (head_by short label d)
+head-grows : (short : Option (Option ValueType)) (label : Option Identifier) (d : BodyDraft)
+    → Grown d (head_by short label d)
 head-grows (Some t) label d =
     record { heads = one-head d.heads _; uses = same refl; ids = same refl; labels = same refl }
 head-grows None label d =
@@ -163,7 +164,8 @@ ids-grow : (n : Option ℕ) (w : Word) (ids : List Identifier) → Continues ids
 ids-grow (Some n) w ids = same refl
 ids-grow None w ids = behind ids _
 
-index-said : (b : Bool) (w : Word) (d : BodyDraft) (i : TextInstr) → Grown d (say_by b (record d { ids = ids_with w d.ids }) i)
+index-said : (b : Bool) (w : Word) (d : BodyDraft) (i : TextInstr)
+    → Grown d (say_by b (record d { ids = ids_with w d.ids }) i)
 index-said true w d i = record {
   heads = same refl;
   uses = same refl;

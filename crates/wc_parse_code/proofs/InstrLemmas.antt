@@ -95,7 +95,13 @@ record Tables (b : Bool) (d t : BodyDraft) : Type 0 where
 says-table : (b : Bool) (d t : BodyDraft) → Tables b d t → Says b d t
 says-table b d t a = subst (λ (x : BodyDraft). Says b d x) (sym a.is) (at b)
   where
-    at : (b : Bool) → Says b d (record d { waits = b; awaiting = awaiting.Labels a.first; ids = a.ids; labels = a.labels })
+    at : (b : Bool) → Says b d (record d {
+      waits = b;
+      awaiting = awaiting.Labels a.first;
+      ids = a.ids;
+      labels =
+          a.labels;
+    })
     at true = record { instr = table_of a.first (length a.labels); around = refl; held = refl; blocks = refl }
     at false = record { instr = table_of a.first (length a.labels); around = refl; held = refl; blocks = refl }
 
@@ -144,9 +150,21 @@ says-indexed b o d m t e (inr k) =
 
 table-more : (b : Bool) (d m t : BodyDraft) → Does (index role.Index) m t → Tables b d m → Tables b d t
 table-more b d m t (inl k) a =
-    record { first = a.first; ids = _; labels = _; is = k.taken ∙ ap (λ (x : BodyDraft). take x role.Index k.word) a.is }
+    record {
+      first = a.first;
+      ids = _;
+      labels = _;
+      is = k.taken
+          ∙ ap (λ (x : BodyDraft). take x role.Index k.word) a.is;
+    }
 table-more b d m t (inr k) a =
-    record { first = a.first; ids = _; labels = _; is = k.taken ∙ ap (λ (x : BodyDraft). take x role.Index k.word) a.is }
+    record {
+      first = a.first;
+      ids = _;
+      labels = _;
+      is = k.taken
+          ∙ ap (λ (x : BodyDraft). take x role.Index k.word) a.is;
+    }
 
 -- a load or a store, with what of its immediates was said
 record Accesses (b : Bool) (d t : BodyDraft) : Type 0 where
@@ -294,7 +312,11 @@ instr-balances (suc depth) s t (inr (inl d)) a hs bs room l = d a hs bs room l
 instr-balances (suc depth) s t (inr (inr (inl (m, k, (x, d, (y, inside, (z, e, id))))))) a hs bs room l =
     idle-leaves t a hs bs (end_id-idle z t a hs bs id (ends depth token.EndWord x z a hs bs room
     (heads m x a hs bs d (region-opened s m a hs bs (omega arith) l k)) (y, inside, e)))
-instr-balances (suc depth) s t (inr (inr (inr (inl (m, k, (x, d, (y, inside, (z, more, (u, e, id))))))))) a hs bs room l =
+instr-balances (suc depth) s t (inr (inr (inr (inl (
+  m,
+  k,
+  (x, d, (y, inside, (z, more, (u, e, id)))),
+))))) a hs bs room l =
     let opened = heads m x a hs bs d (if-opened s m a hs bs (omega arith) l k) in
     idle-leaves t a hs bs (end_id-idle u t a hs bs id (parts opened more))
   where

@@ -59,7 +59,8 @@ record Kept (d e : BodyDraft) : Type 0 where
 same : (d : BodyDraft) → Kept d d
 same d = record { around = refl; held = refl; blocks = refl }
 
-head-kept : (short : Option (Option ValueType)) (label : Option Identifier) (d : BodyDraft) → Kept d (head_by short label d)
+head-kept : (short : Option (Option ValueType)) (label : Option Identifier) (d : BodyDraft)
+    → Kept d (head_by short label d)
 head-kept (Some t) label d = record { around = refl; held = refl; blocks = refl }
 head-kept None label d = record { around = refl; held = refl; blocks = refl }
 
@@ -77,12 +78,14 @@ idle-leaves d a hs bs i =
 
 -- ---- heads, and identifiers behind `else` and `end`
 
-writes-idle : (s t : BodyDraft) (a : Frames) (hs : List Held) (bs : List ℕ) → Writes s t → Idle s a hs bs → Idle t a hs bs
+writes-idle : (s t : BodyDraft) (a : Frames) (hs : List Held) (bs : List ℕ) → Writes s t → Idle s a hs bs
+    → Idle t a hs bs
 writes-idle s t a hs bs (u, e) i =
     subst (λ (x : BodyDraft). Idle x a hs bs) (sym e)
     (record { idle = i.idle; around = i.around; held = i.held; blocks = i.blocks })
 
-label-idle : (x : Awaiting) (id : Identifier) (s : BodyDraft) (a : Frames) (hs : List Held) (bs : List ℕ) → Idle s a hs bs
+label-idle : (x : Awaiting) (id : Identifier) (s : BodyDraft) (a : Frames) (hs : List Held) (bs : List ℕ)
+    → Idle s a hs bs
     → Idle (label_by x id s) a hs bs
 label-idle (awaiting.Head l) id s a hs bs i =
     record { idle = refl; around = i.around; held = i.held; blocks = i.blocks }
@@ -106,7 +109,8 @@ pub end_id-idle : (s t : BodyDraft) (a : Frames) (hs : List Held) (bs : List ℕ
     → Idle t a hs bs
 end_id-idle s t a hs bs (inl e) i = subst (λ (x : BodyDraft). Idle x a hs bs) (sym e) i
 end_id-idle s t a hs bs (inr k) i =
-    subst (λ (x : BodyDraft). Idle x a hs bs) (sym k.taken) (end_label-idle s.awaiting (identifier_of k.word) s a hs bs i)
+    subst (λ (x : BodyDraft). Idle x a hs bs) (sym k.taken) (end_label-idle s.awaiting (identifier_of k.word) s a hs bs
+    i)
 
 -- ---- where a block begins, turns and ends
 
@@ -145,7 +149,8 @@ begin-opened k token h d a hs bs less ea eh eb =
 
 pub region-opened : (s t : BodyDraft) (a : Frames) (hs : List Held) (bs : List ℕ) → length a < nesting_limit
     → Leaves s a hs bs → Takes role.Begin token.Region s t → Opened t a hs bs
-region-opened s t a hs bs less l k = subst (λ (x : BodyDraft). Opened x a hs bs) (sym k.taken) (by k.word.symbol.value k.value)
+region-opened s t a hs bs less l k = subst (λ (x : BodyDraft).
+    Opened x a hs bs) (sym k.taken) (by k.word.symbol.value k.value)
   where
     by : (v : Value) → (v ≡ Instruction op.Block) ⊎ (v ≡ Instruction op.Loop)
         → Opened (begin_by v k.word.token (settled s)) a hs bs
@@ -154,7 +159,8 @@ region-opened s t a hs bs less l k = subst (λ (x : BodyDraft). Opened x a hs bs
 
 pub if-opened : (s t : BodyDraft) (a : Frames) (hs : List Held) (bs : List ℕ) → length a < nesting_limit
     → Leaves s a hs bs → Takes role.Begin token.If s t → Opened t a hs bs
-if-opened s t a hs bs less l k = subst (λ (x : BodyDraft). Opened x a hs bs) (sym k.taken) (by k.word.symbol.value k.value)
+if-opened s t a hs bs less l k = subst (λ (x : BodyDraft).
+    Opened x a hs bs) (sym k.taken) (by k.word.symbol.value k.value)
   where
     by : (v : Value) → v ≡ Instruction op.If → Opened (begin_by v k.word.token (settled s)) a hs bs
     by v e = rw e (begin-opened kind.If k.word.token _ (settled s) a hs bs less l.around l.held l.blocks)
@@ -226,7 +232,8 @@ else-turned s t f a hs h bs l k =
         let turn = turned-around (settled s).code.around (settled s).code.last f a l.around in
         rw e (turn.0, h, record { idle = refl; around = turn.1; held = l.held; blocks = l.blocks })
 
-pub ended-idle : (c : TokenKind) (s t : BodyDraft) (f : Frame TextInstr ℕ) (a : Frames) (hs : List Held) (h : ℕ) (bs : List ℕ)
+pub ended-idle : (c : TokenKind) (s t : BodyDraft) (f : Frame TextInstr ℕ) (a : Frames) (hs : List Held) (h : ℕ)
+    (bs : List ℕ)
     → Leaves s (f ∷ a) hs (h ∷ bs) → Takes role.End c s t → Idle t a hs bs
 ended-idle c s t f a hs h bs l k =
     subst (λ (x : BodyDraft). Idle x a hs bs) (sym k.taken) (by (settled s).blocks l.blocks)

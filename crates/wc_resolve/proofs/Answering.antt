@@ -59,7 +59,8 @@ pub only-fault : (all : List Field) (r : Result Module NameFault) → IfOk r (Na
     → (t : ℕ) (why : NameWhy) → FirstFault all t why → IsErrAnd r (λ f. (f ≡ Bad t why) ⊎ (f ≡ Memory))
 only-fault all (Ok v) h g t why w = absurd (not-both all v t why h w)
 only-fault all (Err (Bad s other)) h g t why w =
-    inl (same-bad s t why other (one-token (first_fault all) s t other why g w) (one-reason (first_fault all) s t other why g w))
+    inl (same-bad s t why other (one-token (first_fault all) s t other why g w)
+    (one-reason (first_fault all) s t other why g w))
 only-fault all (Err Memory) h g t why w = inr refl
 
 -- what the third stage tells is told of all, where the first two find no fault

@@ -28,7 +28,8 @@ pub import-count : (k : SpaceKind) (x : Field) (f : ImportField) (n : ℕ) → x
 import-count k x f n e h = brought-count k f n h ∙ ap (λ (y : Field). length (declares k y)) (sym e)
 
 module _ {X : Type 0} (g : Counts → Field → List X) where
-  pub along-more : (c d : Counts) (fs : List Field) (i : ℕ) (f : Field) (out new all : List X) → i < length fs → f ≡ get_or fs i f
+  pub along-more : (c d : Counts) (fs : List Field) (i : ℕ) (f : Field) (out new all : List X) → i < length fs
+      → f ≡ get_or fs i f
       → d ≡ counts_after c f → new ≡ out ++ g c f
       → out ++ along g c (drop i fs) ≡ all → new ++ along g d (drop (i + 1) fs) ≡ all
   along-more c d fs i f out new all lt e k h w =

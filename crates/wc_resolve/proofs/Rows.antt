@@ -17,12 +17,14 @@ module _ {X Y : Type 0} (f : X → List Y) where
   flat-next xs i x lt e = ap (λ (ys : List X). flat_map f ys) (next xs i x lt)
       ∙ ap (λ (y : X). f y ++ flat_map f (drop (i + 1) xs)) (sym e)
 
-  pub flat-more : (xs : List X) (i : ℕ) (x : X) (out new all : List Y) → i < length xs → x ≡ get_or xs i x → new ≡ out ++ f x
+  pub flat-more : (xs : List X) (i : ℕ) (x : X) (out new all : List Y) → i < length xs → x ≡ get_or xs i x
+      → new ≡ out ++ f x
       → out ++ flat_map f (drop i xs) ≡ all → new ++ flat_map f (drop (i + 1) xs) ≡ all
   flat-more xs i x out new all lt e g h = part out new all (f x) _ _ (flat-next xs i x lt e) g h
 
 module _ {X Y : Type 0} (f : X → Y) where
-  pub map-more : (xs : List X) (i : ℕ) (x : X) (out new all : List Y) → i < length xs → x ≡ get_or xs i x → new ≡ out ++ f x ∷ []
+  pub map-more : (xs : List X) (i : ℕ) (x : X) (out new all : List Y) → i < length xs → x ≡ get_or xs i x
+      → new ≡ out ++ f x ∷ []
       → out ++ map f (drop i xs) ≡ all → new ++ map f (drop (i + 1) xs) ≡ all
   map-more xs i x out new all lt e g h =
       part out new all (f x ∷ []) (map f (drop (i + 1) xs)) (map f (drop i xs))

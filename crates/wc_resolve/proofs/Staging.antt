@@ -12,9 +12,12 @@ use Rattle.wc_resolve.specs.Standard.Segments.{all_elem_faults, all_data_faults}
 use Rattle.wc_resolve.specs.Standard.Funcs.{all_func_faults}
 use Rattle.wc_resolve.specs.Standard.Denoted.{reference_faults}
 
-pub references-told : (fs : List Field) (o a b c d e f : Option (Fault NameWhy)) → a ≡ least_from o (all_global_faults fs)
-    → b ≡ least_from a (all_export_faults fs) → c ≡ least_from b (all_start_faults fs) → d ≡ least_from c (all_elem_faults fs)
-    → e ≡ least_from d (all_data_faults fs) → f ≡ least_from e (all_func_faults fs) → f ≡ least_from o (reference_faults fs)
+pub references-told : (fs : List Field) (o a b c d e f : Option (Fault NameWhy))
+    → a ≡ least_from o (all_global_faults fs)
+    → b ≡ least_from a (all_export_faults fs) → c ≡ least_from b (all_start_faults fs)
+    → d ≡ least_from c (all_elem_faults fs)
+    → e ≡ least_from d (all_data_faults fs) → f ≡ least_from e (all_func_faults fs)
+    → f ≡ least_from o (reference_faults fs)
 references-told fs o a b c d e f ha hb hc hd he hf =
     let exports = all_export_faults fs in
     let starts = all_start_faults fs in

@@ -39,7 +39,8 @@ pub record Telling (all rest : List Field) (n : Notes) : Type 0 where
   pub datas : least_from n.datas.first (flat_map (data_faults all) rest) ≡ least (all_data_faults all)
 
 start-more : (all fs : List Field) (i : ℕ) (f : Field) (known new whole : Option ℕ) → i < length fs → f ≡ get_or fs i f
-    → new ≡ start_after all known f → start_from all known (drop i fs) ≡ whole → start_from all new (drop (i + 1) fs) ≡ whole
+    → new ≡ start_after all known f → start_from all known (drop i fs) ≡ whole
+    → start_from all new (drop (i + 1) fs) ≡ whole
 start-more all fs i f known new whole lt e g h =
     ap (λ (x : Option ℕ). start_from all x (drop (i + 1) fs)) g
     ∙ ap (λ (x : Field). start_from all (start_after all known x) (drop (i + 1) fs)) e

@@ -23,4 +23,5 @@ pub all-counts : (ks : List (Bor (List ℕ))) (ts : List FuncType) (n : ℕ) (ou
     → out ≡ map (λ (k : Bor (List ℕ)). length (params_in k.now)) (take n ks)
     → map (λ (k : Bor (List ℕ)). k.now) ks ≡ map key_of ts → out ≡ map (λ (t : FuncType). length t.params) ts
 all-counts ks ts n out le e h =
-    e ∙ ap (λ (x : List (Bor (List ℕ))). map (λ (k : Bor (List ℕ)). length (params_in k.now)) x) (take_all n ks le) ∙ counts-back ks ts h
+    e ∙ ap (λ (x : List (Bor (List ℕ))). map (λ (k : Bor (List ℕ)). length (params_in k.now)) x) (take_all n ks le)
+    ∙ counts-back ks ts h

@@ -46,14 +46,16 @@ with-type ts f = by (is_some (type_index f ts))
     by true = omega arith
     by false = omega (arith, sum_by-append params ts (f ∷ []), sum_by-cons params f [])
 
-with-use : (ts : List FuncType) (u : TypeUse) → sum_by params (with_use ts u.index u.signature) ≤ sum_by params ts + use_size u
+with-use : (ts : List FuncType) (u : TypeUse) → sum_by params (with_use ts u.index u.signature) ≤ sum_by params ts +
+    use_size u
 with-use ts u = by u.index
   where
     by : (i : Option _) → sum_by params (with_use ts i u.signature) ≤ sum_by params ts + use_size u
     by None = omega (arith, with-type ts u.signature)
     by (Some i) = omega arith
 
-with-all : (ts : List FuncType) (us : List TypeUse) → sum_by params (with_uses ts us) ≤ sum_by params ts + sum_by use_size us
+with-all : (ts : List FuncType) (us : List TypeUse)
+    → sum_by params (with_uses ts us) ≤ sum_by params ts + sum_by use_size us
 with-all ts [] = omega arith
 with-all ts (u ∷ us) =
     omega (arith, with-all (with_use ts u.index u.signature) us, with-use ts u, sum_by-cons use_size u us)
@@ -74,7 +76,8 @@ inside-global : (d : GlobalDesc) → sum_by use_size (global_uses d) ≤ global_
 inside-global (global.Import names) = omega arith
 inside-global (global.Init body) = omega arith
 
-inside : (f : Field) → sum_by params (written_type f) + (sum_by use_size (own_uses f) + sum_by use_size (inner_uses f)) + locals f ≤ inner_size f
+inside : (f : Field) → sum_by params (written_type f) + (sum_by use_size (own_uses f) + sum_by use_size (inner_uses f))
+    + locals f ≤ inner_size f
 inside (field.FuncType f) = omega (arith, sum_by-cons params f.signature [])
 inside (field.Import f) = omega (arith, imported f.desc)
 inside (field.Func f) = omega (arith, inside-func f.desc, sum_by-cons use_size f.ty [])
@@ -127,7 +130,8 @@ none-before : {X : Type 0} (xs ys : List X) → xs ++ ys ≡ [] → xs ≡ []
 none-before [] ys e = refl
 none-before (x ∷ xs) ys e = absurd (omega (arith, ap (λ z. length z) e))
 
-none-inside : {X Y : Type 0} (g : X → List Y) (xs : List X) (k : ℕ) (d : X) → k < length xs → flat_map g xs ≡ [] → g (slice_index_or xs k d) ≡ []
+none-inside : {X Y : Type 0} (g : X → List Y) (xs : List X) (k : ℕ) (d : X) → k < length xs → flat_map g xs ≡ []
+    → g (slice_index_or xs k d) ≡ []
 none-inside g [] k d lt e = absurd (omega (arith, lt))
 none-inside g (x ∷ xs) zero d lt e = none-before (g x) (flat_map g xs) e
 none-inside g (x ∷ xs) (suc k) d lt e = none-inside g xs k d (omega (arith, lt)) (none-behind (g x) (flat_map g xs) e)
@@ -137,14 +141,16 @@ few-locals [] n e = omega arith
 few-locals (l ∷ ls) zero e = absurd (omega (arith, ap (λ z. length z) e))
 few-locals (l ∷ ls) (suc n) e = omega (arith, few-locals ls n e)
 
-within-limit : (fs : List Field) (k : ℕ) (d : Field) → k < length fs → first_fault fs ≡ None → locals (slice_index_or fs k d) ≤ locals_limit
+within-limit : (fs : List Field) (k : ℕ) (d : Field) → k < length fs → first_fault fs ≡ None
+    → locals (slice_index_or fs k d) ≤ locals_limit
 within-limit fs k d lt e =
     let f = slice_index_or fs k d in
     let all = least-none (declaration_faults fs) (none-first _ _ e) in
     let inner = none-behind (second_after false fs) (flat_map inner_faults fs)
     (none-behind (late_after false fs) _ (none-behind (space_faults fs) _ all)) in
     few-locals (locals_of f) locals_limit
-    (none-behind (repeated (param_ids (names_of f) ++ local_ids (locals_of f))) _ (none-inside inner_faults fs k d lt inner))
+    (none-behind (repeated (param_ids (names_of f) ++ local_ids (locals_of f))) _
+    (none-inside inner_faults fs k d lt inner))
 
 pub all-fit : (fs : List Field) → IsSurface fs → first_fault fs ≡ None → (k : ℕ) (d : Field) → k < length fs
     → FieldFits fs (slice_index_or fs k d)

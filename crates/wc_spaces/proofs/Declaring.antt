@@ -42,7 +42,13 @@ pub unnamed-many : (ds : List (Option (List ℕ))) (old new : Space) (n : ℕ) �
     → IsSpace (ds ++ replicate n None) new
 unnamed-many ds old new n w h e = record {
   placed = λ q. same-found old.places new.places q h ∙ w.placed q ∙ sym (unnamed-places q 0 n ds);
-  counted = omega (arith, e, w.counted, length-append ds (replicate n None), length-replicate {A = Option (List ℕ)} n None);
+  counted = omega (
+    arith,
+    e,
+    w.counted,
+    length-append ds (replicate n None),
+    length-replicate {A = Option (List ℕ)} n None,
+  );
   apart = same-apart old.places new.places h w.apart;
 }
 
@@ -61,7 +67,8 @@ named ds old new text w h e apart = record {
 }
 
 module _ {W : Type 0} (first now : Option (Fault W)) (f : Fault W) where
-  told_by : (b told : Bool) → told ≡ not b → now ≡ cond told first (earlier first f) → now ≡ least_from first (cond b (f ∷ []) [])
+  told_by : (b told : Bool) → told ≡ not b → now ≡ cond told first (earlier first f)
+      → now ≡ least_from first (cond b (f ∷ []) [])
   told_by true told e g = rw e at g
   told_by false told e g = rw e at g
 
@@ -70,4 +77,5 @@ module _ {W : Type 0} (first now : Option (Fault W)) (f : Fault W) where
       → told ≡ not (is_some (found_in old.places text)) → now ≡ cond told first (earlier first f)
       → now ≡ least_from first (cond (list_any (is_named text) ds) (f ∷ []) [])
   told-fault ds text old told w e g = told_by (list_any (is_named text) ds) told
-      (e ∙ ap (λ (o : Option ℕ). not (is_some o)) (w.placed text) ∙ ap (λ b. not b) (position-any (is_named text) 0 ds)) g
+      (e ∙ ap (λ (o : Option ℕ). not (is_some o)) (w.placed text)
+      ∙ ap (λ b. not b) (position-any (is_named text) 0 ds)) g

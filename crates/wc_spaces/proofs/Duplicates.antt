@@ -6,8 +6,10 @@ use Rattle.wc_spaces.specs.Standard.Spaces.{identifier_of, duplicate, duplicates
 
 module _ {W : Type 0} (why : W) where
   pub duplicates_after-append : (before : List (Option (List ℕ))) (ds es : List (Option (ℕ × List ℕ)))
-      → duplicates_after why before (ds ++ es) ≡ duplicates_after why before ds ++ duplicates_after why (before ++ map identifier_of ds) es
-  duplicates_after-append before [] es = ap (λ (x : List (Option (List ℕ))). duplicates_after why x es) (sym (append-nil before))
+      → duplicates_after why before (ds ++ es) ≡ duplicates_after why before ds ++ duplicates_after why
+      (before ++ map identifier_of ds) es
+  duplicates_after-append before [] es = ap (λ (x : List (Option (List ℕ))).
+      duplicates_after why x es) (sym (append-nil before))
   duplicates_after-append before (None ∷ ds) es =
       duplicates_after-append (before ++ None ∷ []) ds es
       ∙ ap (λ (x : List (Option (List ℕ))). duplicates_after why (before ++ None ∷ []) ds ++ duplicates_after why x es)
@@ -15,6 +17,7 @@ module _ {W : Type 0} (why : W) where
   duplicates_after-append before (Some d ∷ ds) es =
       ap (λ (x : List (Fault W)). duplicate why before d.0 d.1 ++ x)
       (duplicates_after-append (before ++ Some d.1 ∷ []) ds es
-      ∙ ap (λ (x : List (Option (List ℕ))). duplicates_after why (before ++ Some d.1 ∷ []) ds ++ duplicates_after why x es)
+      ∙ ap (λ (x : List (Option (List ℕ))). duplicates_after why (before ++ Some d.1
+      ∷ []) ds ++ duplicates_after why x es)
       (append_assoc before (Some d.1 ∷ []) (map identifier_of ds)))
       ∙ sym (append_assoc (duplicate why before d.0 d.1) _ _)

@@ -24,11 +24,13 @@ module _ {W : Type 0} where
   least-none [] e = refl
   least-none (x ∷ fs) e = absurd (some-stays x fs e)
 
-  chosen : (g x f : Fault W) (b : Bool) → nat_le g.token x.token ≡ b → IfSome (cond b (Some g) (Some x)) (AtMost f) → (f.token ≤ g.token) × (f.token ≤ x.token)
+  chosen : (g x f : Fault W) (b : Bool) → nat_le g.token x.token ≡ b → IfSome (cond b (Some g) (Some x)) (AtMost f)
+      → (f.token ≤ g.token) × (f.token ≤ x.token)
   chosen g x f true e h = (h, grind (arith, common_steps))
   chosen g x f false e h = (grind (arith, common_steps), h)
 
-  bound : (o : Option (Fault W)) (fs : List (Fault W)) (f : Fault W) → least_from o fs ≡ Some f → IfSome o (AtMost f) × AllByRecursion (AtMost f) fs
+  bound : (o : Option (Fault W)) (fs : List (Fault W)) (f : Fault W) → least_from o fs ≡ Some f → IfSome o (AtMost f)
+      × AllByRecursion (AtMost f) fs
   bound None [] f e = (tt, tt)
   bound (Some g) [] f e = (let same : g ≡ f = cc in omega (arith, ap (λ (x : Fault W). x.token) same), tt)
   bound None (x ∷ fs) f e = let h = bound (Some x) fs f e in (tt, (h.0, h.1))
@@ -39,6 +41,7 @@ module _ {W : Type 0} where
   pub least-all : (fs : List (Fault W)) (f : Fault W) → least fs ≡ Some f → AllByRecursion (AtMost f) fs
   least-all fs f e = (bound None fs f e).1
 
-  pub least-append : (known : Option (Fault W)) (fs gs : List (Fault W)) → least_from known (fs ++ gs) ≡ least_from (least_from known fs) gs
+  pub least-append : (known : Option (Fault W)) (fs gs : List (Fault W))
+      → least_from known (fs ++ gs) ≡ least_from (least_from known fs) gs
   least-append known [] gs = refl
   least-append known (f ∷ fs) gs = least-append (earlier known f) fs gs

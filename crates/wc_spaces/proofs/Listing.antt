@@ -24,7 +24,8 @@ same-count ts types w = sym (length-now types.keys.items) ∙ ap (λ (x : List (
 pub pushed : (ts : List (List ℕ)) (old new : Types) (t : Bor (List ℕ)) (n : ℕ) → AreTypes ts old
     → n ≡ length old.keys.items
     → new.keys.items ≡ old.keys.items ++ t ∷ []
-    → ((q : List ℕ) → place_in new.places q ≡ cond (is_some (place_in old.places q)) (place_in old.places q) (cond (bytes_eq t.now q) (Some n) None))
+    → ((q : List ℕ) → place_in new.places q ≡ cond (is_some (place_in old.places q)) (place_in old.places q)
+    (cond (bytes_eq t.now q) (Some n) None))
     → AreTypes (ts ++ t.now ∷ []) new
 pushed ts old new t n w e f h = record {
   listed = ap (λ (x : List (Bor (List ℕ))). map (λ (t : Bor (List ℕ)). t.now) x) f

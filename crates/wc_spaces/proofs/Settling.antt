@@ -26,7 +26,8 @@ was-none [] p i e = refl
 was-none (x ∷ xs) p zero e = e
 was-none (x ∷ xs) p (suc i) e = was-none xs p i e
 
-was-free : (firsts : List Placed) (p : Placed) (o : Option ℕ) → is_free (firsts ++ p ∷ []) o ≡ true → is_free firsts o ≡ true
+was-free : (firsts : List Placed) (p : Placed) (o : Option ℕ) → is_free (firsts ++ p ∷ []) o ≡ true
+    → is_free firsts o ≡ true
 was-free firsts p None e = e
 was-free firsts p (Some i) e = was-none firsts p i e
 
@@ -85,13 +86,15 @@ free-before firsts p (x ∷ xs) (suc s) zero e = was-none firsts p x e
 free-before firsts p (x ∷ xs) (suc s) (suc j) e = free-before firsts p xs s j e
 
 -- ---- all texts: `at` tells the slot of each, and `others` its place among the others
-module _ (at : List ℕ → ℕ) (slots : List ℕ) (firsts : List Placed) (others : List ℕ → Option ℕ) (p : Placed) (v : ℕ) where
+module _ (at : List ℕ → ℕ) (slots : List ℕ) (firsts : List Placed) (others : List ℕ
+    → Option ℕ) (p : Placed) (v : ℕ) where
   abbrev found : List ℕ → Option ℕ
   found q = placed_in q (first_at firsts (slice_get slots (at q))) (others q)
 
   abbrev found-now : List ℕ → Option ℕ
   found-now q =
-      placed_in q (first_at (firsts ++ p ∷ []) (slice_get (set slots (at p.text.now) (length firsts)) (at q))) (others q)
+      placed_in q (first_at (firsts ++ p ∷ []) (slice_get (set slots (at p.text.now) (length firsts)) (at q)))
+      (others q)
 
   was-unknown : slice_get slots (at p.text.now) ≡ Some v → slice_get firsts v ≡ None → others p.text.now ≡ None
       → found p.text.now ≡ None
@@ -107,7 +110,8 @@ module _ (at : List ℕ → ℕ) (slots : List ℕ) (firsts : List Placed) (othe
       subst (λ (r : List ℕ). found-now r ≡ cond (is_some (found r)) (found r) (Some p.place))
       (same-text p.text.now q same)
       (is-known e ∙ ap (λ (o : Option ℕ). cond (is_some o) o (Some p.place)) (sym (was-unknown e f g)))
-  settled-by q false other e f g = beside p q (others q) other firsts v f slots (at p.text.now) (at q) e ∙ kept (found q)
+  settled-by q false other e f g = beside p q (others q) other firsts v f slots (at p.text.now) (at q) e
+      ∙ kept (found q)
 
 free-from : (firsts : List Placed) (o : Option ℕ) → Some None ≡ seen_at firsts o
     → (v : ℕ) × (o ≡ Some v) × (slice_get firsts v ≡ None)

@@ -127,7 +127,8 @@ begin-pushed es old b s kind h new parts is room stacked =
     ∙ begin-parts (drafted es) kind h)
     (begin-last kind h)
 
-pub else-pushed : (es : List TextEntry) (old : List Part) (b : Bool) → IsStarted es old b → (new : List TextEntry) (k : ℕ)
+pub else-pushed : (es : List TextEntry) (old : List Part) (b : Bool) → IsStarted es old b
+    → (new : List TextEntry) (k : ℕ)
     → new ≡ es ++ Else ∷ [] → in_first_part (drafted es).around ≡ true → k + 1 ≡ length old
     → Pushed es (mark Else) new (set old k Other) true
 else-pushed es old b s new k is can last =
@@ -137,7 +138,8 @@ else-pushed es old b s new k is can last =
     (last ∙ ap (λ (ps : List Part). length ps) s.building.stacked)))
     refl
 
-pub end-pushed : (es : List TextEntry) (old : List Part) (b : Bool) → IsStarted es old b → (new : List TextEntry) (k : ℕ)
+pub end-pushed : (es : List TextEntry) (old : List Part) (b : Bool) → IsStarted es old b
+    → (new : List TextEntry) (k : ℕ)
     → new ≡ with_end b es → is_open (drafted es).around ≡ true → k + 1 ≡ length old
     → Pushed es close new (take k old) false
 end-pushed es old b s new k is open_ last =

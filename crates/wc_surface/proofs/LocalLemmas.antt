@@ -85,11 +85,14 @@ pub put-last : (gs : List LocalGroup) (i : ℕ) (x y : LocalGroup) (l : Local) �
     → written_out (slice_set gs i (group None l.ty x.token (y.count + 1))) ≡ written_out gs ++ l ∷ []
 put-last gs i x y l ex ey n e none =
     let same : y ≡ x = ey ∙ same-index gs i y x (omega (arith, n)) ∙ sym ex in
-    let is = written_out-last gs i x l.ty l.token n e ∙ ap (λ (m : Local). written_out gs ++ m ∷ []) (bare-local l none) in
+    let is = written_out-last gs i x l.ty l.token n e
+    ∙ ap (λ (m : Local). written_out gs ++ m ∷ []) (bare-local l none) in
     let one : written_out (slice_set gs i (group None l.ty x.token (x.count + 1))) ≡ written_out gs ++ l ∷ [] =
-    subst (λ (z : LocalGroup). written_out (slice_set gs i (group None l.ty z.token (z.count + 1))) ≡ written_out gs ++ l ∷ [])
+    subst (λ (z : LocalGroup). written_out (slice_set gs i (group None l.ty z.token (z.count + 1))) ≡ written_out gs ++
+    l ∷ [])
     (sym ex) is in
-    subst (λ (z : LocalGroup). written_out (slice_set gs i (group None l.ty x.token (z.count + 1))) ≡ written_out gs ++ l ∷ [])
+    subst (λ (z : LocalGroup). written_out (slice_set gs i (group None l.ty x.token (z.count + 1))) ≡ written_out gs ++
+    l ∷ [])
     (sym same) one
 
 pub last-room : (gs : List LocalGroup) (i : ℕ) (y : LocalGroup) (ty : ValType) (token : ℕ) → y ≡ slice_index_or gs i y
@@ -101,7 +104,8 @@ abbrev pub AtMost : LocalGroup → Type 0
 AtMost g = g.token + g.count ≤ 2 ^ 32
 
 -- the token of one more in the last group, of which x and y are what an index gave
-pub last-numbered : (gs : List LocalGroup) (i : ℕ) (x y : LocalGroup) (ty : ValType) (token : ℕ) → x ≡ slice_index_or gs i x
+pub last-numbered : (gs : List LocalGroup) (i : ℕ) (x y : LocalGroup) (ty : ValType) (token : ℕ)
+    → x ≡ slice_index_or gs i x
     → y ≡ slice_index_or gs i y → suc i ≡ length gs → LastIs (Lengthens ty token) gs → x.token + y.count ≡ token
 last-numbered gs i x y ty token ex ey n e =
     let same : y ≡ x = ey ∙ same-index gs i y x (omega (arith, n)) ∙ sym ex in

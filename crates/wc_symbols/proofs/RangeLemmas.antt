@@ -156,13 +156,17 @@ lower-minus n f = elim (cases_lt 0 n) [
       rw none refl
 ]
 
-pub has-32 : (text : List ℕ) (s : Symbol) (l : Signed) → WordIs text s → Literal text l → FitsBits 32 l → IsLiteral32 s l
+pub has-32 : (text : List ℕ) (s : Symbol) (l : Signed) → WordIs text s → Literal text l → FitsBits 32 l
+    → IsLiteral32 s l
 has-32 text s (Unsigned n) w (unsigned d) f =
-    literal-32 s (Unsigned n) kind.Natural32 n (WordIs-same w (known (natural (below_32 d f)))) (inl refl) (omega (arith, f))
+    literal-32 s (Unsigned n) kind.Natural32 n (WordIs-same w (known (natural (below_32 d f)))) (inl refl)
+    (omega (arith, f))
 has-32 text s (Plus n) w (plus d) f =
-    literal-32 s (Plus n) kind.Signed32 n (WordIs-same w (known (signed (of_32 (plus d) tt f)))) (inr refl) (omega (arith, f))
+    literal-32 s (Plus n) kind.Signed32 n (WordIs-same w (known (signed (of_32 (plus d) tt f)))) (inr refl)
+    (omega (arith, f))
 has-32 text s (Minus n) w (minus d) f =
-    literal-32 s (Minus n) kind.Signed32 (bits_of 64 (Minus n)) (WordIs-same w (known (signed (of_32 (minus d) tt f)))) (inr refl)
+    literal-32 s (Minus n) kind.Signed32 (bits_of 64 (Minus n)) (WordIs-same w (known (signed (of_32 (minus d) tt f))))
+    (inr refl)
     (lower-minus n f)
 
 abbrev Is64 : Kind → Type 0
@@ -172,7 +176,8 @@ literal-64 : (s : Symbol) (l : Signed) (k : Kind) → s ≡ record { kind = k; v
     → IsLiteral64 s l
 literal-64 s l k e h = record { kind_is = rw e h; value_is = ap (λ (o : Symbol). o.value) e }
 
-pub has-64 : (text : List ℕ) (s : Symbol) (l : Signed) → WordIs text s → Literal text l → FitsBits 64 l → IsLiteral64 s l
+pub has-64 : (text : List ℕ) (s : Symbol) (l : Signed) → WordIs text s → Literal text l → FitsBits 64 l
+    → IsLiteral64 s l
 has-64 text s (Unsigned n) w (unsigned d) f = elim (cases_lt n (2 ^ 32)) [
   | inl h ↦ literal-64 s (Unsigned n) kind.Natural32 (WordIs-same w (known (natural (below_32 d h)))) (inl (inl refl))
   | inr h ↦ literal-64 s (Unsigned n) kind.Natural64 (WordIs-same w (known (natural (below_64 d h f)))) (inl (inr refl))
@@ -187,7 +192,8 @@ has-64 text s (Minus n) w (minus d) f = elim (cases_lt (2 ^ 31) n) [
   | inl h ↦
       let out : ¬ (FitsBits 32 (Minus n)) = λ g. omega (arith, g, h) in
       literal-64 s (Minus n) kind.Signed64 (WordIs-same w (known (signed (of_64 (minus d) tt out f)))) (inr (inr refl))
-  | inr h ↦ literal-64 s (Minus n) kind.Signed32 (WordIs-same w (known (signed (of_32 (minus d) tt h)))) (inr (inl refl))
+  | inr h ↦ literal-64 s (Minus n) kind.Signed32 (WordIs-same w (known (signed (of_32 (minus d) tt h))))
+      (inr (inl refl))
 ]
 
 -- ---- one symbol

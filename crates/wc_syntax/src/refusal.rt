@@ -9,8 +9,8 @@ use std::alloc::{AllocError, AllocFailed};
 /// Why tokens are no text.
 #[derive(Debug, Drop)]
 pub enum Refusal {
-    /// The first token with which no text, however deep, goes on, or that would be nested too deep; the number of tokens
-    /// where one is missing.
+    /// The first token with which no text, however deep, goes on, or that would be nested too deep; the number of
+    /// tokens where one is missing.
     Bad { token: usize, why: SynWhy },
     /// Memory was refused.
     Memory,

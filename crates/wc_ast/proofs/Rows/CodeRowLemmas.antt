@@ -43,7 +43,8 @@ span h total = record { groups = length h; total = total }
 pub record Pushed (ss : List Span) (g h : List Group) (total : ℕ) (bs : List (Code Instr BlockType))
     (b : Code Instr BlockType) : Type 0 where
   pub kept : AreCodes (ss ++ span h total ∷ []) (g ++ h) (bs ++ b ∷ [])
-  pub seen : codes_at (ss ++ span h total ∷ []) (g ++ h) (bs ++ b ∷ []) ≡ codes_at ss g bs ++ code (written_out h) b ∷ []
+  pub seen : codes_at (ss ++ span h total ∷ []) (g ++ h) (bs ++ b ∷ []) ≡ codes_at ss g bs ++ code (written_out h) b
+      ∷ []
 
 pub code-pushed : (ss : List Span) (g h : List Group) (total : ℕ) (bs : List (Code Instr BlockType))
     (b : Code Instr BlockType) → AreCodes ss g bs → IsLocals h total → Pushed ss g h total bs b

@@ -69,22 +69,37 @@ module _ {O P H : Type 0} (table : ℕ → Result (Begun O) BinWhy) (f : O → P
     plain-told : (room first : Bool) (u : O) → table x ≡ Ok (plain_op u) → (r : Result (Got P) Halt)
         → IsTold (f u) (p + 1) y r
         → NextTold d room first p (x ∷ y) (r and_then λ k. got (plain k.value) k.place k.left)
-    plain-told room first u e (Ok k) t =
-        (x ∷ t.0, ap (λ (z : List ℕ). x ∷ z) t.1, omega (arith, t.3), omega arith, inr (refl, (x, u, t.0, refl, e, t.2), λ b. absurd cc))
+    plain-told room first u e (Ok k) t = (
+      x ∷ t.0,
+      ap (λ (z : List ℕ). x ∷ z) t.1,
+      omega (arith, t.3),
+      omega arith,
+      inr (refl, (x, u, t.0, refl, e, t.2), λ b. absurd cc),
+    )
     plain-told room first u e (Err k) t = inr (inl (u, rw e refl, t))
 
     region-told : (first : Bool) (q : Region) → table x ≡ Ok (region_op q) → length d.around < nesting_limit
         → (r : Result (Got H) Halt) → IsTold h (p + 1) y r
         → NextTold d true first p (x ∷ y) (r and_then λ k. got (begin q k.value) k.place k.left)
-    region-told first q e lt (Ok k) t =
-        (x ∷ t.0, ap (λ (z : List ℕ). x ∷ z) t.1, omega (arith, t.3), omega arith, inr (refl, (x, t.0, refl, e, t.2), λ b. lt))
+    region-told first q e lt (Ok k) t = (
+      x ∷ t.0,
+      ap (λ (z : List ℕ). x ∷ z) t.1,
+      omega (arith, t.3),
+      omega arith,
+      inr (refl, (x, t.0, refl, e, t.2), λ b. lt),
+    )
     region-told first q e lt (Err k) t = inr (inr (region_op q, rw e refl, refl, t))
 
     if-told : (first : Bool) → table x ≡ Ok if_op → length d.around < nesting_limit → (r : Result (Got H) Halt)
         → IsTold h (p + 1) y r
         → NextTold d true first p (x ∷ y) (r and_then λ k. got (begin_if k.value) k.place k.left)
-    if-told first e lt (Ok k) t =
-        (x ∷ t.0, ap (λ (z : List ℕ). x ∷ z) t.1, omega (arith, t.3), omega arith, inr (refl, (x, t.0, refl, e, t.2), λ b. lt))
+    if-told first e lt (Ok k) t = (
+      x ∷ t.0,
+      ap (λ (z : List ℕ). x ∷ z) t.1,
+      omega (arith, t.3),
+      omega arith,
+      inr (refl, (x, t.0, refl, e, t.2), λ b. lt),
+    )
     if-told first e lt (Err k) t = inr (inr (if_op, rw e refl, refl, t))
 
     module _ (plains : (u : O) (q : ℕ) (z : List ℕ) → IsTold (f u) q z (read (f u) q z))
@@ -137,7 +152,8 @@ module _ {O P H : Type 0} (table : ℕ → Result (Begun O) BinWhy) (f : O → P
               → m.place ≡ o + length (a ++ b) → length m.left < n
               → IsTold (expression table f h) o x (all_at n (step d m.value) m.place m.left))
               → IsTold (expression table f h) o x
-              (r and_then λ m. cond (is_last d m.value) (got d.last m.place m.left) (all_at n (step d m.value) m.place m.left))
+              (r and_then λ m. cond (is_last d m.value) (got d.last m.place m.left)
+              (all_at n (step d m.value) m.place m.left))
           go (Err t) c ih =
               (d, a, y, e, s, k, subst (λ (q : ℕ). Stopping (room_in d) (in_first_part d.around) q y t) place c)
           go (Ok m) c ih =
@@ -169,7 +185,8 @@ module _ {O P H : Type 0} (table : ℕ → Result (Begun O) BinWhy) (f : O → P
 
   -- ---- and back
   module _
-      (plains : (u : O) (q : ℕ) (a y : List ℕ) (v : P) → Spells (f u) a v → read (f u) q (a ++ y) ≡ got v (q + length a) y)
+      (plains : (u : O) (q : ℕ) (a y : List ℕ) (v : P) → Spells (f u) a v
+      → read (f u) q (a ++ y) ≡ got v (q + length a) y)
       (heads : (q : ℕ) (a y : List ℕ) (v : H) → Spells h a v → read h q (a ++ y) ≡ got v (q + length a) y) where
     -- what comes is read, and doesn't end the expression
     abbrev IsRead : Draft P H → List ℕ → List ℕ → Mark P H → ℕ → Type 0

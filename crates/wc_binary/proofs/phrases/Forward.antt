@@ -54,7 +54,8 @@ name-bytes old mid new n k e h =
     let named = judged (times n any_byte) utf8_fault in
     leads-fail old mid new (λ x. read named mid.place x) (λ x. read name old.place x)
     (then-leads u32 (λ n. judged (times n any_byte) utf8_fault) old mid n k) e
-    (first-fails mid new (λ x. read (times n any_byte) mid.place x) (λ x. read named mid.place x) (λ x f q. rw q refl) e h)
+    (first-fails mid new (λ x. read (times n any_byte) mid.place x) (λ x. read named mid.place x) (λ x f q.
+    rw q refl) e h)
 
 module _ (o n p q : ℕ) (x y z bytes : List ℕ) (count : read u32 o x ≡ got n p y)
     (raw : read (times n any_byte) p y ≡ got bytes q z) where

@@ -28,8 +28,12 @@ byte-told table o (b ∷ x) = byte_or-told table o b x (table b) refl
 module _ {A B : Type 0} (p : Phrase A) (f : A → Phrase B) (o : ℕ) (x : List ℕ) where
   second-told : (g : Got A) → IsTold p o x (Ok g) → (r : Result (Got B) Halt) → IsTold (f g.value) g.place g.left r
       → IsTold (p >>= f) o x r
-  second-told g h (Ok w) k =
-      (h.0 ++ k.0, rw (append_assoc, ← k.1) h.1, (h.0, k.0, g.value, refl, h.2, k.2), omega (arith, length-append h.0 k.0, h.3, k.3))
+  second-told g h (Ok w) k = (
+    h.0 ++ k.0,
+    rw (append_assoc, ← k.1) h.1,
+    (h.0, k.0, g.value, refl, h.2, k.2),
+    omega (arith, length-append h.0 k.0, h.3, k.3),
+  )
   second-told g h (Err e) k =
       inr (h.0, g.left, g.value, h.1, h.2, subst (λ (q : ℕ). Stops (f g.value) q g.left e) h.3 k)
 

@@ -45,8 +45,13 @@ module _ (N o b : ℕ) (x : List ℕ) where
 
   -- a byte that no spelling has there
   barred : (Begins (S N) (b ∷ []) → ⊥) → StopsInteger (S N) o (b ∷ x) (halt o Integer (o + 1))
-  barred bars =
-      ([], b ∷ x, refl, continues.nothing-unfinished N, inr (b, x, refl, bars, ap (λ (p : ℕ). halt p Integer (p + 1)) (sym (add-zero o))))
+  barred bars = (
+    [],
+    b ∷ x,
+    refl,
+    continues.nothing-unfinished N,
+    inr (b, x, refl, bars, ap (λ (p : ℕ). halt p Integer (p + 1)) (sym (add-zero o))),
+  )
 
   on-told : 128 ≤ b → b < 256 → 7 < N → (r : Result (Got ℤ) Halt) → IsTold (signed (N - 7)) (o + 1) x r
       → IsTold (signed N) o (b ∷ x) (r and_then λ m. got (more_of b m.value) m.place m.left)
@@ -60,7 +65,14 @@ module _ (N o b : ℕ) (x : List ℕ) where
         tail-unfinished ℤ S continues N b h.0 le lt more h.3,
         elim h.4 [
           | inl s ↦ inl (s.0, s.1 ∙ ap (λ (p : ℕ). halt p End p) place)
-          | inr s ↦ inr (s.0, s.1, s.2, λ k. s.3 (continues.begins-tail N b (h.0 ++ s.0 ∷ []) le k), s.4 ∙ ap (λ (p : ℕ). halt p Integer (p + 1)) place)
+          | inr s ↦ inr (
+            s.0,
+            s.1,
+            s.2,
+            λ k. s.3 (continues.begins-tail N b (h.0 ++ s.0 ∷ []) le k),
+            s.4
+                ∙ ap (λ (p : ℕ). halt p Integer (p + 1)) place,
+          )
         ],
       )
 
@@ -173,7 +185,14 @@ signed-stopped-at N o (b ∷ a) y f h k =
     let e : o + length (b ∷ a) ≡ o + 1 + length a = omega arith in
     let rest = signed-stopped-at (N - 7) (o + 1) a y f t.3 (elim k [
       | inl s ↦ inl (s.0, s.1 ∙ ap (λ (p : ℕ). halt p End p) e)
-      | inr s ↦ inr (s.0, s.1, s.2, λ g. s.3 (continues.tail-begins N b (a ++ s.0 ∷ []) t.0 t.1 t.2 g), s.4 ∙ ap (λ (p : ℕ). halt p Integer (p + 1)) e)
+      | inr s ↦ inr (
+        s.0,
+        s.1,
+        s.2,
+        λ g. s.3 (continues.tail-begins N b (a ++ s.0 ∷ []) t.0 t.1 t.2 g),
+        s.4
+            ∙ ap (λ (p : ℕ). halt p Integer (p + 1)) e,
+      )
     ]) in
     rw (on N o b (a ++ y) t.0 t.1 t.2, rest) refl
 

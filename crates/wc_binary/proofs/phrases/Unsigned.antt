@@ -16,7 +16,8 @@ stands-begins : (N b : ℕ) → MayStand N b → Begins (U N) (b ∷ [])
 stands-begins N b h =
     elim h.either [
       | inl s ↦ ([], b, inl (s.0, s.1, refl, refl))
-      | inr s ↦ continues.tail-begins N b [] s.0 s.1 s.2 (unfinished-begins ℕ (U (N - 7)) [] (continues.nothing-unfinished (N - 7)))
+      | inr s ↦ continues.tail-begins N b [] s.0 s.1 s.2 (unfinished-begins ℕ (U (N - 7)) []
+          (continues.nothing-unfinished (N - 7)))
     ]
 
 -- a byte that no spelling has there
@@ -65,7 +66,14 @@ module _ (N o b : ℕ) (x : List ℕ) where
         tail-unfinished ℕ U continues N b h.0 le lt more h.3,
         elim h.4 [
           | inl s ↦ inl (s.0, s.1 ∙ ap (λ (p : ℕ). halt p End p) place)
-          | inr s ↦ inr (s.0, s.1, s.2, λ k. s.3 (continues.begins-tail N b (h.0 ++ s.0 ∷ []) le k), s.4 ∙ ap (λ (p : ℕ). halt p Integer (p + 1)) place)
+          | inr s ↦ inr (
+            s.0,
+            s.1,
+            s.2,
+            λ k. s.3 (continues.begins-tail N b (h.0 ++ s.0 ∷ []) le k),
+            s.4
+                ∙ ap (λ (p : ℕ). halt p Integer (p + 1)) place,
+          )
         ],
       )
 
@@ -77,14 +85,17 @@ unsigned-told N o (b ∷ x) =
     elim (cases_lt b 128) [
       | inl lt ↦ elim (cases_lt b (2 ^ N)) [
         | inl fits ↦ rw (last N o b x lt fits) (b ∷ [], refl, inl (lt, fits, refl, refl), refl)
-        | inr le ↦ rw (past N o b x lt le) (barred N o b x (λ s. elim s.either [ inl t ↦ omega arith | inr t ↦ omega arith ]))
+        | inr le ↦ rw (past N o b x lt le) (barred N o b x (λ s.
+            elim s.either [ inl t ↦ omega arith | inr t ↦ omega arith ]))
       ]
       | inr le ↦ elim (cases_lt b 256) [
         | inl lt ↦ elim (cases_lt 7 N) [
           | inl more ↦ rw (on N o b x le lt more) (on-told N o b x le lt more (unsigned_at (N - 7) (o + 1) x) ih)
-          | inr few ↦ rw (long N o b x le lt few) (barred N o b x (λ s. elim s.either [ inl t ↦ omega arith | inr t ↦ omega arith ]))
+          | inr few ↦ rw (long N o b x le lt few) (barred N o b x (λ s.
+              elim s.either [ inl t ↦ omega arith | inr t ↦ omega arith ]))
         ]
-        | inr much ↦ rw (wide N o b x much) (barred N o b x (λ s. elim s.either [ inl t ↦ omega arith | inr t ↦ omega arith ]))
+        | inr much ↦ rw (wide N o b x much) (barred N o b x (λ s.
+            elim s.either [ inl t ↦ omega arith | inr t ↦ omega arith ]))
       ]
     ]
 
@@ -133,7 +144,14 @@ unsigned-stopped-at N o (b ∷ a) y f h k =
     let e : o + length (b ∷ a) ≡ o + 1 + length a = omega arith in
     let rest = unsigned-stopped-at (N - 7) (o + 1) a y f t.3 (elim k [
       | inl s ↦ inl (s.0, s.1 ∙ ap (λ (p : ℕ). halt p End p) e)
-      | inr s ↦ inr (s.0, s.1, s.2, λ g. s.3 (continues.tail-begins N b (a ++ s.0 ∷ []) t.0 t.1 t.2 g), s.4 ∙ ap (λ (p : ℕ). halt p Integer (p + 1)) e)
+      | inr s ↦ inr (
+        s.0,
+        s.1,
+        s.2,
+        λ g. s.3 (continues.tail-begins N b (a ++ s.0 ∷ []) t.0 t.1 t.2 g),
+        s.4
+            ∙ ap (λ (p : ℕ). halt p Integer (p + 1)) e,
+      )
     ]) in
     rw (on N o b (a ++ y) t.0 t.1 t.2, rest) refl
 

@@ -43,7 +43,8 @@ leads-done old now rest total so_far v e =
     (so_far.going, λ w. let s = so_far.same w in (s.0, sym (s.1 None tt) ∙ e now.left))
 
 pub leads-trans : {A : Type 0} (old mid new : Input) (rest total : List ℕ → Result (Got A) Halt)
-    → Leads old mid rest total → (last : List ℕ → Result (Got A) Halt) → Leads mid new last rest → Leads old new last total
+    → Leads old mid rest total → (last : List ℕ → Result (Got A) Halt) → Leads mid new last rest
+    → Leads old new last total
 leads-trans old mid new rest total so_far last more = record {
   going = GoesOn-trans old mid new so_far.going more.going;
   same = λ w. let s = so_far.same w in let t = more.same s.0 in
@@ -89,7 +90,8 @@ pub then-gives : {A B : Type 0} (p : Phrase A) (f : A → Phrase B) (old mid new
     → Gave old mid (Ok u) (λ x. read p old.place x) → (r : Result B BinFault)
     → Gave mid new r (λ x. read (f u) mid.place x) → Gave old new r (λ x. read (p >>= f) old.place x)
 then-gives p f old mid new u h r k =
-    leads-give old mid new (λ x. read (f u) mid.place x) (λ x. read (p >>= f) old.place x) (then-leads p f old mid u h) r k
+    leads-give old mid new (λ x. read (f u) mid.place x) (λ x.
+    read (p >>= f) old.place x) (then-leads p f old mid u h) r k
 
 -- a byte that was taken stands in front
 pub byte-leads : {A : Type 0} (old mid : Input) (b : ℕ) → NextGives old mid (Ok (Some b))

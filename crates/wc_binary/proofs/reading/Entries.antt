@@ -172,7 +172,8 @@ module _ (old mid next : Input) (d : Draft Instr BlockType) (total : List ℕ �
             → bytes_to c mid ≡ b ∷ bytes_to c next → length (bytes_to c new) < length (bytes_to c mid)
         shorter c g f =
             let less = mark-shorter opcode follows block_type (λ u q y. read-told (follows u) q y)
-            (λ q y. read-told block_type q y) d mid.place new.place (b ∷ bytes_to c next) (bytes_to c new) (mark entry) g in
+            (λ q y. read-told block_type q y) d mid.place new.place (b
+            ∷ bytes_to c next) (bytes_to c new) (mark entry) g in
             omega (arith, ap length f, less)
 
         pub entry-adds : is_last d (mark entry) ≡ false → Draws old new (step d (mark entry)) total
@@ -191,7 +192,10 @@ module _ (old mid next : Input) (d : Draft Instr BlockType) (total : List ℕ �
                     let one : all_marks (suc t.0) d mid.place (bytes_to c mid)
                     ≡ all_marks t.0 after new.place (bytes_to c new) = rw (f, e, last) refl in
                     let less = shorter c e f in
-                    some-marks t.0 new.place after (bytes_to c new) (total (bytes_to c old)) (omega (arith, t.1)) (sym one ∙ t.2),
+                    some-marks t.0 new.place after (bytes_to c new) (total (bytes_to c old)) (omega (
+                      arith,
+                      t.1,
+                    )) (sym one ∙ t.2),
               );
         }
 
@@ -223,7 +227,8 @@ comes-last false more e f = let no : true ≡ false = sym e ∙ f in absurd cc
 
 -- an entry that was read and added
 pub taken : (d after : Draft Instr BlockType) (k : Result (Begun Op) BinWhy) (at : ℕ) (old new : Input) (e : Entry)
-    (r : Result Bool BinFault) → GivesEntry d k at old new (Ok e) → MayStand d e → IfOk r (λ more. more ≡ may_come d (mark e))
+    (r : Result Bool BinFault) → GivesEntry d k at old new (Ok e) → MayStand d e
+    → IfOk r (λ more. more ≡ may_come d (mark e))
     → IfOk r (λ more. more ≡ true → after ≡ step d (mark e)) → IfOk r (λ more. more ≡ false → after ≡ d)
     → IfErr r (λ f. f ≡ Memory) → AddsNext d k at old new after r
 taken d after k at old new e (Ok more) g s more_is ok last memory = (e, g, s, (more_is, ok, last))

@@ -54,37 +54,38 @@ locals-count-fails old new e h =
     first-fails old new (λ x. read u32 old.place x) (λ x. read locals old.place x) (λ x f q. rw q refl) e h
 
 module _ (ts : List ValType) (count i : ℕ) (old mid : Input) (total : List ℕ → Locals)
-    (so_far : Leads old mid (λ x. with_locals ts (groups_at (count - i) (length ts) mid x)) total) (more : i < count) where
-  pub groups-more : (g : Group) (new : Input) → Gave mid new (Ok g) (λ x. read (group (length ts)) mid.place x)
-      → Leads old new (λ x. with_locals (behind ts g) (groups_at (count - (i + 1)) (length (behind ts g)) new x)) total
-  groups-more g new h =
-      let left = count - (i + 1) in
-      let one-less : count - i ≡ suc left = omega arith in
-      let long = length-append ts (replicate g.count g.value_type) in
-      let longer : length (behind ts g) ≡ length ts + g.count =
-      omega (arith, long, length-replicate g.count g.value_type) in
-      record {
-        going = GoesOn-trans old mid new so_far.going h.0;
-        same = λ w.
-            let s = so_far.same w in
-            let e = h.1 s.0 in (
-              e.0,
-              λ c le.
-                  let read_to = phrase-to (group (length ts)) mid new g e.1 c le in
-                  let rest = groups_at left (length ts + g.count) new (bytes_to c new) in
-                  let one : with_locals ts (groups_at (count - i) (length ts) mid (bytes_to c mid))
-                  ≡ with_locals (behind ts g) rest = rw (one-less, read_to) (regroup ts g rest) in
-                  rw longer (sym one ∙ s.1 c (within-before mid.place new.place c h.0.forward le)),
-            );
-      }
+    (so_far : Leads old mid (λ x. with_locals ts (groups_at (count - i) (length ts) mid x)) total) (more : i < count)
+  where
+    pub groups-more : (g : Group) (new : Input) → Gave mid new (Ok g) (λ x. read (group (length ts)) mid.place x)
+        → Leads old new (λ x. with_locals (behind ts g) (groups_at (count - (i + 1)) (length (behind ts g)) new x)) total
+    groups-more g new h =
+        let left = count - (i + 1) in
+        let one-less : count - i ≡ suc left = omega arith in
+        let long = length-append ts (replicate g.count g.value_type) in
+        let longer : length (behind ts g) ≡ length ts + g.count =
+        omega (arith, long, length-replicate g.count g.value_type) in
+        record {
+          going = GoesOn-trans old mid new so_far.going h.0;
+          same = λ w.
+              let s = so_far.same w in
+              let e = h.1 s.0 in (
+                e.0,
+                λ c le.
+                    let read_to = phrase-to (group (length ts)) mid new g e.1 c le in
+                    let rest = groups_at left (length ts + g.count) new (bytes_to c new) in
+                    let one : with_locals ts (groups_at (count - i) (length ts) mid (bytes_to c mid))
+                    ≡ with_locals (behind ts g) rest = rw (one-less, read_to) (regroup ts g rest) in
+                    rw longer (sym one ∙ s.1 c (within-before mid.place new.place c h.0.forward le)),
+              );
+        }
 
-  pub groups-fail : (new : Input) (e : BinFault) → Fails mid new e (λ x. read (group (length ts)) mid.place x)
-      → Fails old new e total
-  groups-fail new e h =
-      let one-less : count - i ≡ suc (count - (i + 1)) = omega arith in
-      leads-fail old mid new (λ x. with_locals ts (groups_at (count - i) (length ts) mid x)) total so_far e
-      (first-fails mid new (λ x. read (group (length ts)) mid.place x)
-      (λ x. with_locals ts (groups_at (count - i) (length ts) mid x)) (λ x f q. rw (one-less, q) refl) e h)
+    pub groups-fail : (new : Input) (e : BinFault) → Fails mid new e (λ x. read (group (length ts)) mid.place x)
+        → Fails old new e total
+    groups-fail new e h =
+        let one-less : count - i ≡ suc (count - (i + 1)) = omega arith in
+        leads-fail old mid new (λ x. with_locals ts (groups_at (count - i) (length ts) mid x)) total so_far e
+        (first-fails mid new (λ x. read (group (length ts)) mid.place x)
+        (λ x. with_locals ts (groups_at (count - i) (length ts) mid x)) (λ x f q. rw (one-less, q) refl) e h)
 
 -- all groups were read
 pub groups-done : (ts : List ValType) (count i : ℕ) (old now : Input) (total : List ℕ → Locals)

@@ -43,7 +43,8 @@ pub custom-gives : (old mid end new : Input) (n used : ℕ) (called : List ℕ)
 unfolding custom
 custom-gives old mid end new n used called h k is le r f =
     let fits = le-ltb n used le in
-    then-gives (judged (u32 >>= λ n. measured name >>= λ m. gives (n, m.0)) custom_fault) (λ w. skip (w.0 - w.1)) old end
+    then-gives (judged (u32 >>= λ n. measured name >>= λ m. gives (n, m.0)) custom_fault) (λ w.
+    skip (w.0 - w.1)) old end
     new (n, used) (
       GoesOn-trans old mid end h.0 k.0,
       λ w. let s = h.1 w in let t = k.1 s.0 in (t.0, rw (s.1, t.1, is, fits) refl),

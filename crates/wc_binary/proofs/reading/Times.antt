@@ -45,30 +45,31 @@ whole_first (Err f) = refl
 
 module _ {A : Type 0} (p : Phrase A) (first : List A) (count i : ℕ) (old mid : Input)
     (total : List ℕ → Result (Got (List A)) Halt)
-    (so_far : Leads old mid (λ x. with_first first (read (times (count - i) p) mid.place x)) total) (lt : i < count) where
-  pub times-more : (v : A) (new : Input) → Gave mid new (Ok v) (λ x. read p mid.place x)
-      → Leads old new (λ x. with_first (first ++ v ∷ []) (read (times (count - (i + 1)) p) new.place x)) total
-  times-more v new h =
-      let k : count - i ≡ suc (count - (i + 1)) = omega arith in
-      record {
-        going = GoesOn-trans old mid new so_far.going h.0;
-        same = λ w. let s = so_far.same w in let e = h.1 s.0 in (
-          e.0,
-          λ c le.
-              let rest = read (times (count - (i + 1)) p) new.place (bytes_to c new) in
-              let read_to = phrase-to p mid new v e.1 c le in
-              let one : with_first first (read (times (count - i) p) mid.place (bytes_to c mid))
-              ≡ with_first (first ++ v ∷ []) rest = rw (k, read_to) (regroup first v rest) in
-              sym one ∙ s.1 c (within-before mid.place new.place c h.0.forward le),
-        );
-      }
+    (so_far : Leads old mid (λ x. with_first first (read (times (count - i) p) mid.place x)) total) (lt : i < count)
+  where
+    pub times-more : (v : A) (new : Input) → Gave mid new (Ok v) (λ x. read p mid.place x)
+        → Leads old new (λ x. with_first (first ++ v ∷ []) (read (times (count - (i + 1)) p) new.place x)) total
+    times-more v new h =
+        let k : count - i ≡ suc (count - (i + 1)) = omega arith in
+        record {
+          going = GoesOn-trans old mid new so_far.going h.0;
+          same = λ w. let s = so_far.same w in let e = h.1 s.0 in (
+            e.0,
+            λ c le.
+                let rest = read (times (count - (i + 1)) p) new.place (bytes_to c new) in
+                let read_to = phrase-to p mid new v e.1 c le in
+                let one : with_first first (read (times (count - i) p) mid.place (bytes_to c mid))
+                ≡ with_first (first ++ v ∷ []) rest = rw (k, read_to) (regroup first v rest) in
+                sym one ∙ s.1 c (within-before mid.place new.place c h.0.forward le),
+          );
+        }
 
-  pub times-fails : (new : Input) (e : BinFault) → Fails mid new e (λ x. read p mid.place x) → Fails old new e total
-  times-fails new e h =
-      let k : count - i ≡ suc (count - (i + 1)) = omega arith in
-      leads-fail old mid new (λ x. with_first first (read (times (count - i) p) mid.place x)) total so_far e
-      (first-fails mid new (λ x. read p mid.place x) (λ x. with_first first (read (times (count - i) p) mid.place x))
-      (λ x f q. rw (k, q) refl) e h)
+    pub times-fails : (new : Input) (e : BinFault) → Fails mid new e (λ x. read p mid.place x) → Fails old new e total
+    times-fails new e h =
+        let k : count - i ≡ suc (count - (i + 1)) = omega arith in
+        leads-fail old mid new (λ x. with_first first (read (times (count - i) p) mid.place x)) total so_far e
+        (first-fails mid new (λ x. read p mid.place x) (λ x. with_first first (read (times (count - i) p) mid.place x))
+        (λ x f q. rw (k, q) refl) e h)
 
 -- all were read
 pub times-done : {A : Type 0} (p : Phrase A) (first : List A) (count i : ℕ) (old now : Input)
@@ -113,8 +114,10 @@ times-bytes first count old mid new total so_far bytes le takes = record {
         let split = bytes-split mid new bytes e.1 takes.1 c within in
         let there = behind-bytes bytes count mid.place rest le takes.3 in
         let joined = sym (with-first-twice first bytes
-        (read (times (count - length bytes) any_byte) (mid.place + length bytes) rest)) ∙ ap (with_first first) (sym there) in
-        let placed = ap (λ q. with_first (first ++ bytes) (read (times (count - length bytes) any_byte) q rest)) takes.1 in
+        (read (times (count - length bytes) any_byte) (mid.place + length bytes) rest))
+        ∙ ap (with_first first) (sym there) in
+        let placed = ap (λ q. with_first (first ++ bytes) (read (times (count - length bytes) any_byte) q rest)) takes.1
+        in
         placed ∙ joined ∙ ap (λ z. with_first first (read (times count any_byte) mid.place z)) (sym split)
         ∙ s.1 c (within-before mid.place new.place c takes.0.forward within),
   );
@@ -220,7 +223,8 @@ skip-end old mid total count lt so_far w =
     let k : count ≡ suc (count - 1) = omega (arith, lt) in (
       s.0,
       λ c within e.
-          let one : read (skip (suc (count - 1))) mid.place (bytes_to c mid) ≡ fault mid.place End mid.place = rw e refl in
+          let one : read (skip (suc (count - 1))) mid.place (bytes_to c mid) ≡ fault mid.place End mid.place =
+          rw e refl in
           sym (s.1 c within) ∙ ap (λ n. read (skip n) mid.place (bytes_to c mid)) k ∙ one,
     )
 
@@ -252,7 +256,8 @@ skip-round count old mid next total lt so_far b gave now dropped passes =
             let are = subst (AllByRecursion IsByte) (sym (take_at first rest dropped long)) e.3 in
             let has : dropped ≤ length (first ++ rest) = omega (arith, long, length-append first rest) in
             let one = skip-first dropped (count - 1) next.place (first ++ rest) passes.1 has are in
-            let behind = ap (λ z. read (skip (count - 1 - dropped)) (next.place + dropped) z) (drop_at first rest dropped long) in
+            let behind = ap (λ z. read (skip (count - 1 - dropped)) (next.place + dropped) z)
+            (drop_at first rest dropped long) in
             let placed = ap (λ q. read (skip (count - 1 - dropped)) q rest) passes.2 in
             placed ∙ sym behind ∙ sym one ∙ ap (λ z. read (skip (count - 1)) next.place z) (sym split)
             ∙ s.1 c (within-before next.place now.place c passes.0.forward le),

@@ -114,8 +114,11 @@ module _ (old now next : Input) (last : ℕ) (m : Parts) (found : Finds old now 
           let f = found.bytes w in
           let k = n.2 f.0 in
           let c = h.1 k.0 in
-          let place = n.1 in
-          (c.0, one-more old.place old.left now.place now.left last m b next.left k.1 f.1 id i s end.place end.left (rw place at c.1));
+          let place = n.1 in (
+            c.0,
+            one-more old.place old.left now.place now.left last m b next.left k.1 f.1 id i s end.place end.left
+                (rw place at c.1),
+          );
     }
 
 -- from the first byte on

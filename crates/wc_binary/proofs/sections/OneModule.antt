@@ -155,7 +155,8 @@ rises-or-stop x m f h (inr k) =
     let w = fronts x h.0 h.1 k.0 k.1 h.3 k.2 h.4 k.3 in
     elim k.4 [
       | inl s ↦ sections-or-stop f 0 (length k.0) h.2 s.0 h.1 s.1 s.2 s.3 h.5 (w.1 ∙ s.4) s.5 s.6
-      | inr s ↦ rises-or-counts (length k.0) k.1 m h.2 f (subst (λ (b : List ℕ). AreSections free 0 h.2 b) w.1 h.5) h.6 s
+      | inr s ↦ rises-or-counts (length k.0) k.1 m h.2 f (subst (λ (b : List ℕ).
+          AreSections free 0 h.2 b) w.1 h.5) h.6 s
     ]
 
 -- behind one preamble there is one fault

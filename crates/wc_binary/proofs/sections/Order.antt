@@ -51,7 +51,8 @@ module _ (s : Style) (p : Parts) where
       let r = behind-customs s h.0 last b [] base p h.1 ([], refl, e) in let same = append-nil b in rw same at r
   rises (k ∷ ks) last base follow clear e b h =
       let lt : last < section_id k = omega (arith, follow.0) in
-      then-rises s k (omega (arith, follow.0)) last base p (held_by k p) (HasFrom s p ks) lt (clear-put last base clear k lt)
+      then-rises s k (omega (arith, follow.0)) last base p (held_by k p) (HasFrom s p ks) lt
+      (clear-put last base clear k lt)
       (rises ks (section_id k) (put base (section_of k (held_by k p))) follow.1
       (clear-behind last base clear k lt (held_by k p)) e) b h
 

@@ -47,8 +47,11 @@ funcs-of [] [] e = ([], refl, refl)
 funcs-of [] (c ∷ codes) e = absurd (omega arith)
 funcs-of (t ∷ types) [] e = absurd (omega arith)
 funcs-of (t ∷ types) (c ∷ codes) e =
-    let rest = funcs-of types codes (omega arith) in
-    (record { ty = t; locals = c.locals; body = c.body } ∷ rest.0, ap (λ (ts : List ℕ). t ∷ ts) rest.1, ap (λ (cs : List FuncCode). c ∷ cs) rest.2)
+    let rest = funcs-of types codes (omega arith) in (
+      record { ty = t; locals = c.locals; body = c.body } ∷ rest.0,
+      ap (λ (ts : List ℕ). t ∷ ts) rest.1,
+      ap (λ (cs : List FuncCode). c ∷ cs) rest.2,
+    )
 
 -- parts with as many functions as codes are those of a module
 pub module-of : (p : Parts) → length p.func_types ≡ length p.codes → (m : Module) × (p ≡ parts_of m)

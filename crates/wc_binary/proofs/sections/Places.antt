@@ -70,7 +70,8 @@ id-told last x k h = go (kind_of x) refl
             let f = rw z at g in told j e (let same : j ≡ k = cc in same) (λ ne. absurd (ne (eqb-true x 0 z)))
         by_zero false z =
             elim (cases_lt last x) [
-              | inl lt ↦ let l = lt-ltb last x lt in let f = rw (z, l) at g in told j e (let same : j ≡ k = cc in same) (λ ne. lt)
+              | inl lt ↦ let l = lt-ltb last x lt in let f = rw (z, l) at g in
+                  told j e (let same : j ≡ k = cc in same) (λ ne. lt)
               | inr le ↦ let l = le-ltb last x le in let f = rw (z, l) at g in absurd cc
             ]
 

@@ -101,8 +101,10 @@ module _ (s : Style) (k : SectionKind) (some : 0 < section_id k) where
   abbrev Splits : List Section → List ℕ → Type 0
   Splits vs b =
       AreSections s (section_id k) vs b
-      ⊎ ((a c d : List ℕ) × (v : Held k) × (ws : List Section) × (b ≡ a ++ ((section_id k ∷ c) ++ d)) × Customs s a × SpellsBy s (behind_id k) c v
-      × s.Neat (v ≢ absent k) × AreSections s (section_id k) ws d × ((m : Parts) → put_all m vs ≡ put_all (put m (section_of k v)) ws))
+      ⊎ ((a c d : List ℕ) × (v : Held k) × (ws : List Section) × (b ≡ a ++ ((section_id k ∷ c) ++ d)) × Customs s a
+      × SpellsBy s (behind_id k) c v
+      × s.Neat (v ≢ absent k) × AreSections s (section_id k) ws d
+      × ((m : Parts) → put_all m vs ≡ put_all (put m (section_of k v)) ws))
 
   abbrev some_kind : SectionKind → Option SectionKind
   some_kind j = Some j
@@ -181,7 +183,17 @@ module _ (s : Style) (k : SectionKind) (some : 0 < section_id k) where
     above-first : section_id k < h.0 → Splits (v ∷ vs) b
     above-first more =
         let same : max last (number v) ≡ max (section_id k) (number v) = omega (arith, number-is) in
-        inl (h.0, h.1, h.2, h.3, h.4, id-stands (section_id k) h.0 h.1 first.kind_is (λ ne. more), h.6, h.7, subst (λ (l : ℕ). AreSections s l vs h.3) same h.8)
+        inl (
+          h.0,
+          h.1,
+          h.2,
+          h.3,
+          h.4,
+          id-stands (section_id k) h.0 h.1 first.kind_is (λ ne. more),
+          h.6,
+          h.7,
+          subst (λ (l : ℕ). AreSections s l vs h.3) same h.8,
+        )
 
     -- no section has an id between
     not-between : ((x : ℕ) → last < x → x < section_id k → kind_of x ≡ None) → h.0 ≢ 0 → h.0 < section_id k → ⊥
@@ -189,7 +201,8 @@ module _ (s : Style) (k : SectionKind) (some : 0 < section_id k) where
         let e = gap h.0 (first.rises ne) less ∙ refl in
         let f = first.kind_is in let g : some_kind h.1 ≡ None = sym f ∙ e in cc
 
-  splits : (last : ℕ) → last < section_id k → ((x : ℕ) → last < x → x < section_id k → kind_of x ≡ None) → (vs : List Section) (b : List ℕ)
+  splits : (last : ℕ) → last < section_id k → ((x : ℕ) → last < x → x < section_id k → kind_of x ≡ None)
+      → (vs : List Section) (b : List ℕ)
       → AreSections s last vs b → Splits vs b
   splits last lt gap [] b h = inl h
   splits last lt gap (v ∷ vs) b h = by_zero (nat_eq h.0 0) refl (λ c. splits last lt gap vs h.3 c)

@@ -91,7 +91,10 @@ rises-judged x = go (read preamble 0 x) (read-told {A = Unit {0}} preamble 0 x)
         elim (sections-judged (suc (length g.left)) 0 (length h.0) g.left (omega arith)) [
           | inl k ↦ elim (nat-cases (length (put_all nothing k.0).func_types) (length (put_all nothing k.0).codes)) [
             | inl e ↦ let m = module-of (put_all nothing k.0) e in inl (m.0, (h.0, g.left, k.0, h.1, h.2, k.1, m.1))
-            | inr ne ↦ inr (halt (length h.0 + length g.left) Counts (length h.0 + length g.left), inr (h.0, g.left, h.1, h.2, inr (k.0, k.1, ne, refl)))
+            | inr ne ↦ inr (
+              halt (length h.0 + length g.left) Counts (length h.0 + length g.left),
+              inr (h.0, g.left, h.1, h.2, inr (k.0, k.1, ne, refl)),
+            )
           ]
           | inr k ↦ inr (k.0, inr (h.0, g.left, h.1, h.2, inl k.1))
         ]

@@ -65,8 +65,15 @@ module _ (o : ℕ) (x : List ℕ) (p : ℕ) (y : List ℕ) (last : ℕ) (m : Par
       → read (content id) (p + 1) z ≡ Err e → StopsSections 0 o x e
   content-stops f id i e h =
       let t = rw h at (read-told {A = Section} (content id) (p + 1) z) in
-      let k = f.place in
-      (f.before, f.read_so_far, z, b, f.split ∙ ap (λ (w : List ℕ). f.read_so_far ++ w) here, f.spelled, inr (id, rw f.last_is at i, rw k at t))
+      let k = f.place in (
+        f.before,
+        f.read_so_far,
+        z,
+        b,
+        f.split ∙ ap (λ (w : List ℕ). f.read_so_far ++ w) here,
+        f.spelled,
+        inr (id, rw f.last_is at i, rw k at t),
+      )
 
   pub one-more : Found o x p y last m → (id : SectionKind) → id_of last b ≡ Ok id → (s : Section) (q : ℕ) (w : List ℕ)
       → read (content id) (p + 1) z ≡ got s q w

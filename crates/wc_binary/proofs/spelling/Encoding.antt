@@ -72,7 +72,8 @@ module _ (p : Parts) (k : SectionKind) where
       → Writes (FitsFrom p ks) mid new (bytes_from p ks) r
       → Writes (FitsFrom p (k ∷ ks)) old new (bytes_from p (k ∷ ks)) r
   held-before ks old mid new r h rest =
-      section-before (FitsHeld k (held_by k p)) (FitsFrom p ks) old mid new (held_bytes k (held_by k p)) (bytes_from p ks) r h rest
+      section-before (FitsHeld k (held_by k p)) (FitsFrom p ks) old mid new (held_bytes k (held_by k p))
+      (bytes_from p ks) r h rest
 
 pub section-last : (F : Type 0) (old new bytes : List ℕ) (r : Result (Unit {0}) EncFault) → Writes F old new bytes r
     → Writes (F × Unit {0}) old new (bytes ++ []) r
@@ -113,7 +114,8 @@ pub next-fails : {A : Type 0} (Fits : A → Type 0) (items ys : List A) (v : A) 
     → (mid new bytes old last whole : List ℕ) (e : EncFault)
     → Writes (Fits v) mid new bytes (Err e) → Writes (FitsVector Fits items) old last whole (Err e)
 next-fails Fits items ys v rest is mid new bytes old last whole e h =
-    part-fails (Fits v) (FitsVector Fits items) (λ f. all-of Fits ys v rest (rw is f.1)) mid new bytes old last whole e h
+    part-fails (Fits v) (FitsVector Fits items) (λ f.
+    all-of Fits ys v rest (rw is f.1)) mid new bytes old last whole e h
 
 -- where it has no size, neither has such a vector
 pub next-unmeasured : {A : Type 0} (Fits : A → Type 0) (items ys : List A) (v : A) (rest : List A)

@@ -1,4 +1,5 @@
--- What a style says of the bytes that it admits beside the canonical ones: that they are these, or that they are these or longer.
+-- What a style says of the bytes that it admits beside the canonical ones: that they are these, or that they are these
+-- or longer.
 use Rattle.std.specs.Prelude.{ℤ}
 use Rattle.std.proofs.Common.{◌≡◌, ℕ, ◌^◌, ◌<◌, ◌≤◌, List, ◌++◌, length, inl, inr, refl, ap, arith}
 use Rattle.std.proofs.lemmas.List.{length-append}

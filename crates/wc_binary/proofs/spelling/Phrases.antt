@@ -71,8 +71,14 @@ module _ {A : Type 0} (p : Phrase A) (fit : A → Type 0) (w : A → List ℕ) (
 
   times-written : (vs : List A) → AllByRecursion fit vs → SpellsBy canonical (times (length vs) p) (flat_map w vs) vs
   times-written [] h = (refl, refl)
-  times-written (v ∷ vs) h =
-      (w v, flat_map w vs, v, refl, writes.written v h.0, (flat_map w vs, [], vs, sym (append-nil (flat_map w vs)), times-written vs h.1, (refl, refl)))
+  times-written (v ∷ vs) h = (
+    w v,
+    flat_map w vs,
+    v,
+    refl,
+    writes.written v h.0,
+    (flat_map w vs, [], vs, sym (append-nil (flat_map w vs)), times-written vs h.1, (refl, refl)),
+  )
 
   times-told : (s : Style) (V : List ℕ → List ℕ → Type 0) → Judges s V → (n : ℕ) (b : List ℕ) (vs : List A)
       → SpellsBy s (times n p) b vs → (n ≡ length vs) × AllByRecursion fit vs × V b (flat_map w vs)
@@ -89,8 +95,14 @@ module _ {A : Type 0} (p : Phrase A) (fit : A → Type 0) (w : A → List ℕ) (
   unfolding vector
   vector-writes = record {
     written =
-        λ vs h.
-        (unsigned_bytes (length vs), flat_map w vs, length vs, refl, u32-writes.written (length vs) h.0, times-written vs h.1);
+        λ vs h. (
+          unsigned_bytes (length vs),
+          flat_map w vs,
+          length vs,
+          refl,
+          u32-writes.written (length vs) h.0,
+          times-written vs h.1,
+        );
     told = λ s V j b vs h.
         let n = u32-writes.told s V j h.0 h.2 h.4 in
         let t = times-told s V j h.2 h.1 vs h.5 in

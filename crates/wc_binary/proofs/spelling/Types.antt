@@ -46,7 +46,14 @@ value_type-only x v h =
 pub value_type-writes : HasBytes (of value_type) Anything value_type_bytes
 unfolding value_type
 value_type-writes =
-    byte-writes value_type_of value_type_bytes (elim [ I32 ↦ (0x7F, refl, refl) | I64 ↦ (0x7E, refl, refl) ]) value_type-only
+    byte-writes value_type_of value_type_bytes (elim [
+      | I32 ↦ (0x7F, refl, refl)
+      | I64 ↦ (
+        0x7E,
+        refl,
+        refl,
+      )
+    ]) value_type-only
 
 pub types-writes : HasBytes (of (vector value_type)) (FitsVector Anything) (vector_bytes value_type_bytes)
 types-writes = vector-writes value_type Anything value_type_bytes value_type-writes
@@ -56,19 +63,23 @@ types-writes = vector-writes value_type Anything value_type_bytes value_type-wri
 abbrev func_type_fits : FuncType → Type 0
 func_type_fits s =
     Unit {0} ×
-    (FitsVector Anything s.params × (FitsVector Anything s.results × (s ≡ record { params = s.params; results = s.results })))
+    (FitsVector Anything s.params × (FitsVector Anything s.results
+    × (s ≡ record { params = s.params; results = s.results })))
 
 pub func_type-writes : HasBytes (of func_type) FitsFuncType func_type_bytes
 unfolding func_type
 func_type-writes =
     writes-as (of func_type) func_type_fits FitsFuncType func_type_bytes func_type_bytes
-    (then-writes (byte (only 0x60 WrongType)) (λ _. vector value_type >>= λ ps. vector value_type >>= λ rs. gives (record { params = ps; results = rs }))
+    (then-writes (byte (only 0x60 WrongType)) (λ _. vector value_type >>= λ ps. vector value_type >>= λ rs.
+    gives (record { params = ps; results = rs }))
     Anything (λ _. 0x60 ∷ [])
-    (λ _ s. FitsVector Anything s.params × (FitsVector Anything s.results × (s ≡ record { params = s.params; results = s.results })))
+    (λ _ s. FitsVector Anything s.params × (FitsVector Anything s.results
+    × (s ≡ record { params = s.params; results = s.results })))
     (λ _ s. vector_bytes value_type_bytes s.params ++ vector_bytes value_type_bytes s.results)
     (λ s. tt)
     (only-writes 0x60 WrongType)
-    (λ _. then-writes (vector value_type) (λ ps. vector value_type >>= λ rs. gives (record { params = ps; results = rs }))
+    (λ _. then-writes (vector value_type) (λ ps. vector value_type >>= λ rs.
+    gives (record { params = ps; results = rs }))
     (FitsVector Anything) (vector_bytes value_type_bytes)
     (λ ps s. FitsVector Anything s.results × (s ≡ record { params = ps; results = s.results }))
     (λ ps s. vector_bytes value_type_bytes s.results)
@@ -141,7 +152,8 @@ limits-writes =
     (λ min l. maximum_bytes l.max)
     (λ l. l.min)
     u32-writes
-    (λ min. seen-writes (maximum m) (FitsBehind m) maximum_bytes (maximum-writes m) (λ max. record { min = min; max = max }) (λ l. l.max) (λ max. refl))
+    (λ min. seen-writes (maximum m) (FitsBehind m) maximum_bytes (maximum-writes m) (λ max.
+    record { min = min; max = max }) (λ l. l.max) (λ max. refl))
     (λ s min b v h. sym (ap (λ (x : Limits). x.min) h.5.1)))
     flag-is)
     (λ l h. (h.1.0, h.1.1.0.1)) (λ l h. (tt, (h.0, ((refl, h.1), refl)))) (λ l. refl)
@@ -162,7 +174,8 @@ pub table_type-writes : HasBytes (of table_type) FitsLimits table_type_bytes
 unfolding table_type
 table_type-writes =
     writes-as (of table_type) (λ l. Unit {0} × FitsLimits l) FitsLimits table_type_bytes table_type_bytes
-    (then-writes (byte (only 0x70 WrongType)) (λ _. limits) Anything (λ _. 0x70 ∷ []) (λ _ l. FitsLimits l) (λ _ l. limits_bytes l) (λ l. tt)
+    (then-writes (byte (only 0x70 WrongType)) (λ _. limits) Anything (λ _. 0x70 ∷ []) (λ _ l. FitsLimits l) (λ _ l.
+    limits_bytes l) (λ l. tt)
     (only-writes 0x70 WrongType) (λ _. limits-writes) (λ s u b v h. refl))
     (λ l h. h.1) (λ l h. (tt, h)) (λ l. refl)
 
@@ -178,6 +191,7 @@ global_type-writes =
     (λ t g. flag_bytes g.mutable)
     (λ g. g.ty)
     value_type-writes
-    (λ t. seen-writes flag Anything flag_bytes flag-writes (λ m. record { ty = t; mutable = m }) (λ g. g.mutable) (λ m. refl))
+    (λ t. seen-writes flag Anything flag_bytes flag-writes (λ m. record { ty = t; mutable = m }) (λ g. g.mutable) (λ m.
+    refl))
     (λ s t b v h. sym (ap (λ (x : GlobalType). x.ty) h.5.1)))
     (λ g h. tt) (λ g h. (tt, (tt, refl))) (λ g. refl)

@@ -8,7 +8,8 @@ use Rattle.wc_body.specs.Stored.Rebuilt.{append-empty, append-assoc}
 use Rattle.wc_body.specs.Standard.Grammar.{Grammar, Spells, Opens, SpellsDraft}
 use Rattle.wc_body.proofs.Codes.SpelledMark.{SpellsMark}
 
--- From the first draft, with the first letters before it, whole marks lead to the second, with the second letters left; at most limit are open.
+-- From the first draft, with the first letters before it, whole marks lead to the second, with the second letters left;
+-- at most limit are open.
 pub data Reaches {A P H : Type 0} (g : Grammar A P H) (limit : ℕ) : Draft P H → List A → Draft P H → List A
     → Type 0 where
   here : {d : Draft P H} {a : List A} → Reaches g limit d a d a

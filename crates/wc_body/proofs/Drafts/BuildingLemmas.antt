@@ -82,7 +82,8 @@ module _ {P H : Type 0} where
       (closed-solid d.around d.last a)
 
   turned-closed : (around : List (Frame P H)) (last : Code P H) → in_first_part around ≡ true
-      → (may_end around last ≡ true) × (closed around last ≡ closed (turned around last).around (turned around last).last)
+      → (may_end around last ≡ true) × (closed around last ≡ closed (turned around last).around
+      (turned around last).last)
   turned-closed [] last e = absurd cc
   turned-closed (in_region before r h ∷ around) last e = absurd cc
   turned-closed (in_then before h ∷ around) last e = (refl, refl)

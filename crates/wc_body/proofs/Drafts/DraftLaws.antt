@@ -41,7 +41,8 @@ module _ {P H : Type 0} where
       ap (λ (x : List (Mark P H)). open_marks around x) (flat-append before
       (choice h first (region r g inside next) empty) after)
   close-upto (in_else before h first ∷ around) (choice g a b next) after e =
-      ap (λ (x : List (Mark P H)). open_marks around x) (flat-append before (choice h first (choice g a b next) empty) after)
+      ap (λ (x : List (Mark P H)). open_marks around x) (flat-append before (choice h first (choice g a b next) empty)
+      after)
 
   else-upto : (around : List (Frame P H)) (last : Code P H) (after : List (Mark P H)) → in_first_part around ≡ true
       → upto (turned around last) after ≡ upto (draft around last) (otherwise ∷ after)
@@ -53,7 +54,8 @@ module _ {P H : Type 0} where
   -- a mark that comes stands behind the marks so far
   pub step-upto : (d : Draft P H) (m : Mark P H) (after : List (Mark P H)) → may_stay d m ≡ true
       → upto (step d m) after ≡ upto d (m ∷ after)
-  step-upto d (plain p) after e = ap (λ (x : List (Mark P H)). open_marks d.around x) (flat-append d.last (op p empty) after)
+  step-upto d (plain p) after e = ap (λ (x : List (Mark P H)).
+      open_marks d.around x) (flat-append d.last (op p empty) after)
   step-upto d (begin r h) after e = refl
   step-upto d (begin_if h) after e = refl
   step-upto d otherwise after e = else-upto d.around d.last after e

@@ -87,7 +87,8 @@ signed-is b lt = elim (cases_lt b 64) [
 ]
 
 signed-one : (N b : ℕ) (y : List ℕ) → 7 ≤ N → b < 128 → signed_front N (b ∷ y) ≡ Some (signed_byte b, y)
-signed-one N b y le lt = signed-found N (b ∷ []) y (signed_byte b) ((signed_alone N b (signed_byte b) le).0 (signed-is b lt))
+signed-one N b y le lt = signed-found N (b ∷ []) y (signed_byte b)
+    ((signed_alone N b (signed_byte b) le).0 (signed-is b lt))
 
 -- ---- the entry
 

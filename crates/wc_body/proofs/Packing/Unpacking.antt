@@ -85,12 +85,19 @@ abbrev IsLong : ℕ → Type 0
 IsLong b = (nat_eq b 0x40 ≡ false) × (nat_eq b 0x7F ≡ false) × (nat_eq b 0x7E ≡ false)
 
 not-short : (b : ℕ) → (b < 64) ⊎ (128 ≤ b) → IsLong b
-not-short b (inl lt) =
-    (ne_eqb b 0x40 (λ e. omega (arith, e)), ne_eqb b 0x7F (λ e. omega (arith, e)), ne_eqb b 0x7E (λ e. omega (arith, e)))
-not-short b (inr le) =
-    (ne_eqb b 0x40 (λ e. omega (arith, e)), ne_eqb b 0x7F (λ e. omega (arith, e)), ne_eqb b 0x7E (λ e. omega (arith, e)))
+not-short b (inl lt) = (
+  ne_eqb b 0x40 (λ e. omega (arith, e)),
+  ne_eqb b 0x7F (λ e. omega (arith, e)),
+  ne_eqb b 0x7E (λ e. omega (arith, e)),
+)
+not-short b (inr le) = (
+  ne_eqb b 0x40 (λ e. omega (arith, e)),
+  ne_eqb b 0x7F (λ e. omega (arith, e)),
+  ne_eqb b 0x7E (λ e. omega (arith, e)),
+)
 
-index-found : (i : ℕ) (y : List ℕ) → Fits32 i → block_type_front (signed_bytes (pos i) ++ y) ≡ Some (block_types.Index i, y)
+index-found : (i : ℕ) (y : List ℕ) → Fits32 i → block_type_front (signed_bytes (pos i) ++ y) ≡ Some
+    (block_types.Index i, y)
 index-found i y f =
     let b = signed_bytes-begin i in
     let long = not-short b.0 b.3 in

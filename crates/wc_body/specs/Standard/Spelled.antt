@@ -5,7 +5,8 @@ use Rattle.wc_body.specs.declared.instr.Instr.{Instr}
 use Rattle.wc_body.specs.Standard.Nested.{Code}
 use Rattle.wc_body.specs.Standard.InstructionBytes.{expr_bytes, FitsExpr}
 
--- the body was put behind the others whose canonical bytes these are, those of its end too (Core 1.0, 5.4.6); or none was
+-- the body was put behind the others whose canonical bytes these are, those of its end too (Core 1.0, 5.4.6); or none
+-- was
 abbrev pub AddsSpelled : List (Code Instr BlockType) → List (Code Instr BlockType) → List ℕ → Bool → Type 0
 AddsSpelled row after x false = after ≡ row
 AddsSpelled row after x true =

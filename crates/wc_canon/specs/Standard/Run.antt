@@ -88,7 +88,8 @@ FlushesOnce contents j input old new (Err (Refused f)) = new ≡ old
 FlushesOnce contents j input old new (Err (Read at)) = new ≡ old
 FlushesOnce contents j input old new (Err (Write n)) =
     (b : List ℕ) × IsOutputOf j input b × (n ≤ length b)
-    × Appends (contents (device_inner old)) (contents (device_inner new)) (take n b) × FlushedBehindAll n (length b) old new
+    × Appends (contents (device_inner old)) (contents (device_inner new)) (take n b)
+    × FlushedBehindAll n (length b) old new
 FlushesOnce contents j input old new (Err Memory) = new ≡ old
 
 -- nothing went out without an answer

@@ -84,7 +84,8 @@ abbrev hashes : List Export → List ℕ
 hashes exports = map (λ e. hash_of_name e.name) exports
 
 -- the hash of a name stands among those of exports that have it
-named-once : (q : List ℕ) (exports : List Export) → has_name q exports ≡ true → 1 ≤ times (hash_of_name q) (hashes exports)
+named-once : (q : List ℕ) (exports : List Export) → has_name q exports ≡ true
+    → 1 ≤ times (hash_of_name q) (hashes exports)
 named-once q [] e = absurd cc
 named-once q (x ∷ xs) e = elim (cases_Bool (bytes_eq q x.name)) [
   | inl same ↦
@@ -101,7 +102,8 @@ named-twice : (q : List ℕ) (exports : List Export) (n : ℕ) (e : Export) → 
 named-twice q [] n e at same = absurd cc
 named-twice q (x ∷ xs) zero e at same =
     let this : x ≡ e = cc in
-    let name : hash_of_name x.name ≡ hash_of_name q = ap (λ z. hash_of_name z.name) this ∙ ap (λ z. hash_of_name z) same in
+    let name : hash_of_name x.name ≡ hash_of_name q = ap (λ z. hash_of_name z.name) this
+    ∙ ap (λ z. hash_of_name z) same in
     omega (arith, one-more (hash_of_name x.name) (hash_of_name q) (hashes xs) name)
 named-twice q (x ∷ xs) (suc n) e at same =
     omega (arith, named-twice q xs n e at same)

@@ -18,7 +18,8 @@ verdict-fails [] ys fault e = absurd cc
 verdict-fails (x ∷ xs) ys fault e = e
 
 -- what breaks no rule is not answered
-pub verdict-passes : (xs ys : List (Item × CheckWhy)) {u : Unit {0}} → Ok u ≡ verdict xs → verdict (xs ++ ys) ≡ verdict ys
+pub verdict-passes : (xs ys : List (Item × CheckWhy)) {u : Unit {0}} → Ok u ≡ verdict xs
+    → verdict (xs ++ ys) ≡ verdict ys
 verdict-passes [] ys e = refl
 verdict-passes (x ∷ xs) ys e = absurd cc
 

@@ -56,7 +56,11 @@ run-mutable place start (g ∷ gs) le (suc k) s (suc n) e low high =
 pub settable-run : (globals : List GlobalType) (first end start : ℕ) → 0 < end
     → slice_get (run_starts 0 0 globals) (end - 1) ≡ Some start → start ≤ first → AreSettable globals first end
 settable-run globals first end start some e le =
-    λ n low high. run-mutable 0 0 globals (omega arith) (end - 1) start n e (omega (arith, low, le)) (omega (arith, high, some))
+    λ n low high. run-mutable 0 0 globals (omega arith) (end - 1) start n e (omega (arith, low, le)) (omega (
+      arith,
+      high,
+      some,
+    ))
 
 pub some-number : (n : ℕ) → (n ≡ 0 → ⊥) → 0 < n
 some-number zero other = absurd (other refl)

@@ -57,7 +57,8 @@ signed_bytes-high s n le =
     ∙ ap (λ (x : List ℕ). (128 + group_of s (n % 128)) ∷ x) (sym (bytes_within s (n / 128)))
 
 -- what a number begins with that isn't negative: no byte from 64 to 127
-pub signed_bytes-begin : (n : ℕ) → (b : ℕ) × (rest : List ℕ) × (signed_bytes (pos n) ≡ b ∷ rest) × ((b < 64) ⊎ (128 ≤ b))
+pub signed_bytes-begin : (n : ℕ) → (b : ℕ) × (rest : List ℕ) × (signed_bytes (pos n) ≡ b ∷ rest)
+    × ((b < 64) ⊎ (128 ≤ b))
 signed_bytes-begin n =
     elim (cases_lt n 64) [
       | inl lt ↦ (n, [], signed_bytes-low false n lt, inl lt)

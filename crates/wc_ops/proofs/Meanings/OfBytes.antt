@@ -93,7 +93,8 @@ unfolding meaning
 meaning-is x = record {
   known = λ op. (
     (λ e. find-byte all_ops x op (known-byte x (find_op all_ops x) op e)),
-    (λ e. ap (λ (y : ℕ). known_or y (find_op all_ops y)) (sym e) ∙ ap (λ (o : Option Op). known_or (row op).byte o) (found op).0),
+    (λ e. ap (λ (y : ℕ). known_or y (find_op all_ops y)) (sym e)
+        ∙ ap (λ (o : Option Op). known_or (row op).byte o) (found op).0),
   );
   float = ((λ e. float-byte x (find_op all_ops x) e), (λ e. byte-float x (find_op all_ops x) refl e));
 }

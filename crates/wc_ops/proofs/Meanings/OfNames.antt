@@ -59,5 +59,6 @@ is-other w op h other = λ o. (
 )
 
 -- it means none
-pub is-none : (w : List ℕ) (found : OpByte) → IsOpByte (at_slot w) found → ((op : Op) → found ≢ Known op) → IsNamed w None
+pub is-none : (w : List ℕ) (found : OpByte) → IsOpByte (at_slot w) found → ((op : Op) → found ≢ Known op)
+    → IsNamed w None
 is-none w found h none = λ o. ((λ s. absurd cc), (λ n. absurd (none o (meant w found h o n))))

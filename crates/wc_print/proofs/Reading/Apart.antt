@@ -187,7 +187,8 @@ fields : (m : Module) → Joins (field_items m)
 fields m =
     all type_items a_func_type m.types ⊕ all import_items an_import m.imports ⊕ all func_items a_func m.funcs
     ⊕ all table_items a_table m.tables ⊕ all memory_items a_memory m.mems ⊕ all global_items a_global m.globals
-    ⊕ all export_items an_export m.exports ⊕ a_start m.start ⊕ all elem_items an_elem m.elems ⊕ all data_items a_data m.datas
+    ⊕ all export_items an_export m.exports ⊕ a_start m.start ⊕ all elem_items an_elem m.elems ⊕ all data_items a_data
+    m.datas
 
 pub AreApart-layout : (m : Module) → AreApart false (layout m)
 AreApart-layout m = (refl, (refl, (fields m).joined true (below 0 closing ∷ []) (tt, tt)))

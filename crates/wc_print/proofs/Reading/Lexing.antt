@@ -23,7 +23,8 @@ form closing h = refl
 form (word w) h = IsRun-word w h
 form (number n) h = IsRun-word (decimal n) (word-decimal n h)
 form (integer z) h = IsRun-word (signed_decimal z) (word-signed z h)
-form (part w n) h = IsRun-word (w ++ decimal n) (word-append w (decimal n) h.0 (letters (decimal n) (word-decimal n h.1)))
+form (part w n) h = IsRun-word (w ++ decimal n) (word-append w (decimal n) h.0
+    (letters (decimal n) (word-decimal n h.1)))
 form (quoted bytes) h = (bytes, IsString-escaped bytes h)
 
 -- what a token, or a gap, lets stand before it
@@ -38,7 +39,8 @@ open_before closing rest h = λ f. absurd (omega (arith, f))
 open_before (word w) rest h = no_semicolon w rest h
 open_before (number n) rest h = no_semicolon (decimal n) rest (word-decimal n h)
 open_before (integer z) rest h = no_semicolon (signed_decimal z) rest (word-signed z h)
-open_before (part w n) rest h = no_semicolon (w ++ decimal n) rest (word-append w (decimal n) h.0 (letters (decimal n) (word-decimal n h.1)))
+open_before (part w n) rest h = no_semicolon (w ++ decimal n) rest
+    (word-append w (decimal n) h.0 (letters (decimal n) (word-decimal n h.1)))
 open_before (quoted bytes) rest h = λ f. absurd (omega (arith, f))
 
 run_before : (p : Printed) (rest : List ℕ) → is_run p ≡ false → BeginsNoIdchar (spelled p ++ rest)
@@ -100,7 +102,10 @@ below-append (c ∷ a) b h k = (h.0, below-append a b h.1 k)
 
 below-word : (w : List ℕ) → list_all is_letter w ≡ true → AllByRecursion Below w
 below-word [] e = tt
-below-word (c ∷ w) e = (low (is_idchar c) (list_all is_letter w) c e, below-word w (rest (is_idchar c) (nat_lt c 128) (list_all is_letter w) e))
+below-word (c ∷ w) e = (
+  low (is_idchar c) (list_all is_letter w) c e,
+  below-word w (rest (is_idchar c) (nat_lt c 128) (list_all is_letter w) e),
+)
   where
     low : (a b : Bool) (c : ℕ) → ((a && nat_lt c 128) && b) ≡ true → c < 128
     low true b c e = grind arith
@@ -114,13 +119,15 @@ below-word (c ∷ w) e = (low (is_idchar c) (list_all is_letter w) c e, below-wo
 hex-below : (n : ℕ) → n < 16 → hex n < 128
 hex-below n h = grind arith
 
-escaped-below : (b : ℕ) (s : Bool) → stands b ≡ s → b < 256 → AllByRecursion Below (if s then b ∷ [] else 92 ∷ hex (b / 16) ∷ hex (b % 16) ∷ [])
+escaped-below : (b : ℕ) (s : Bool) → stands b ≡ s → b < 256
+    → AllByRecursion Below (if s then b ∷ [] else 92 ∷ hex (b / 16) ∷ hex (b % 16) ∷ [])
 escaped-below b true e lt = (grind arith, tt)
 escaped-below b false e lt = (omega arith, (hex-below (b / 16) (omega arith), (hex-below (b % 16) (omega arith), tt)))
 
 string-below : (bytes : List ℕ) → AllByRecursion IsByte bytes → AllByRecursion Below (flat_map escaped bytes)
 string-below [] h = tt
-string-below (b ∷ bytes) h = below-append (escaped b) (flat_map escaped bytes) (escaped-below b (stands b) refl h.0) (string-below bytes h.1)
+string-below (b ∷ bytes) h = below-append (escaped b) (flat_map escaped bytes) (escaped-below b (stands b) refl h.0)
+    (string-below bytes h.1)
 
 spelled-below : (p : Printed) → IsSpelled p → AllByRecursion Below (spelled p)
 spelled-below opening h = (omega arith, tt)
@@ -128,8 +135,13 @@ spelled-below closing h = (omega arith, tt)
 spelled-below (word w) h = below-word w (letters w h)
 spelled-below (number n) h = below-word (decimal n) (letters (decimal n) (word-decimal n h))
 spelled-below (integer z) h = below-word (signed_decimal z) (letters (signed_decimal z) (word-signed z h))
-spelled-below (part w n) h = let e = word-append w (decimal n) h.0 (letters (decimal n) (word-decimal n h.1)) in below-word (w ++ decimal n) (letters (w ++ decimal n) e)
-spelled-below (quoted bytes) h = (omega arith, below-append (flat_map escaped bytes) (34 ∷ []) (string-below bytes h) (omega arith, tt))
+spelled-below (part w n) h = let e = word-append w (decimal n) h.0 (letters (decimal n) (word-decimal n h.1)) in
+    below-word (w ++ decimal n) (letters (w ++ decimal n) e)
+spelled-below (quoted bytes) h = (
+  omega arith,
+  below-append (flat_map escaped bytes) (34
+      ∷ []) (string-below bytes h) (omega arith, tt),
+)
 
 spaces-below : (n : ℕ) → AllByRecursion Below (spaces n)
 spaces-below zero = tt
@@ -147,9 +159,11 @@ text-below (i ∷ is) h =
     (below-append (spelled (token_of i)) (text is) (spelled-below (token_of i) h.0) (text-below is h.1))
 
 pub IsUtf8-text : (is : List Item) → AreSpelled is → IsUtf8 (text is)
-IsUtf8-text is h = IsUtf8-from_ascii (text is) (IsAscii-from_all (text is) (All-from_recursion Below (text is) (text-below is h)))
+IsUtf8-text is h = IsUtf8-from_ascii (text is) (IsAscii-from_all (text is)
+    (All-from_recursion Below (text is) (text-below is h)))
 
-pub Lexes-text : (items : List Item) → IsPrintable items → length (text items) ≤ longest → Lexes (text items) (lexemes items)
+pub Lexes-text : (items : List Item) → IsPrintable items → length (text items) ≤ longest
+    → Lexes (text items) (lexemes items)
 Lexes-text items h le = record {
   short = le;
   utf8 = IsUtf8-text items h.spelled;

@@ -26,12 +26,14 @@ digit-hex (suc (suc (suc (suc (suc (suc (suc (suc (suc (suc (suc (suc zero))))))
 digit-hex (suc (suc (suc (suc (suc (suc (suc (suc (suc (suc (suc (suc (suc zero))))))))))))) h = refl
 digit-hex (suc (suc (suc (suc (suc (suc (suc (suc (suc (suc (suc (suc (suc (suc zero)))))))))))))) h = refl
 digit-hex (suc (suc (suc (suc (suc (suc (suc (suc (suc (suc (suc (suc (suc (suc (suc zero))))))))))))))) h = refl
-digit-hex (suc (suc (suc (suc (suc (suc (suc (suc (suc (suc (suc (suc (suc (suc (suc (suc n)))))))))))))))) h = absurd (omega (arith, h))
+digit-hex (suc (suc (suc (suc (suc (suc (suc (suc (suc (suc (suc (suc (suc (suc (suc (suc n)))))))))))))))) h =
+    absurd (omega (arith, h))
 
 IsPlain-stands : (b : ℕ) → stands b ≡ true → IsPlain b
 IsPlain-stands b e = grind (arith, common_steps)
 
-element : (b : ℕ) (s : Bool) → stands b ≡ s → b < 256 → Element (if s then b ∷ [] else 92 ∷ hex (b / 16) ∷ hex (b % 16) ∷ []) (b ∷ [])
+element : (b : ℕ) (s : Bool) → stands b ≡ s → b < 256
+    → Element (if s then b ∷ [] else 92 ∷ hex (b / 16) ∷ hex (b % 16) ∷ []) (b ∷ [])
 element b true e lt = plain b (IsPlain-stands b e)
 element b false e lt =
     let high : b / 16 < 16 = omega arith in
@@ -45,5 +47,6 @@ pub elements : (bytes : List ℕ) → AllByRecursion IsByte bytes → Elements (
 elements [] h = none
 elements (b ∷ bytes) h = more (element b (stands b) refl h.0) (elements bytes h.1)
 
-pub IsString-escaped : (bytes : List ℕ) → AllByRecursion IsByte bytes → IsString (34 ∷ (flat_map escaped bytes ++ 34 ∷ [])) bytes
+pub IsString-escaped : (bytes : List ℕ) → AllByRecursion IsByte bytes
+    → IsString (34 ∷ (flat_map escaped bytes ++ 34 ∷ [])) bytes
 IsString-escaped bytes h = record { body = flat_map escaped bytes; text_is = refl; elements = elements bytes h }

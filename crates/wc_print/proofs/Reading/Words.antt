@@ -49,7 +49,8 @@ right : (a b : Bool) → (a && b) ≡ true → b ≡ true
 right true b e = e
 right false b e = absurd cc
 
-pub all-append : (v w : List ℕ) → list_all is_letter v ≡ true → list_all is_letter w ≡ true → list_all is_letter (v ++ w) ≡ true
+pub all-append : (v w : List ℕ) → list_all is_letter v ≡ true → list_all is_letter w ≡ true
+    → list_all is_letter (v ++ w) ≡ true
 all-append [] w e f = f
 all-append (c ∷ v) w e f = both (is_letter c) _ (left (is_letter c) _ e) (all-append v w (right (is_letter c) _ e) f)
 
@@ -59,7 +60,8 @@ letters (c ∷ w) e = right (not (c == 36)) _ e
 
 pub word-append : (v w : List ℕ) → is_word v ≡ true → list_all is_letter w ≡ true → is_word (v ++ w) ≡ true
 word-append [] w e f = absurd cc
-word-append (c ∷ v) w e f = both (not (c == 36)) _ (left (not (c == 36)) _ e) (all-append (c ∷ v) w (right (not (c == 36)) _ e) f)
+word-append (c ∷ v) w e f = both (not (c == 36)) _ (left (not (c == 36)) _ e) (all-append (c
+    ∷ v) w (right (not (c == 36)) _ e) f)
 
 pub word-decimal : (n : ℕ) → n < 2 ^ 64 → is_word (decimal n) ≡ true
 word-decimal = decimal_by_steps (λ n ds. is_word ds ≡ true)

@@ -38,7 +38,8 @@ tells-is w kind r e =
     let line : Bool = bytes_eq (told r) (printed (below 4 (word w) ∷ [])) in
     let operand : (slice_index r 22 == kind) ≡ true = both-second line (slice_index r 22 == kind) e in
     record {
-      line = (bytes_eq-Decides (told r) (printed (below 4 (word w) ∷ []))).0 (both-first line (slice_index r 22 == kind) e);
+      line = (bytes_eq-Decides (told r) (printed (below 4 (word w)
+          ∷ []))).0 (both-first line (slice_index r 22 == kind) e);
       operand = grind (arith, nat_tests, operand);
     }
 
@@ -194,7 +195,8 @@ unfolding all_kinds all_texts operand_bytes few signed
 texts-told = refl
 
 -- what each list of rows is, one of them is
-kind-test : (test : List (List ℕ) → Bool) (tss : List (List (List ℕ))) (i : ℕ) → list_all test tss ≡ true → i < length tss
+kind-test : (test : List (List ℕ) → Bool) (tss : List (List (List ℕ))) (i : ℕ) → list_all test tss ≡ true
+    → i < length tss
     → test (get_or tss i []) ≡ true
 kind-test test [] i e lt = absurd (omega arith)
 kind-test test (ts ∷ tss) zero e lt = both-first (test ts) _ e

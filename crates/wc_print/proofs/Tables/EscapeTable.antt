@@ -29,7 +29,8 @@ pub both-second : (a b : Bool) → (a && b) ≡ true → b ≡ true
 both-second true b e = e
 both-second false b e = absurd cc
 
-row-told : (rs : List (List ℕ)) (b i : ℕ) → all_told b rs ≡ true → i < length rs → told (get_or rs i []) ≡ escaped (b + i)
+row-told : (rs : List (List ℕ)) (b i : ℕ) → all_told b rs ≡ true → i < length rs
+    → told (get_or rs i []) ≡ escaped (b + i)
 unfolding all_told
 row-told [] b i e lt = absurd (omega arith)
 row-told (r ∷ rs) b zero e lt =
@@ -67,7 +68,8 @@ row-kept : (room : List ℕ) (a b c d at i j k n : ℕ) → i ≡ suc at → j �
 row-kept room a b c d at i j k n ei ej ek fits short =
     let row : List ℕ = a ∷ b ∷ c ∷ d ∷ [] in
     let front : length (take at room) ≡ at = length-take-le at room (omega (arith, fits)) in
-    let within : at + n ≤ length (take at room ++ row) = omega (arith, length-append (take at room) row, front, short) in
+    let within : at + n ≤ length (take at room ++ row) =
+    omega (arith, length-append (take at room) row, front, short) in
     let all : sets room at row ≡ take at room ++ row ++ drop (at + 4) room = sets-eq row room at fits in
     let cut : take (at + n) (sets room at row) ≡ take at room ++ take n row =
     ap (λ (x : List ℕ). take (at + n) x) all ∙ take-append-le (at + n) (take at room ++ row) (drop (at + 4) room) within
@@ -76,7 +78,8 @@ row-kept room a b c d at i j k n ei ej ek fits short =
 
 -- a whole row is written from a place on, and so much of it is kept
 pub row-written : (room row new : List ℕ) (at n : ℕ) → length row ≡ 4 → at + 4 ≤ length room → n ≤ 3
-    → new ≡ set (set (set (set room at (get_or row 0 0)) (at + 1) (get_or row 1 0)) (at + 2) (get_or row 2 0)) (at + 3) (get_or row 3 0)
+    → new ≡ set (set (set (set room at (get_or row 0 0)) (at + 1) (get_or row 1 0)) (at + 2) (get_or row 2 0)) (at + 3)
+    (get_or row 3 0)
     → take (at + n) new ≡ take at room ++ take n row
 row-written room [] new at n four fits short e = absurd (omega arith)
 row-written room (a ∷ []) new at n four fits short e = absurd (omega arith)

@@ -48,7 +48,8 @@ more-put false first new sent waiting more bytes said h e = record {
   out = h.out;
   appends = h.appends;
   counted = h.counted;
-  all = ap (λ (x : List ℕ). x ++ bytes) h.all ∙ append_assoc h.out waiting bytes ∙ ap (λ (x : List ℕ). h.out ++ x) (sym e);
+  all = ap (λ (x : List ℕ). x ++ bytes) h.all ∙ append_assoc h.out waiting bytes
+      ∙ ap (λ (x : List ℕ). h.out ++ x) (sym e);
 }
 more-put true first new sent waiting more bytes said h e = (
   omega (arith, h.0, length-append said bytes),
@@ -57,14 +58,16 @@ more-put true first new sent waiting more bytes said h e = (
 
 -- ---- one step
 
-pub sent-on : (was is : Bool) (first old new : Option (List ℕ)) (sent n : ℕ) (bytes said : List ℕ) → was ≡ false → is ≡ was
+pub sent-on : (was is : Bool) (first old new : Option (List ℕ)) (sent n : ℕ) (bytes said : List ℕ) → was ≡ false
+    → is ≡ was
     → FlowsUnless was first old sent bytes said → Appends old new bytes → n ≡ sent + length bytes
     → FlowsUnless is first new n [] said
 sent-on false false first old new sent n bytes said f g h k e = all-sent first old new sent n bytes said h k e
 sent-on false true first old new sent n bytes said f g h k e = absurd cc
 sent-on true is first old new sent n bytes said f g h k e = absurd cc
 
-pub cut-off : (was is : Bool) (first old new : Option (List ℕ)) (sent n : ℕ) (bytes said : List ℕ) → was ≡ false → is ≡ true
+pub cut-off : (was is : Bool) (first old new : Option (List ℕ)) (sent n : ℕ) (bytes said : List ℕ) → was ≡ false
+    → is ≡ true
     → FlowsUnless was first old sent bytes said
     → (sent ≤ n) × (n ≤ sent + length bytes) × Appends old new (take (n - sent) bytes) → n < sent + length bytes
     → FlowsUnless is first new n [] said
@@ -153,7 +156,13 @@ asked-last first old new sent n more f g lt again flushes unflushed lost h =
 pub none-put : (failed : Bool) (first : Option (List ℕ)) (sent count : ℕ) (bytes : List ℕ) → failed ≡ false → sent ≡ 0
     → count ≡ 0 → FlowsUnless failed first first sent (take count bytes) []
 none-put failed first sent count bytes f e z =
-    let none : Flows first first 0 [] [] = record { out = []; appends = Appends-nil first; counted = refl; all = refl } in
+    let none : Flows first first 0 [] [] = record {
+      out = [];
+      appends = Appends-nil first;
+      counted = refl;
+      all =
+          refl;
+    } in
     rw (f, e, z) none
 
 pub begun : {W : Type 0} (contents : W → Option (List ℕ)) (o : Outlet W) → has_failed o.device.now ≡ false → o.sent ≡ 0
@@ -165,7 +174,8 @@ begun contents o f e z = record {
 }
 
 -- nothing waits
-pub emptied : {W : Type 0} (contents : W → Option (List ℕ)) (first now : Outlet W) (said : List ℕ) → now.waiting.count ≡ 0
+pub emptied : {W : Type 0} (contents : W → Option (List ℕ)) (first now : Outlet W) (said : List ℕ)
+    → now.waiting.count ≡ 0
     → HasSent contents first now (said ++ [])
     → FlowsUnless (has_failed now.device.now) (contents (device_inner first.device.now))
     (contents (device_inner now.device.now)) now.sent [] said

@@ -16,7 +16,8 @@ module _ {F S : Type 0} {Has : F → S → List ℕ → Type 0} where
   pub says-then : {a b : List ℕ} {old mid new : S} → Says Has a old mid → Says Has b mid new → Says Has (a ++ b) old new
   says-then {a = a} {b = b} {new = new} h k = record {
     all = λ first said has.
-        subst (λ (x : List ℕ). Has first new x) (append_assoc said a b) (k.all first (said ++ a) (h.all first said has));
+        subst (λ (x : List ℕ). Has first new x) (append_assoc said a b)
+        (k.all first (said ++ a) (h.all first said has));
   }
 
   -- items, and then others
@@ -34,7 +35,8 @@ module _ {F S : Type 0} {Has : F → S → List ℕ → Type 0} where
   nothing old = record { spelled = tt; bytes = says-none old }
 
   -- words, parentheses and spaces
-  pub literal : (items : List Item) {old new : S} → AreSpelled items → Says Has (printed items) old new → Puts Has items old new
+  pub literal : (items : List Item) {old new : S} → AreSpelled items → Says Has (printed items) old new
+      → Puts Has items old new
   literal items h k = record { spelled = h; bytes = k }
 
   -- a text that is known to be these items
@@ -54,7 +56,8 @@ module _ {F S : Type 0} {Has : F → S → List ℕ → Type 0} where
   leaves-less h k = record { finish = λ new p. k.finish new (chain h p) }
 
   -- some of those that were left, and then others
-  pub leaves-then : {less left all : List Item} {out mid old : S} → Leaves Has less left out mid → Leaves Has left all mid old
+  pub leaves-then : {less left all : List Item} {out mid old : S} → Leaves Has less left out mid
+      → Leaves Has left all mid old
       → Leaves Has less all out old
   leaves-then h k = record { finish = λ new p. k.finish new (h.finish new p) }
 
@@ -69,10 +72,12 @@ module _ {F S : Type 0} {Has : F → S → List ℕ → Type 0} where
   -- over a list by an index: g is what all items put, and f what the first one does
   module _ {A : Type 0} (g : List A → List Item) (f : A → List Item) (none : g [] ≡ [])
       (some : (x : A) (xs : List A) → g (x ∷ xs) ≡ f x ++ g xs) where
-    pub each-less : (xs : List A) (i : ℕ) (x d : A) {all : List Item} {out mid old : S} → x ≡ get_or xs i d → i < length xs
+    pub each-less : (xs : List A) (i : ℕ) (x d : A) {all : List Item} {out mid old : S} → x ≡ get_or xs i d
+        → i < length xs
         → Puts Has (f x) out mid → Leaves Has (g (drop i xs)) all out old → Leaves Has (g (drop (i + 1) xs)) all mid old
     each-less xs i x d {all = all} {out = out} {old = old} is lt h k =
-        let e : g (drop i xs) ≡ f x ++ g (drop (suc i) xs) = ap g (drop-first xs i x d is lt) ∙ some x (drop (suc i) xs) in
+        let e : g (drop i xs) ≡ f x ++ g (drop (suc i) xs) = ap g (drop-first xs i x d is lt)
+        ∙ some x (drop (suc i) xs) in
         rw add-one (leaves-less h (subst (λ (l : List Item). Leaves Has l all out old) e k))
 
     pub each-none : (xs : List A) (i : ℕ) {all : List Item} {out old : S} → length xs ≤ i
@@ -101,7 +106,8 @@ module _ {F S : Type 0} {Has : F → S → List ℕ → Type 0} where
   }
 
   -- what was behind is put
-  pub then-out : {items : List Item} {old mid new : S} {front page : List ℕ} → Puts (Behind Has) items (old, front) (mid, page)
+  pub then-out : {items : List Item} {old mid new : S} {front page : List ℕ}
+      → Puts (Behind Has) items (old, front) (mid, page)
       → Says Has page mid new → Puts (Behind Has) items (old, front) (new, [])
   then-out {page = page} h k = record {
     spelled = h.spelled;
@@ -120,7 +126,8 @@ module _ {F S : Type 0} {Has : F → S → List ℕ → Type 0} where
   page-out {old = old} {page = page} k = then-out (nothing (old, page)) k
 
   -- items with nothing behind
-  pub none-behind : {items : List Item} {old new : S} → Puts Has items old new → Puts (Behind Has) items (old, []) (new, [])
+  pub none-behind : {items : List Item} {old new : S} → Puts Has items old new
+      → Puts (Behind Has) items (old, []) (new, [])
   none-behind {items = items} h = record {
     spelled = h.spelled;
     bytes = record {

@@ -32,7 +32,8 @@ module _ {F S : Type 0} {Has : F → S → List ℕ → Type 0} where
   at-line p h e k = text (below 4 p ∷ []) (h, tt) e k
 
   pub at-inline : (p : Printed) (bytes : List ℕ) (n : ℕ) {old new : S} → IsSpelled p → bytes ≡ printed (below 4 p ∷ [])
-      → n ≡ min (length bytes) 4 → Says Has (take (length bytes - n) (drop n bytes)) old new → Puts Has (after p ∷ []) old new
+      → n ≡ min (length bytes) 4 → Says Has (take (length bytes - n) (drop n bytes)) old new
+      → Puts Has (after p ∷ []) old new
   at-inline p bytes n h e m k = text (after p ∷ []) (h, tt) (cut bytes (spelled p ++ []) n e m) k
 
   -- a word that ends in a number
@@ -59,7 +60,8 @@ bytes-low (suc (suc zero)) = lit< tt
 bytes-low (suc (suc (suc n))) = lit< tt
 
 module _ {F S : Type 0} {Has : F → S → List ℕ → Type 0} where
-  pub align-put : (natural a v : ℕ) {old mid new : S} → a ≢ natural → v ≡ bytes_of a → Says Has (32 ∷ codes "align=") old mid
+  pub align-put : (natural a v : ℕ) {old mid new : S} → a ≢ natural → v ≡ bytes_of a
+      → Says Has (32 ∷ codes "align=") old mid
       → Says Has (decimal v) mid new → Puts Has (align_items natural a) old new
   unfolding is_idchar
   align-put natural a v {mid = mid} {new = new} h is k f =

@@ -14,20 +14,28 @@ use Rattle.wc_print.proofs.Writing.Going.{text, says-then}
 behind : (old ds new : List ℕ) → new ≡ old ++ (32 ∷ ds) → new ≡ old ++ (32 ∷ (ds ++ []))
 behind old ds new e = e ∙ ap (λ (x : List ℕ). old ++ (32 ∷ x)) (sym (append-nil ds))
 
-pub number-put : (n : ℕ) (old new : List ℕ) → n < 2 ^ 32 → new ≡ old ++ (32 ∷ decimal n) → Put (after (number n) ∷ []) old new
+pub number-put : (n : ℕ) (old new : List ℕ) → n < 2 ^ 32 → new ≡ old ++ (32 ∷ decimal n)
+    → Put (after (number n) ∷ []) old new
 number-put n old new lt e = record { spelled = (omega (arith, lt), tt); bytes = behind old (decimal n) new e }
 
 module _ {F S : Type 0} {Has : F → S → List ℕ → Type 0} where
   -- a number of one digit
-  pub digit-put : (n : ℕ) {old new : S} → n < 10 → Says Has (32 ∷ (48 + n) ∷ []) old new → Puts Has (after (number n) ∷ []) old new
+  pub digit-put : (n : ℕ) {old new : S} → n < 10 → Says Has (32 ∷ (48 + n) ∷ []) old new
+      → Puts Has (after (number n) ∷ []) old new
   digit-put n lt k =
-      text (after (number n) ∷ []) (omega (arith, lt), tt) (ap (λ (x : List ℕ). 32 ∷ (x ++ [])) (sym (decimal_digit n lt))) k
+      text (after (number n) ∷ []) (
+        omega (arith, lt),
+        tt,
+      ) (ap (λ (x : List ℕ). 32 ∷ (x ++ [])) (sym (decimal_digit n lt))) k
 
   pub signed_digit-put : (z : ℤ) {old new : S} → le_z (pos 0) z ≡ true → lt_z z (pos 10) ≡ true
       → Says Has (32 ∷ (48 + nat_abs z) ∷ []) old new → Puts Has (after (integer z) ∷ []) old new
   signed_digit-put (pos n) ge lt k =
       let h : n < 10 = grind (arith, lt) in
-      text (after (integer (pos n)) ∷ []) (omega (arith, h), tt) (ap (λ (x : List ℕ). 32 ∷ (x ++ [])) (sym (decimal_digit n h))) k
+      text (after (integer (pos n)) ∷ []) (
+        omega (arith, h),
+        tt,
+      ) (ap (λ (x : List ℕ). 32 ∷ (x ++ [])) (sym (decimal_digit n h))) k
   signed_digit-put (negsuc n) ge lt k = absurd cc
 
   -- digits behind a space

@@ -14,7 +14,8 @@ use Rattle.wc_print.proofs.Writing.Putting.{text}
 use Rattle.wc_print.proofs.Writing.Instructions.{unequal}
 
 -- bytes that are written one behind another, from a place on
-sets-kept : (page vs : List ℕ) (at n : ℕ) → n ≡ at + length vs → n ≤ length page → take n (sets page at vs) ≡ take at page ++ vs
+sets-kept : (page vs : List ℕ) (at n : ℕ) → n ≡ at + length vs → n ≤ length page
+    → take n (sets page at vs) ≡ take at page ++ vs
 sets-kept page vs at n is fits =
     let within : at + length vs ≤ length page = omega (arith, fits, is) in
     let front : length (take at page) ≡ at = length-take-le at page (omega (arith, within)) in
@@ -22,7 +23,8 @@ sets-kept page vs at n is fits =
     ap (λ (x : List ℕ). take n x) (sets-eq vs page at within)
     ∙ take_at (take at page ++ vs) (drop (at + length vs) page) n all
 
-pub one-written : (page : List ℕ) (at a : ℕ) → at + 1 ≤ length page → take (at + 1) (set page at a) ≡ take at page ++ a ∷ []
+pub one-written : (page : List ℕ) (at a : ℕ) → at + 1 ≤ length page → take (at + 1) (set page at a) ≡ take at page ++ a
+    ∷ []
 one-written page at a fits = sets-kept page (a ∷ []) at (at + 1) (omega arith) fits
 
 two-written : (page : List ℕ) (at i a b : ℕ) → i ≡ suc at → at + 2 ≤ length page
@@ -31,7 +33,10 @@ two-written page at i a b is fits = rw is (sets-kept page (a ∷ b ∷ []) at (a
 
 three-written : (page : List ℕ) (at i j a b c : ℕ) → i ≡ suc at → j ≡ suc (suc at) → at + 3 ≤ length page
     → take (at + 3) (set (set (set page at a) i b) j c) ≡ take at page ++ a ∷ b ∷ c ∷ []
-three-written page at i j a b c is js fits = rw (is, js) (sets-kept page (a ∷ b ∷ c ∷ []) at (at + 3) (omega arith) fits)
+three-written page at i j a b c is js fits = rw (
+  is,
+  js,
+) (sets-kept page (a ∷ b ∷ c ∷ []) at (at + 3) (omega arith) fits)
 
 pub one-digit : (page : List ℕ) (at n : ℕ) → at + 1 ≤ length page → n < 10
     → take (at + 1) (set page at (48 + n)) ≡ take at page ++ decimal n

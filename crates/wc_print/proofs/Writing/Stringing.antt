@@ -72,12 +72,14 @@ stand-rest bs at before here =
 
 module _ {F S : Type 0} {Has : F → S → List ℕ → Type 0} where
   -- so many bytes at the front are put
-  pub leaves-behind : (all put : List ℕ) (n : ℕ) {old out : S} → put ≡ flat_map escaped (take n all) → Says Has put old out
+  pub leaves-behind : (all put : List ℕ) (n : ℕ) {old out : S} → put ≡ flat_map escaped (take n all)
+      → Says Has put old out
       → LeavesEscaped Has (drop n all) all out old
   leaves-behind all put n is h = record {
     finish = λ new k.
         says-same
-        (sym (flat_map-append escaped (take n all) (drop n all)) ∙ ap (λ (x : List ℕ). flat_map escaped x) (take-append-drop n all))
+        (sym (flat_map-append escaped (take n all) (drop n all))
+        ∙ ap (λ (x : List ℕ). flat_map escaped x) (take-append-drop n all))
         (says-then (says-same is h) k);
     fewer = omega (arith, length-drop n all);
   }

@@ -27,7 +27,8 @@ not-zero (t ∷ ts) some e = λ f. absurd cc
 module _ {F S : Type 0} {Has : F → S → List ℕ → Type 0} where
   -- values behind a word, where there are some
   pub values-put : (w : List ℕ) (ts : List ValType) {head : List ℕ} {old mid out new : S} → ts ≢ [] → is_word w ≡ true
-      → head ≡ printed (after opening ∷ next (word w) ∷ []) → Says Has head old mid → Puts Has (map type_item ts) mid out
+      → head ≡ printed (after opening ∷ next (word w) ∷ []) → Says Has head old mid
+      → Puts Has (map type_item ts) mid out
       → Says Has (41 ∷ []) out new → Puts Has (values_items w ts) old new
   values-put w [] some h is e k f = absurd (some refl)
   values-put w (t ∷ ts) some h is e k f =
@@ -35,8 +36,10 @@ module _ {F S : Type 0} {Has : F → S → List ℕ → Type 0} where
       (chain k (literal (next closing ∷ []) (tt, tt) f))
 
   -- so many of one type
-  pub count-less : (n : ℕ) (t : ValType) {all : List Item} {out mid old : S} → 0 < n → Puts Has (type_item t ∷ []) out mid
-      → Leaves Has (map type_item (replicate n t)) all out old → Leaves Has (map type_item (replicate (n - 1) t)) all mid old
+  pub count-less : (n : ℕ) (t : ValType) {all : List Item} {out mid old : S} → 0 < n
+      → Puts Has (type_item t ∷ []) out mid
+      → Leaves Has (map type_item (replicate n t)) all out old
+      → Leaves Has (map type_item (replicate (n - 1) t)) all mid old
   count-less zero t lt h k = absurd (omega arith)
   count-less (suc n) t lt h k = rw sub-one (leaves-less h k)
 
@@ -50,5 +53,6 @@ map-append [] b = refl
 map-append (t ∷ a) b = ap (λ (x : List Item). type_item t ∷ x) (map-append a b)
 
 pub map-written : (g : Group) (gs : List Group)
-    → map type_item (written_out (g ∷ gs)) ≡ map type_item (replicate g.count g.value_type) ++ map type_item (written_out gs)
+    → map type_item (written_out (g ∷ gs)) ≡ map type_item (replicate g.count g.value_type) ++ map type_item
+    (written_out gs)
 map-written g gs = map-append (replicate g.count g.value_type) (written_out gs)

@@ -13,12 +13,14 @@ use Rattle.wc_print.proofs.Reading.Apart.{AreApart-layout}
 
 module _ {F S : Type 0} {Has : F → S → List ℕ → Type 0} where
   -- the first line, the fields, and the last line with its end
-  pub whole : (m : Module) {none first mid new : S} → Says Has (codes "(module") none first → Puts Has (field_items m) first mid
+  pub whole : (m : Module) {none first mid new : S} → Says Has (codes "(module") none first
+      → Puts Has (field_items m) first mid
       → Says Has (10 ∷ 41 ∷ 10 ∷ []) mid new → Says Has (text (layout m)) none new
   whole m e h f =
       says-same
       (ap (λ (x : List ℕ). codes "(module" ++ x) (sym (append_assoc (printed (field_items m)) (10 ∷ 41 ∷ []) (10 ∷ [])))
-      ∙ ap (λ (x : List ℕ). codes "(module" ++ (x ++ 10 ∷ [])) (sym (printed-append (field_items m) (below 0 closing ∷ [])))
+      ∙ ap (λ (x : List ℕ). codes "(module" ++ (x ++ 10
+      ∷ [])) (sym (printed-append (field_items m) (below 0 closing ∷ [])))
       ∙ sym (text-printed (layout m)))
       (says-then e (says-then h.bytes f))
 

@@ -14,7 +14,8 @@ pub record Puts {F S : Type 0} (Has : F → S → List ℕ → Type 0) (items : 
   pub bytes : Says Has (printed items) old new
 
 -- what was put, with bytes behind it that were not put yet, as those that are written on a page
-pub record Behind {F S : Type 0} (Has : F → S → List ℕ → Type 0) (first : F) (now : S × List ℕ) (said : List ℕ) : Type 0 where
+pub record Behind {F S : Type 0} (Has : F → S → List ℕ → Type 0) (first : F) (now : S
+    × List ℕ) (said : List ℕ) : Type 0 where
   pub front : List ℕ
   pub has : Has first now.0 front
   pub is : said ≡ front ++ now.1

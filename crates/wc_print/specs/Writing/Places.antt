@@ -20,6 +20,7 @@ abbrev pub line_items : Mark Instr BlockType → List Item
 line_items m = mark_items (λ p. below 4 p) m
 
 -- where the marks that are left are put behind this, each on a line, all are put behind the old
-abbrev pub LeavesLines : {F S : Type 0} → (F → S → List ℕ → Type 0) → (left all : List (Mark Instr BlockType)) → S → S → Type 0
+abbrev pub LeavesLines : {F S : Type 0} → (F → S → List ℕ → Type 0) → (left all : List (Mark Instr BlockType)) → S → S
+    → Type 0
 LeavesLines Has left all out old =
     Leaves Has (flat_map (mark_items (λ p. below 4 p)) left) (flat_map (mark_items (λ p. below 4 p)) all) out old

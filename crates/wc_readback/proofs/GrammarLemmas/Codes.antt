@@ -30,7 +30,8 @@ use Rattle.wc_readback.proofs.GrammarLemmas.Parts.{typeuse-means, head-means}
 
 -- ---- one instruction
 
-memarg-means : (natural offset align : ℕ) → Fits32 offset → Means memarg (offset_signs offset ++ align_signs natural align)
+memarg-means : (natural offset align : ℕ) → Fits32 offset
+    → Means memarg (offset_signs offset ++ align_signs natural align)
 memarg-means natural offset align lt =
     both (maybe-if (offset == 0) (kept-in role.MemOffset _ kind.MemOffset (Offset offset) (says-offset offset lt)))
     (maybe-if (align == natural) (kept-in role.MemAlign _ kind.MemAlign _ (says-align align)))
@@ -48,7 +49,8 @@ labels-means (k ∷ ns) n h lt = first (index-means role.Index k h.0) (some-indi
 
 pub plain-means : (i : Instr) → FitsInstr i → Means (plaininstr role.Plain) (mark_signs (plain i))
 plain-means (instrs.Simple o) h = in-left (op-means role.Plain (ops.Simple o))
-plain-means (instrs.Index o n) h = in-right (in-left (first (op-means role.Plain (ops.Index o)) (index-means role.Index n h)))
+plain-means (instrs.Index o n) h = in-right (in-left (first (op-means role.Plain (ops.Index o))
+    (index-means role.Index n h)))
 plain-means (instrs.BrTable n ns) h =
     in-right (in-right (in-left (first (op-means role.Plain ops.BrTable) (labels-means ns n h.0.1 h.1))))
 plain-means (instrs.CallIndirect n) h =
@@ -57,9 +59,11 @@ plain-means (instrs.Mem o arg) h =
     in-right (in-right (in-right (in-right (in-left
     (first (op-means role.Plain (ops.Mem o)) (memarg-means (memory o).alignment arg.offset arg.align h.1))))))
 plain-means (instrs.I32Const z) h =
-    in-right (in-right (in-right (in-right (in-right (in-left (first (op-means role.Plain ops.I32Const) (literal32-means z h)))))))
+    in-right (in-right (in-right (in-right (in-right (in-left
+    (first (op-means role.Plain ops.I32Const) (literal32-means z h)))))))
 plain-means (instrs.I64Const z) h =
-    in-right (in-right (in-right (in-right (in-right (in-right (first (op-means role.Plain ops.I64Const) (literal64-means z h)))))))
+    in-right (in-right (in-right (in-right (in-right (in-right
+    (first (op-means role.Plain ops.I64Const) (literal64-means z h)))))))
 
 -- ---- nested instructions
 
@@ -104,19 +108,22 @@ flat-same (op i next) after =
     ∙ sym (append_assoc (mark_signs (plain i)) (tree next) (flat_map mark_signs after))
 flat-same (region r t inside next) after =
     ap (λ (x : List Sign). mark_signs (begin r t) ++ x)
-    (flat-same inside (close ∷ flat next after) ∙ ap (λ (x : List Sign). tree inside ++ (end_signs ++ x)) (flat-same next after))
+    (flat-same inside (close ∷ flat next after) ∙ ap (λ (x : List Sign).
+    tree inside ++ (end_signs ++ x)) (flat-same next after))
     ∙ (parts-3 (mark_signs (begin r t)) (tree inside) end_signs (tree next ++ flat_map mark_signs after)
     ∙ sym (append_assoc (mark_signs (begin r t) ++ (tree inside ++ end_signs)) (tree next) (flat_map mark_signs after)))
 flat-same (choice t one two next) after =
     let rest = close ∷ flat next after in
     let last : flat_map mark_signs rest ≡ end_signs ++ (tree next ++ flat_map mark_signs after) =
     ap (λ (x : List Sign). end_signs ++ x) (flat-same next after) in
-    let other : flat_map mark_signs (else_mark two (flat two rest)) ≡ else_signs two (tree two) ++ flat_map mark_signs rest =
+    let other : flat_map mark_signs (else_mark two (flat two rest)) ≡ else_signs two (tree two) ++ flat_map mark_signs
+    rest =
     else-same two rest (flat-same two rest) in
     ap (λ (x : List Sign). mark_signs (begin_if t) ++ x)
     (flat-same one (else_mark two (flat two rest))
     ∙ ap (λ (x : List Sign). tree one ++ x) (other ∙ ap (λ (x : List Sign). else_signs two (tree two) ++ x) last))
-    ∙ (parts-4 (mark_signs (begin_if t)) (tree one) (else_signs two (tree two)) end_signs (tree next ++ flat_map mark_signs after)
+    ∙ (parts-4 (mark_signs (begin_if t)) (tree one) (else_signs two (tree two)) end_signs
+    (tree next ++ flat_map mark_signs after)
     ∙ sym (append_assoc (mark_signs (begin_if t) ++ (tree one ++ (else_signs two (tree two) ++ end_signs)))
     (tree next) (flat_map mark_signs after)))
 

@@ -43,7 +43,8 @@ numbered-append n (s ∷ a) b =
     ap (λ (x : List Item). at n (word s.symbol.kind) ∷ x)
     (ap (λ k. numbered (suc n) (kinds_of a) ++ numbered k (kinds_of b)) (omega arith) ∙ numbered-append (suc n) a b)
 
-before-append : (r : Option Role) (n : ℕ) (s : Sign) (a b c : List Said) → a ++ b ≡ c → said_before r n s a ++ b ≡ said_before r n s c
+before-append : (r : Option Role) (n : ℕ) (s : Sign) (a b c : List Said) → a ++ b ≡ c
+    → said_before r n s a ++ b ≡ said_before r n s c
 before-append None n s a b c e = e
 before-append (Some r) n s a b c e = ap (λ (x : List Said). said_as r n s ∷ x) e
 
@@ -54,7 +55,8 @@ said-append n (s ∷ a) b =
     (ap (λ k. said_from (suc n) a ++ said_from k b) (omega arith) ∙ said-append (suc n) a b)
 
 events-append : (n : ℕ) (a b : List Sign) → events_from n a ++ events_from (length a + n) b ≡ events_from n (a ++ b)
-events-append n a b = sym (map-append event_of (said_from n a) (said_from (length a + n) b)) ∙ ap (map event_of) (said-append n a b)
+events-append n a b = sym (map-append event_of (said_from n a) (said_from (length a + n) b))
+    ∙ ap (map event_of) (said-append n a b)
 
 along : {g : Phrase} {us vs : List Item} {es fs : List Event} → us ≡ vs → es ≡ fs → Derives g us es → Derives g vs fs
 along {g} {us} {vs} {es} {fs} e f d =
@@ -64,16 +66,19 @@ along {g} {us} {vs} {es} {fs} e f d =
 
 -- ---- phrases
 
-pub dropped : (p : Printed) (k : Kind) (v : Value) → Says p (valued k v) → Means (token_phrase k) (silent p (valued k v) ∷ [])
+pub dropped : (p : Printed) (k : Kind) (v : Value) → Says p (valued k v)
+    → Means (token_phrase k) (silent p (valued k v) ∷ [])
 dropped p k v h = record { says = (h, tt); derives = λ n. token refl }
 
-pub kept-in : (r : Role) (p : Printed) (k : Kind) (v : Value) → Says p (valued k v) → Means (Keep r k) (spoken r p (valued k v) ∷ [])
+pub kept-in : (r : Role) (p : Printed) (k : Kind) (v : Value) → Says p (valued k v)
+    → Means (Keep r k) (spoken r p (valued k v) ∷ [])
 kept-in r p k v h = record { says = (h, tt); derives = λ n. keeps refl }
 
 pub both : {a b : Phrase} {us vs : List Sign} → Means a us → Means b vs → Means (a · b) (us ++ vs)
 both {a} {b} {us} {vs} h k = record {
   says = all-append us vs h.says k.says;
-  derives = λ n. along (numbered-append n us vs) (events-append n us vs) (in_turn (h.derives n) (k.derives (length us + n)));
+  derives = λ n. along (numbered-append n us vs) (events-append n us vs)
+      (in_turn (h.derives n) (k.derives (length us + n)));
 }
 
 pub first : {a b : Phrase} {s : Sign} {ss : List Sign} → Means a (s ∷ []) → Means b ss → Means (a · b) (s ∷ ss)
@@ -97,7 +102,8 @@ no-more = record { says = tt; derives = λ n. none }
 pub one-more : {a : Phrase} {us vs : List Sign} → Means a us → Means (Many a) vs → Means (Many a) (us ++ vs)
 one-more {a} {us} {vs} h k = record {
   says = all-append us vs h.says k.says;
-  derives = λ n. along (numbered-append n us vs) (events-append n us vs) (more (h.derives n) (k.derives (length us + n)));
+  derives = λ n. along (numbered-append n us vs) (events-append n us vs)
+      (more (h.derives n) (k.derives (length us + n)));
 }
 
 -- what may be left out is left out
@@ -116,7 +122,8 @@ pub each-then : {A : Type 0} {g : Phrase} (F : A → Type 0) (w : A → List Sig
     → (xs : List A) → AllByRecursion F xs → (ss : List Sign) → Means (Many g) ss → Means (Many g) (flat_map w xs ++ ss)
 each-then F w f [] h ss k = k
 each-then {g = g} F w f (x ∷ xs) h ss k =
-    subst (Means (Many g)) (sym (append_assoc (w x) (flat_map w xs) ss)) (one-more (f x h.0) (each-then F w f xs h.1 ss k))
+    subst (Means (Many g)) (sym (append_assoc (w x) (flat_map w xs) ss))
+    (one-more (f x h.0) (each-then F w f xs h.1 ss k))
 
 pub each : {A : Type 0} {g : Phrase} (F : A → Type 0) (w : A → List Sign) → ((x : A) → F x → Means g (w x))
     → (xs : List A) → AllByRecursion F xs → Means (Many g) (flat_map w xs)

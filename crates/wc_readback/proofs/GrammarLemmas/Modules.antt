@@ -84,7 +84,8 @@ names-means i h =
     (name-means role.ItemName i.name h.1 (utf8-bytes i.name h.1))
 
 desc-means : (t : Desc) → FitsDesc t → Means importdesc (desc_signs t)
-desc-means (descs.Func n) h = in-left (first (kept-means role.Description kind.FuncWord refl) (skip (typeuse-means n h)))
+desc-means (descs.Func n) h = in-left (first (kept-means role.Description kind.FuncWord refl)
+    (skip (typeuse-means n h)))
 desc-means (descs.Table l) h =
     in-right (in-left (first (kept-means role.Description kind.TableWord refl) (skip (tabletype-means l h))))
 desc-means (descs.Memory l) h =
@@ -126,7 +127,8 @@ module _ (d : ℕ) (deep : nesting_limit ≤ d) where
 
   table-field : (l : Limits) → FitsLimits l → Means (The (modulefield d)) (table_signs l)
   table-field l h =
-      by-rule (in-right (in-right (in-right (in-left (first open-means (first (kept-means role.Field kind.TableWord refl)
+      by-rule (in-right (in-right (in-right (in-left (first open-means
+      (first (kept-means role.Field kind.TableWord refl)
       (both exported-means (both (in-right (in-left (tabletype-means l h))) end-means))))))))
 
   memory-field : (l : Limits) → FitsLimits l → Means (The (modulefield d)) (memory_signs l)
@@ -158,7 +160,8 @@ module _ (d : ℕ) (deep : nesting_limit ≤ d) where
 
   place-means : (code : Code Instr BlockType) → FitsExpr code → Means (The (offset d)) (place_signs code)
   place-means code h =
-      by-rule (in-left (first open-means (first (key-means kind.OffsetWord refl) (both (expr-means code h) close-means))))
+      by-rule (in-left (first open-means (first (key-means kind.OffsetWord refl)
+      (both (expr-means code h) close-means))))
 
   elem-field : (e : Elem) → FitsElem e → Means (The (modulefield d)) (elem_signs e)
   elem-field e h =

@@ -64,7 +64,8 @@ natural-means r n lt = kept-in r (number n) kind.Natural32 (Number n) (says-natu
 pub index-means : (r : Role) (n : ℕ) → Fits32 n → Means (index r) (natural r n ∷ [])
 index-means r n lt = in-left (natural-means r n lt)
 
-pub name-means : (r : Role) (bytes : List ℕ) → IsUtf8 bytes → AllByRecursion IsByte bytes → Means (Keep r kind.Name) (name r bytes ∷ [])
+pub name-means : (r : Role) (bytes : List ℕ) → IsUtf8 bytes → AllByRecursion IsByte bytes
+    → Means (Keep r kind.Name) (name r bytes ∷ [])
 name-means r bytes u h = kept-in r (quoted bytes) kind.Name Nothing (says-name bytes u h)
 
 string-by : (bytes : List ℕ) (b : Bool) → Says (quoted bytes) (valued (if b then kind.Name else kind.Text) Nothing)
@@ -149,7 +150,8 @@ locals-means (t ∷ ts) = just (by-rule (in-right (listed kind.LocalWord role.Lo
 
 pub typeuse-means : (n : ℕ) → Fits32 n → Means (The typeuse) (type_use_signs n)
 typeuse-means n lt =
-    by-rule (both (in-right (first open-means (first (key-means kind.TypeWord refl) (first (index-means role.TypeIndex n lt) close-means))))
+    by-rule (both (in-right (first open-means (first (key-means kind.TypeWord refl)
+    (first (index-means role.TypeIndex n lt) close-means))))
     (both no-more no-more))
 
 pub head-means : (t : BlockType) → FitsBlockType t → Means head (block_signs t)

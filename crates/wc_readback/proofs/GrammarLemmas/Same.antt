@@ -99,7 +99,8 @@ heads block_types.Empty = none
 heads (block_types.Value t) = step refl (step refl (step (value role.ResultType t) (step refl none)))
 heads (block_types.Index n) = type-use n
 
-by-test : (b : Bool) (i : Item) (s : Sign) → token_of i ≡ s.token → Same (if b then [] else i ∷ []) (if b then [] else s ∷ [])
+by-test : (b : Bool) (i : Item) (s : Sign) → token_of i ≡ s.token
+    → Same (if b then [] else i ∷ []) (if b then [] else s ∷ [])
 by-test true i s e = none
 by-test false i s e = step e none
 
@@ -159,7 +160,8 @@ global-type false t = step (value role.GlobalType t) none
 global-type true t = step refl (step refl (step (value role.GlobalType t) (step refl none)))
 
 -- `1 funcref`, and then others
-table-type : {items : List Item} {ss : List Sign} (l : Limits) (i : Item) → token_of i ≡ word (key_word kind.FuncrefWord)
+table-type : {items : List Item} {ss : List Sign} (l : Limits) (i : Item)
+    → token_of i ≡ word (key_word kind.FuncrefWord)
     → Same items ss → Same (limits_items l ++ (i ∷ items)) ((limits_signs l ++ (key kind.FuncrefWord ∷ [])) ++ ss)
 table-type {items} {ss} l i e h =
     regroup (regroup-2 (limits_signs l) (key kind.FuncrefWord ∷ []) ss) (both (limits l) (step e h))
@@ -179,8 +181,10 @@ imports i =
 funcs : (f : Func) → Same (func_items f) (func_signs f)
 funcs f =
     step refl (step refl
-    (regroup (regroup-3 (type_use_signs f.ty) (values_signs kind.LocalWord role.LocalType f.locals) (code_signs f.body) (ends ∷ []))
-    (both (type-use f.ty) (both (listed kind.LocalWord role.LocalType f.locals) (both (body f.body) (step refl none))))))
+    (regroup (regroup-3 (type_use_signs f.ty) (values_signs kind.LocalWord role.LocalType f.locals) (code_signs f.body)
+    (ends ∷ []))
+    (both (type-use f.ty) (both (listed kind.LocalWord role.LocalType f.locals)
+    (both (body f.body) (step refl none))))))
 
 tables : (l : Limits) → Same (table_items l) (table_signs l)
 tables l = step refl (step refl (table-type l _ refl (step refl none)))

@@ -30,7 +30,8 @@ module _ (ts : List Lexeme) (all : List Symbol) where
   one (Some r) n s later f g h = (record { text_is = f; symbol_is = g }, h)
 
   pub standing : (size n : ℕ) (items : List Item) (ss : List Sign) → drop n ts ≡ lexemes_in size items
-      → drop n all ≡ symbols_of ss → map token_of items ≡ tokens_of ss → AllByRecursion (StandsIn ts all) (said_from n ss)
+      → drop n all ≡ symbols_of ss → map token_of items ≡ tokens_of ss
+      → AllByRecursion (StandsIn ts all) (said_from n ss)
   standing size n items [] e f h = tt
   standing size n [] (s ∷ ss) e f h = absurd cc
   standing size n (i ∷ items) (s ∷ ss) e f h =

@@ -32,7 +32,8 @@ made k hs us is ls =
 finished : (d : BodyDraft) (k : Draft TextInstr ℕ) (s : Spot) (b : List ℕ) → Holds d k s b
     → ended d ≡ made k s.heads s.uses [] s.labels
 finished d k s b h =
-    ap (λ (x : Draft TextInstr ℕ). made x (settled d).heads (settled d).uses (settled d).ids (settled d).labels) h.code_is
+    ap (λ (x : Draft TextInstr ℕ). made x (settled d).heads (settled d).uses (settled d).ids (settled d).labels)
+    h.code_is
     ∙ (ap (λ (x : List Head). made k x (settled d).uses (settled d).ids (settled d).labels) h.heads_is
     ∙ (ap (λ (x : List TypeUse). made k s.heads x (settled d).ids (settled d).labels) h.uses_is
     ∙ (ap (λ (x : List Identifier). made k s.heads s.uses x (settled d).labels) h.ids_is
@@ -52,6 +53,8 @@ nothing-holds token = record {
 pub told-body : (addresses : ℕ → ℕ × ℕ) (token : ℕ) (code : Code Instr BlockType) → FitsExpr code
     → ended (taken addresses nothing_said (said_from token (code_signs code))) ≡ text_body token code
 told-body addresses token code fits =
-    ap (λ (x : List Sign). ended (taken addresses nothing_said (said_from token x))) (flat-same code [] ∙ append-nil (tree code))
+    ap (λ (x : List Sign). ended (taken addresses nothing_said (said_from token x))) (flat-same code []
+    ∙ append-nil (tree code))
     ∙ finished _ (draft [] (text_code (start token) code)) (behind_code (start token) code) []
-    (tells addresses nothing_said [] empty (start token) [] code fits.0 (let le = fits.1 in omega (arith, le)) (nothing-holds token))
+    (tells addresses nothing_said [] empty (start token) [] code fits.0 (let le = fits.1 in
+    omega (arith, le)) (nothing-holds token))

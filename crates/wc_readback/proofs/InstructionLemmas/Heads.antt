@@ -30,7 +30,8 @@ use Rattle.wc_readback.specs.Instructions.Bodies.{Spot, block_uses, head_type, b
 use Rattle.wc_readback.proofs.InstructionLemmas.Marks.{Holds, number, said-of}
 
 -- one more head, and what it adds to the lists
-one : (d e : BodyDraft) (k : Draft TextInstr ℕ) (s : Spot) (b : List ℕ) (kind : Kind) (m : Mark Instr BlockType) (t : BlockType)
+one : (d e : BodyDraft) (k : Draft TextInstr ℕ) (s : Spot) (b : List ℕ) (kind : Kind) (m : Mark Instr BlockType)
+    (t : BlockType)
     → Holds d k s b → (settled e).code ≡ step (settled d).code (begin_of kind (place_behind (settled d).heads))
     → (settled e).heads ≡ (settled d).heads ++ head_of s.token None (head_type (settled d).uses t) ∷ []
     → (settled e).uses ≡ (settled d).uses ++ block_uses s.token t → (settled e).ids ≡ (settled d).ids
@@ -75,11 +76,13 @@ module _ (addresses : ℕ → ℕ × ℕ) where
       let e = begun d s.token kind true in
       let P : Option ℕ → Type 0 = λ x. Holds (record e {
         written = record (started_use user.Block s.token) { index = Some (index_by x w) };
-      }) (step k (begin_of kind (place_behind s.heads))) (behind_head s m (block_types.Index n)) (place_behind s.heads ∷ b) in
+      }) (step k (begin_of kind (place_behind s.heads))) (behind_head s m (block_types.Index n)) (place_behind s.heads
+      ∷ b) in
       subst P (sym (number n fits)) (one d _ k s b kind m (block_types.Index n) h refl refl refl refl refl refl refl)
 
   -- fewer than may be are open
-  within : (d : BodyDraft) (k : Draft TextInstr ℕ) (s : Spot) (b : List ℕ) → Holds d k s b → length k.around < nesting_limit
+  within : (d : BodyDraft) (k : Draft TextInstr ℕ) (s : Spot) (b : List ℕ) → Holds d k s b
+      → length k.around < nesting_limit
       → true ≡ nat_lt (length (settled d).code.around) nesting_limit
   within d k s b h lt =
       below-by (length k.around) nesting_limit (nat_lt (length k.around) nesting_limit) refl lt
@@ -91,7 +94,8 @@ module _ (addresses : ℕ → ℕ × ℕ) where
       (said_from (suc s.token) (block_signs t)))
       (step k (begin_of kind (place_behind s.heads))) (behind_head s m t) (place_behind s.heads ∷ b)
   begins d k s b kind m t fits lt h =
-      let P : Bool → Type 0 = λ x. Holds (taken addresses (begun d s.token kind x) (said_from (suc s.token) (block_signs t)))
+      let P : Bool → Type 0 = λ x. Holds (taken addresses (begun d s.token kind x)
+      (said_from (suc s.token) (block_signs t)))
       (step k (begin_of kind (place_behind s.heads))) (behind_head s m t) (place_behind s.heads ∷ b) in
       subst P (within d k s b h lt) (opened d k s b kind m t fits h)
 

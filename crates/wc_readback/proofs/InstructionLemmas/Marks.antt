@@ -106,7 +106,8 @@ module _ (addresses : ℕ → ℕ × ℕ) where
   abbrev pub said-of : BodyDraft → Spot → Mark Instr BlockType → BodyDraft
   said-of d s m = taken addresses d (said_from s.token (mark_signs m))
 
-  tables : (f : BodyDraft) (first : ℕ) (ls : List Operand) (ns : List ℕ) (n token : ℕ) → AllByRecursion Fits32 ns → Fits32 n
+  tables : (f : BodyDraft) (first : ℕ) (ls : List Operand) (ns : List ℕ) (n token : ℕ) → AllByRecursion Fits32 ns
+      → Fits32 n
       → taken addresses (tabled f first ls) (said_from token (naturals role.Index ns ++ (natural role.Index n ∷ [])))
       ≡ tabled f first (ls ++ (map operand.Number ns ++ operand.Number n ∷ []))
   tables f first ls [] n token h lt =
@@ -131,7 +132,8 @@ module _ (addresses : ℕ → ℕ × ℕ) where
       → Holds d k s b
       → Holds (taken addresses d (said_from s.token (op_sign role.Plain (ops.Mem o)
       ∷ ((if bo then [] else offset_sign arg.offset ∷ []) ++ (if ba then [] else align_sign arg.align ∷ [])))))
-      (step k (plain (text.Access o (if ba then None else Some (exponent_of arg.align)) (if bo then None else Some arg.offset))))
+      (step k (plain (text.Access o (if ba then None else Some (exponent_of arg.align))
+      (if bo then None else Some arg.offset))))
       (behind s (plain (instrs.Mem o arg))) b
   accesses d k s b o arg true true h =
       one d _ k s b (instrs.Mem o arg) _ h refl refl (sym (append-nil _)) refl (sym (append-nil _)) refl refl
@@ -139,14 +141,17 @@ module _ (addresses : ℕ → ℕ × ℕ) where
       one d _ k s b (instrs.Mem o arg) _ h refl refl (sym (append-nil _)) refl (sym (append-nil _)) refl refl
   accesses d k s b o arg true false h =
       let f = record (settled d) { waits = false; awaiting = awaiting.MemArg o None None } in
-      let P : Bool → Type 0 = λ t. Holds (if t then await (awaiting.MemArg o (Some (exponent_of arg.align)) None) f else f)
+      let P : Bool → Type 0 = λ t. Holds (if t then await (awaiting.MemArg o (Some (exponent_of arg.align)) None) f else
+      f)
       (step k (plain (text.Access o (Some (exponent_of arg.align)) None))) (behind s (plain (instrs.Mem o arg))) b in
       subst P (sym (low arg.align))
       (one d _ k s b (instrs.Mem o arg) _ h refl refl (sym (append-nil _)) refl (sym (append-nil _)) refl refl)
   accesses d k s b o arg false false h =
       let f = record (settled d) { waits = false; awaiting = awaiting.MemArg o None (Some arg.offset) } in
-      let P : Bool → Type 0 = λ t. Holds (if t then await (awaiting.MemArg o (Some (exponent_of arg.align)) (Some arg.offset)) f else f)
-      (step k (plain (text.Access o (Some (exponent_of arg.align)) (Some arg.offset)))) (behind s (plain (instrs.Mem o arg))) b in
+      let P : Bool → Type 0 = λ t. Holds (if t then await (awaiting.MemArg o (Some (exponent_of arg.align))
+      (Some arg.offset)) f else f)
+      (step k (plain (text.Access o (Some (exponent_of arg.align)) (Some arg.offset))))
+      (behind s (plain (instrs.Mem o arg))) b in
       subst P (sym (low arg.align))
       (one d _ k s b (instrs.Mem o arg) _ h refl refl (sym (append-nil _)) refl (sym (append-nil _)) refl refl)
 
@@ -156,7 +161,8 @@ module _ (addresses : ℕ → ℕ × ℕ) where
       one d _ k s b (instrs.Simple o) _ h refl refl (sym (append-nil _)) refl (sym (append-nil _)) refl refl
   plains d k s b (instrs.Index o n) fits h =
       one d _ k s b (instrs.Index o n) _ h
-      (ap (λ (x : Option ℕ). step (settled d).code (plain (text.Index o (operand_by x (settled d).ids)))) (number n fits))
+      (ap (λ (x : Option ℕ). step (settled d).code (plain (text.Index o (operand_by x (settled d).ids))))
+      (number n fits))
       refl (sym (append-nil _))
       (ap (λ (x : Option ℕ). ids_by x (word_of addresses (said_as role.Index (suc s.token) (natural role.Index n)))
       (settled d).ids) (number n fits))

@@ -65,7 +65,8 @@ parts : (a b c d : List Sign) → a ++ (b ++ (c ++ d)) ≡ (a ++ (b ++ c)) ++ d
 parts a b c d = simp append_assoc refl
 
 module _ (addresses : ℕ → ℕ × ℕ) where
-  taken-append : (d : BodyDraft) (a b : List Said) → taken addresses d (a ++ b) ≡ taken addresses (taken addresses d a) b
+  taken-append : (d : BodyDraft) (a b : List Said)
+      → taken addresses d (a ++ b) ≡ taken addresses (taken addresses d a) b
   taken-append d [] b = refl
   taken-append d (x ∷ a) b = taken-append (take d x.role (word_of addresses x)) a b
 
@@ -78,7 +79,8 @@ module _ (addresses : ℕ → ℕ × ℕ) where
       sym (taken-append d (said_from n a) (said_from (length a + n) b)) ∙ ap (taken addresses d) (said-append n a b)
 
   -- first these, and then those
-  then-holds : {k : Draft TextInstr ℕ} {s : Spot} {b : List ℕ} (d : BodyDraft) (n m : ℕ) (us vs : List Sign) → m ≡ length us + n
+  then-holds : {k : Draft TextInstr ℕ} {s : Spot} {b : List ℕ} (d : BodyDraft) (n m : ℕ) (us vs : List Sign)
+      → m ≡ length us + n
       → Holds (told (told d n us) m vs) k s b → Holds (told d n (us ++ vs)) k s b
   then-holds {k} {s} {b} d n m us vs e h =
       subst (λ (x : BodyDraft). Holds x k s b) (ap (λ j. told (told d n us) j vs) e ∙ split d n us vs) h
@@ -108,7 +110,8 @@ module _ (addresses : ℕ → ℕ × ℕ) where
 
   -- an else part with an instruction, and the end
   other-part : (two : Code Instr BlockType) → Tells two → (d : BodyDraft) (around : List (Frame TextInstr ℕ))
-      (last first : Code TextInstr ℕ) (p : ℕ) (s : Spot) (b : List ℕ) → nesting two + suc (length around) ≤ nesting_limit
+      (last first : Code TextInstr ℕ) (p : ℕ) (s : Spot) (b : List ℕ)
+      → nesting two + suc (length around) ≤ nesting_limit
       → Holds d (draft (in_then last p ∷ around) first) s (p ∷ b)
       → Holds (told d s.token (mark_signs otherwise ++ (tree two ++ end_signs)))
       (draft around (last ⧺ choice p first (text_code (behind s otherwise) two) empty))
@@ -117,14 +120,16 @@ module _ (addresses : ℕ → ℕ × ℕ) where
       let s1 = behind s otherwise in
       let d1 = told d s.token (mark_signs otherwise) in
       let inner = in_else last p first ∷ around in
-      let told-two = tell d1 inner empty s1 (p ∷ b) le (turns addresses d (draft (in_then last p ∷ around) first) s p b h) in
+      let told-two = tell d1 inner empty s1 (p ∷ b) le (turns addresses d (draft (in_then last p
+      ∷ around) first) s p b h) in
       then-holds d s.token s1.token (mark_signs otherwise) (tree two ++ end_signs) refl
       (then-holds d1 s1.token (behind_code s1 two).token (tree two) end_signs (token-behind s1 two)
       (ends addresses (told d1 s1.token (tree two)) (draft inner (text_code s1 two)) (behind_code s1 two) p b told-two))
 
   -- an else part that may be empty, and the end
   else-part : (two : Code Instr BlockType) → Tells two → (d : BodyDraft) (around : List (Frame TextInstr ℕ))
-      (last first : Code TextInstr ℕ) (p : ℕ) (s : Spot) (b : List ℕ) → nesting two + suc (length around) ≤ nesting_limit
+      (last first : Code TextInstr ℕ) (p : ℕ) (s : Spot) (b : List ℕ)
+      → nesting two + suc (length around) ≤ nesting_limit
       → Holds d (draft (in_then last p ∷ around) first) s (p ∷ b)
       → Holds (told d s.token (else_signs two (tree two) ++ end_signs))
       (draft around (last ⧺ choice p first (text_code (behind_else two s) two) empty))
@@ -145,7 +150,10 @@ module _ (addresses : ℕ → ℕ × ℕ) where
       let s1 = behind s (plain i) in
       then-holds d s.token s1.token (mark_signs (plain i)) (tree next) refl
       (alike (append-assoc last (op (text_instr s i) empty) (text_code s1 next))
-      (tells (said-of addresses d s (plain i)) around (last ⧺ op (text_instr s i) empty) s1 b next fits.1 (omega (arith, le))
+      (tells (said-of addresses d s (plain i)) around (last ⧺ op (text_instr s i) empty) s1 b next fits.1 (omega (
+        arith,
+        le,
+      ))
       (plains addresses d (draft around last) s b i fits.0 h)))
   tells d around last s b (region r t inside next) fits le h =
       let m = mark_signs (begin r t) in
@@ -166,7 +174,10 @@ module _ (addresses : ℕ → ℕ × ℕ) where
       (then-holds d1 s1.token s2.token (tree inside) (end_signs ++ tree next) (token-behind s1 inside)
       (then-holds d2 s2.token s3.token end_signs (tree next) refl
       (alike (append-assoc last (region r p within empty) after)
-      (tells (told d2 s2.token end_signs) around (last ⧺ region r p within empty) s3 b next fits.2 (omega (arith, le)) ended)))))
+      (tells (told d2 s2.token end_signs) around (last ⧺ region r p within empty) s3 b next fits.2 (omega (
+        arith,
+        le,
+      )) ended)))))
   tells d around last s b (choice t one two next) fits le h =
       let m = mark_signs (begin_if t) in
       let p = place_behind s.heads in

@@ -64,8 +64,10 @@ not-false false e = absurd cc
 each-none : {X : Type 0} (f : ℕ → X → List (Item × CheckWhy)) (F : X → Type 0) → ((n : ℕ) (x : X) → f n x ≡ [] → F x)
     → (n : ℕ) (xs : List X) → each f n xs ≡ [] → AllByRecursion F xs
 each-none f F g n [] e = tt
-each-none f F g n (x ∷ xs) e =
-    (g n x (front-none (f n x) (each f (n + 1) xs) e), each-none f F g (n + 1) xs (back-none (f n x) (each f (n + 1) xs) e))
+each-none f F g n (x ∷ xs) e = (
+  g n x (front-none (f n x) (each f (n + 1) xs) e),
+  each-none f F g (n + 1) xs (back-none (f n x) (each f (n + 1) xs) e),
+)
 
 all-front : {A : Type 0} (F : A → Type 0) (xs ys : List A) → AllByRecursion F (xs ++ ys) → AllByRecursion F xs
 all-front F [] ys h = tt

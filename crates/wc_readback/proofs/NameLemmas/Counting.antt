@@ -76,7 +76,8 @@ right-few : (xs ys : List Sign) (n : ℕ) → length (xs ++ ys) ≤ n → length
 right-few xs ys n h = omega (arith, length-append xs ys, h)
 
 -- each member of a list
-each-few : {A : Type 0} (w : A → List Sign) (F : A → Type 0) (n : ℕ) → ((x : A) → length (w x) ≤ n → F x) → (xs : List A)
+each-few : {A : Type 0} (w : A → List Sign) (F : A → Type 0) (n : ℕ) → ((x : A) → length (w x) ≤ n → F x)
+    → (xs : List A)
     → length (flat_map w xs) ≤ n → AllByRecursion F xs
 each-few w F n f [] h = tt
 each-few w F n f (x ∷ xs) h =
@@ -133,7 +134,8 @@ bodies-few m lt =
     let s7 = right-few (flat_map export_signs m.exports) _ n s6 in
     let s8 = right-few (start_signs m.start) _ n s7 in
     record {
-      funcs = each-few func_signs (λ f. Few f.body) n (func-few n lt) m.funcs (left-few (flat_map func_signs m.funcs) _ n s2);
+      funcs = each-few func_signs (λ f. Few f.body) n (func-few n lt) m.funcs
+          (left-few (flat_map func_signs m.funcs) _ n s2);
       globals = each-few global_signs (λ g. Few g.init) n (global-few n lt) m.globals
           (left-few (flat_map global_signs m.globals) _ n s5);
       elems = each-few elem_signs (λ e. Few e.offset) n (elem-few n lt) m.elems

@@ -46,7 +46,8 @@ use Rattle.wc_readback.proofs.NameLemmas.BodiesBack.{body-back, body-clean}
 -- ---- the fields of one kind give the list of this kind
 
 module _ {A : Type 0} (f : ℕ → A → Field) (w : A → List Sign) (Q : A → Type 0) where
-  pub gathered : (g : Field → List A) → ((n : ℕ) (x : A) → Q x → g (f n x) ≡ x ∷ []) → (xs : List A) → AllByRecursion Q xs
+  pub gathered : (g : Field → List A) → ((n : ℕ) (x : A) → Q x → g (f n x) ≡ x ∷ []) → (xs : List A)
+      → AllByRecursion Q xs
       → (rest : ℕ → List Field) → ((n : ℕ) → flat_map g (rest n) ≡ []) → (n : ℕ) → flat_map g (along f w n xs rest) ≡ xs
   gathered g one [] q rest r n = r n
   gathered g one (x ∷ xs) q rest r n =
@@ -54,7 +55,8 @@ module _ {A : Type 0} (f : ℕ → A → Field) (w : A → List Sign) (Q : A →
       ∙ ap (λ (ys : List A). x ∷ ys) (gathered g one xs q.1 rest r (behind (w x) n))
 
   -- the same where it is known how much was declared before
-  pub counted-up : (g : Counts → Field → List A) → ((c : Counts) (n : ℕ) (x : A) → Q x → g c (f n x) ≡ x ∷ []) → (xs : List A)
+  pub counted-up : (g : Counts → Field → List A) → ((c : Counts) (n : ℕ) (x : A) → Q x → g c (f n x) ≡ x ∷ [])
+      → (xs : List A)
       → AllByRecursion Q xs → (rest : ℕ → List Field) → ((n : ℕ) (c : Counts) → counted g c (rest n) ≡ [])
       → (n : ℕ) (c : Counts) → counted g c (along f w n xs rest) ≡ xs
   counted-up g one [] q rest r n c = r n c
@@ -93,12 +95,14 @@ made-func ty ls x = record { ty = ty; locals = ls; body = x }
 module _ (all : List Field) (k : ℕ) where
   pub constant-back : (n : ℕ) (x : Code Instr BlockType) → KnownCode k x → constant_of all (text_body n x) ≡ x
   constant-back n x h =
-      body-back (context_of all [] (text_body n x)) (texts (space kind.Type all)) (map key_of (types_of all)) k n x h refl
+      body-back (context_of all [] (text_body n x)) (texts (space kind.Type all)) (map key_of (types_of all)) k n x h
+      refl
 
   pub constant-clean : (n : ℕ) (x : Code Instr BlockType) → KnownCode k x → constant_faults all (text_body n x) ≡ []
   constant-clean n x h = body-clean (context_of all [] (text_body n x)) k n x h
 
-  pub import-by : (n : ℕ) (i : Import) (d : Desc) → field_imports all (import_field n (record i { desc = d })) ≡ record i { desc = d } ∷ []
+  pub import-by : (n : ℕ) (i : Import) (d : Desc)
+      → field_imports all (import_field n (record i { desc = d })) ≡ record i { desc = d } ∷ []
   import-by n i (descs.Func t) = refl
   import-by n i (descs.Table l) = refl
   import-by n i (descs.Memory l) = refl
@@ -119,7 +123,8 @@ module _ (all : List Field) (k : ℕ) where
       let token = behind (values_signs syntax.LocalWord role.LocalType f.locals) after in
       let b = text_body token f.body in
       func-parts f.ty _ f.locals _ f.body (same-locals (suc (suc after)) f.locals)
-      (body-back (func_context all u ls b) (texts (space kind.Type all)) (map key_of (types_of all)) k token f.body h.2 refl)
+      (body-back (func_context all u ls b) (texts (space kind.Type all)) (map key_of (types_of all)) k token f.body h.2
+      refl)
 
   pub func-clean : (n : ℕ) (f : Func) → KnownFunc k f → field_func_faults all (func_field n f) ≡ []
   func-clean n f h =
@@ -150,7 +155,8 @@ module _ (all : List Field) (k : ℕ) where
       let code = suc (suc (suc (suc (suc n)))) in
       let after = suc (behind (code_signs e.offset) code) in
       let ds = declared_in kind.Func all in
-      ap (λ (x : List (Fault NameWhy)). x ++ unknown_of ds (indices_along after e.funcs)) (constant-clean code e.offset h)
+      ap (λ (x : List (Fault NameWhy)). x ++ unknown_of ds (indices_along after e.funcs))
+      (constant-clean code e.offset h)
       ∙ known-indices ds after e.funcs
 
   pub data-one : (c : Counts) (n : ℕ) (d : Data) → KnownData k d → field_datas all c (data_field n d) ≡ d ∷ []

@@ -177,7 +177,8 @@ module _ (c : Context) (b : TextBody) (index : TypeUse → ℕ) (same : (u : Use
       ap (λ (k : ℕ). get_or c.uses k 0) (place-is before (use_at u t n ∷ more) b.uses e room.uses)
       ∙ (ap (λ (us : List ℕ). get_or us (length before) 0)
       (uses-are ∙ ap (map index) e ∙ map-append index before (use_at u t n ∷ more))
-      ∙ (ap (λ (k : ℕ). get_or (map index before ++ index (use_at u t n) ∷ map index more) k 0) (sym (length-map before index))
+      ∙ (ap (λ (k : ℕ). get_or (map index before ++ index (use_at u t n)
+      ∷ map index more) k 0) (sym (length-map before index))
       ∙ (get_or-append_seam (map index before) (index (use_at u t n)) (map index more) 0 ∙ same u t n)))
 
   pub instr-back : (k : ℕ) (s : Spot) (ls : Declared) (i : Instr) → KnownInstr k i → Reached (behind s (plain i)) b

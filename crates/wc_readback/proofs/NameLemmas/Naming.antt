@@ -59,7 +59,8 @@ module _ (m : Module) (h : Known m) (all : List Field) where
   same-imports : flat_map (field_imports all) (text_fields m) ≡ m.imports
   same-imports =
       over type_field type_signs AllImports (λ n x fs r. r) m.types _ (
-      gathered import_field import_signs Any (field_imports all) (import-one all count) m.imports (all-any m.imports) _ (
+      gathered import_field import_signs Any (field_imports all) (import-one all count) m.imports (all-any m.imports) _
+      (
       over func_field func_signs NoImports (λ n x fs r. r) m.funcs _ (
       over table_field table_signs NoImports (λ n x fs r. r) m.tables _ (
       over memory_field memory_signs NoImports (λ n x fs r. r) m.mems _ (
@@ -139,7 +140,8 @@ module _ (m : Module) (h : Known m) (all : List Field) where
       over func_field func_signs AllGlobals (λ n x fs r. r) m.funcs _ (
       over table_field table_signs AllGlobals (λ n x fs r. r) m.tables _ (
       over memory_field memory_signs AllGlobals (λ n x fs r. r) m.mems _ (
-      gathered global_field global_signs (KnownGlobal count) (field_globals all) (global-one all count) m.globals h.globals _ (
+      gathered global_field global_signs (KnownGlobal count) (field_globals all) (global-one all count) m.globals
+      h.globals _ (
       over export_field export_signs NoGlobals (λ n x fs r. r) m.exports _ (
       onward-start NoGlobals (λ n i fs r. r) m.start _ (
       over elem_field elem_signs NoGlobals (λ n x fs r. r) m.elems _ (
@@ -162,7 +164,8 @@ module _ (m : Module) (h : Known m) (all : List Field) where
       counted-up export_field export_signs Any (field_exports all) (λ c n x q. refl) m.exports (all-any m.exports) _ (
       onward-start NoExports (λ n i fs r c. r (counts_after c (start_field n i))) m.start _ (
       over elem_field elem_signs NoExports (λ n x fs r c. r (counts_after c (elem_field n x))) m.elems _ (
-      over data_field data_signs NoExports (λ n x fs r c. r (counts_after c (data_field n x))) m.datas _ (λ n c. refl)))))))))) 2 no_counts
+      over data_field data_signs NoExports (λ n x fs r c. r (counts_after c (data_field n x))) m.datas _ (λ n c.
+      refl)))))))))) 2 no_counts
 
   abbrev NoElems : List Field → Type 0
   NoElems fs = (c : Counts) → counted (field_elems all) c fs ≡ []
@@ -181,7 +184,8 @@ module _ (m : Module) (h : Known m) (all : List Field) where
       over export_field export_signs AllElems (λ n x fs r c. r (counts_after c (export_field n x))) m.exports _ (
       onward-start AllElems (λ n i fs r c. r (counts_after c (start_field n i))) m.start _ (
       counted-up elem_field elem_signs (KnownElem count) (field_elems all) (elem-one all count) m.elems h.elems _ (
-      over data_field data_signs NoElems (λ n x fs r c. r (counts_after c (data_field n x))) m.datas _ (λ n c. refl)))))))))) 2 no_counts
+      over data_field data_signs NoElems (λ n x fs r c. r (counts_after c (data_field n x))) m.datas _ (λ n c.
+      refl)))))))))) 2 no_counts
 
   abbrev AllDatas : List Field → Type 0
   AllDatas fs = (c : Counts) → counted (field_datas all) c fs ≡ m.datas
@@ -197,7 +201,8 @@ module _ (m : Module) (h : Known m) (all : List Field) where
       over export_field export_signs AllDatas (λ n x fs r c. r (counts_after c (export_field n x))) m.exports _ (
       onward-start AllDatas (λ n i fs r c. r (counts_after c (start_field n i))) m.start _ (
       over elem_field elem_signs AllDatas (λ n x fs r c. r (counts_after c (elem_field n x))) m.elems _ (
-      counted-up data_field data_signs (KnownData count) (field_datas all) (data-one all count) m.datas h.datas _ (λ n c. refl)))))))))) 2 no_counts
+      counted-up data_field data_signs (KnownData count) (field_datas all) (data-one all count) m.datas h.datas _
+      (λ n c. refl)))))))))) 2 no_counts
 
   -- ---- the start function
 
@@ -210,7 +215,8 @@ module _ (m : Module) (h : Known m) (all : List Field) where
       over elem_field elem_signs (λ fs. start_from all known fs ≡ known) (λ n x fs r. r) m.elems _ (
       over data_field data_signs (λ fs. start_from all known fs ≡ known) (λ n x fs r. r) m.datas _ (λ n. refl))
 
-  start-at : (s : Option ℕ) (n : ℕ) → start_from all None (start_along n s (λ n. along elem_field elem_signs n m.elems (λ n.
+  start-at : (s : Option ℕ) (n : ℕ) → start_from all None (start_along n s (λ n.
+      along elem_field elem_signs n m.elems (λ n.
       along data_field data_signs n m.datas (λ n. [])))) ≡ s
   start-at None n = segments-start None n
   start-at (Some i) n = segments-start (Some i) (behind (start_signs (Some i)) n)
@@ -237,7 +243,9 @@ module _ (m : Module) (h : Known m) (all : List Field) where
       over func_field func_signs CleanGlobals (λ n x fs r. r) m.funcs _ (
       over table_field table_signs CleanGlobals (λ n x fs r. r) m.tables _ (
       over memory_field memory_signs CleanGlobals (λ n x fs r. r) m.mems _ (
-      onward global_field global_signs (KnownGlobal count) CleanGlobals (λ n x fs q r. first-clean (global_faults all) (global_field n x) fs (global-clean all count n x q) r) m.globals h.globals _ (
+      onward global_field global_signs (KnownGlobal count) CleanGlobals (λ n x fs q r.
+      first-clean (global_faults all) (global_field n x) fs (global-clean all count n x q) r) m.globals h.globals _
+      (
       over export_field export_signs CleanGlobals (λ n x fs r. r) m.exports _ (
       onward-start CleanGlobals (λ n i fs r. r) m.start _ (
       over elem_field elem_signs CleanGlobals (λ n x fs r. r) m.elems _ (
@@ -288,7 +296,8 @@ module _ (m : Module) (h : Known m) (all : List Field) where
       over global_field global_signs CleanElems (λ n x fs r. r) m.globals _ (
       over export_field export_signs CleanElems (λ n x fs r. r) m.exports _ (
       onward-start CleanElems (λ n i fs r. r) m.start _ (
-      onward elem_field elem_signs (KnownElem count) CleanElems (λ n x fs q r. first-clean (elem_faults all) (elem_field n x) fs (elem-clean all count n x q) r) m.elems h.elems _ (
+      onward elem_field elem_signs (KnownElem count) CleanElems (λ n x fs q r.
+      first-clean (elem_faults all) (elem_field n x) fs (elem-clean all count n x q) r) m.elems h.elems _ (
       over data_field data_signs CleanElems (λ n x fs r. r) m.datas _ (λ n. refl)))))))))) 2
 
   abbrev CleanDatas : List Field → Type 0
@@ -305,7 +314,9 @@ module _ (m : Module) (h : Known m) (all : List Field) where
       over export_field export_signs CleanDatas (λ n x fs r. r) m.exports _ (
       onward-start CleanDatas (λ n i fs r. r) m.start _ (
       over elem_field elem_signs CleanDatas (λ n x fs r. r) m.elems _ (
-      onward data_field data_signs (KnownData count) CleanDatas (λ n x fs q r. first-clean (data_faults all) (data_field n x) fs (data-clean all count n x q) r) m.datas h.datas _ (λ n. refl)))))))))) 2
+      onward data_field data_signs (KnownData count) CleanDatas (λ n x fs q r.
+      first-clean (data_faults all) (data_field n x) fs (data-clean all count n x q) r) m.datas h.datas _ (λ n.
+      refl)))))))))) 2
 
   abbrev CleanFuncs : List Field → Type 0
   CleanFuncs fs = flat_map (field_func_faults all) fs ≡ []
@@ -314,7 +325,8 @@ module _ (m : Module) (h : Known m) (all : List Field) where
   clean-funcs =
       over type_field type_signs CleanFuncs (λ n x fs r. r) m.types _ (
       over import_field import_signs CleanFuncs (λ n x fs r. r) m.imports _ (
-      onward func_field func_signs (KnownFunc count) CleanFuncs (λ n x fs q r. first-clean (field_func_faults all) (func_field n x) fs (func-clean all count n x q) r) m.funcs h.funcs _ (
+      onward func_field func_signs (KnownFunc count) CleanFuncs (λ n x fs q r.
+      first-clean (field_func_faults all) (func_field n x) fs (func-clean all count n x q) r) m.funcs h.funcs _ (
       over table_field table_signs CleanFuncs (λ n x fs r. r) m.tables _ (
       over memory_field memory_signs CleanFuncs (λ n x fs r. r) m.mems _ (
       over global_field global_signs CleanFuncs (λ n x fs r. r) m.globals _ (
@@ -367,7 +379,8 @@ none-least a b c e1 e2 e3 = rw (e1, e2, e3) refl
 
 pub named : (m : Module) → Known m → Names (text_fields m) m
 named m h = record {
-  right = none-least (declaration_faults (text_fields m)) (all_use_faults (text_fields m)) (reference_faults (text_fields m))
+  right = none-least (declaration_faults (text_fields m)) (all_use_faults (text_fields m))
+      (reference_faults (text_fields m))
       (no-declaration-faults m h) (no-use-faults m h) (clean-references m h);
   same = sym (denoted-back m h);
 }

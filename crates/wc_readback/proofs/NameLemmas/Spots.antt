@@ -149,7 +149,8 @@ block-count token block_types.Empty = omega arith
 block-count token (block_types.Value t) = omega arith
 block-count token (block_types.Index n) = omega arith
 
-head-grown : (s : Spot) (m : Mark Instr BlockType) (t : BlockType) → 0 < length (mark_signs m) → Grown s (behind_head s m t)
+head-grown : (s : Spot) (m : Mark Instr BlockType) (t : BlockType) → 0 < length (mark_signs m)
+    → Grown s (behind_head s m t)
 head-grown s m t lt = record {
   heads = omega (arith, length-append s.heads (head_of s.token None (head_type s.uses t) ∷ []));
   uses = omega (arith, block-count s.token t, length-append s.uses (block_uses s.token t));

@@ -1,4 +1,5 @@
--- The types of a printed text are those of its type fields: each type use is by an index, and nothing is written behind.
+-- The types of a printed text are those of its type fields: each type use is by an index, and nothing is written
+-- behind.
 use Rattle.std.proofs.Common.{◌≡◌, ℕ, suc, ◌<◌, List, [], ◌∷◌, ◌++◌, length, map, refl, ap, ◌∙◌}
 use Rattle.std.proofs.Common.{Option, Some}
 use Rattle.std.proofs.lemmas.List.{length-map}
@@ -131,7 +132,8 @@ body-uses k token x h = code-uses k x (start token) h.0 tt
 abbrev Uses : ℕ → List Field → Type 0
 Uses k fs = KnownUses k (all_uses fs)
 
-import-uses : (k n : ℕ) (x : Import) (d : Desc) → KnownDesc k d → KnownUses k (uses_of (import_field n (record x { desc = d })))
+import-uses : (k n : ℕ) (x : Import) (d : Desc) → KnownDesc k d
+    → KnownUses k (uses_of (import_field n (record x { desc = d })))
 import-uses k n x (descs.Func i) h = (
   record {
     token = suc (suc (suc (suc (suc (suc (suc (suc n)))))));
@@ -222,7 +224,8 @@ nothing-added k ts (u ∷ us) h =
 
 pub same-types : (m : Module) → Known m → types_of (text_fields m) ≡ m.types
 same-types m h =
-    nothing-added (length m.types) (written_types (text_fields m)) (all_uses (text_fields m)) (known-uses m h) ∙ written m
+    nothing-added (length m.types) (written_types (text_fields m)) (all_uses (text_fields m)) (known-uses m h)
+    ∙ written m
 
 -- ---- no faults
 

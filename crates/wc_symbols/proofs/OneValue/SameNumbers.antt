@@ -16,13 +16,16 @@ use Rattle.wc_symbols.specs.Standard.Numbers.{align_power, align_no_power, align
 pub NaturalIs-same : {text : List ℕ} {s o : Symbol} → NaturalIs text s → NaturalIs text o → s ≡ o
 NaturalIs-same (below_32 d l) (below_32 e m) =
     ap (λ (n : ℕ). valued kind.Natural32 (Number n)) (same-Natural d e (omega (arith, l)))
-NaturalIs-same (below_32 d l) (below_64 e m h) = let s = same-Natural d e (omega (arith, l)) in absurd (omega (arith, s, l, m))
-NaturalIs-same (below_32 d l) (above e m) = let s = same-Natural d e (omega (arith, l)) in absurd (omega (arith, s, l, m))
+NaturalIs-same (below_32 d l) (below_64 e m h) = let s = same-Natural d e (omega (arith, l)) in
+    absurd (omega (arith, s, l, m))
+NaturalIs-same (below_32 d l) (above e m) = let s = same-Natural d e (omega (arith, l)) in
+    absurd (omega (arith, s, l, m))
 NaturalIs-same (below_64 d l h) (below_32 e m) = let s = same-Natural d e h in absurd (omega (arith, s, l, m))
 NaturalIs-same (below_64 d l h) (below_64 e m k) =
     ap (λ (n : ℕ). valued kind.Natural64 (Number n)) (same-Natural d e h)
 NaturalIs-same (below_64 d l h) (above e m) = let s = same-Natural d e h in absurd (omega (arith, s, h, m))
-NaturalIs-same (above d l) (below_32 e m) = let s = same-Natural e d (omega (arith, m)) in absurd (omega (arith, s, l, m))
+NaturalIs-same (above d l) (below_32 e m) = let s = same-Natural e d (omega (arith, m)) in
+    absurd (omega (arith, s, l, m))
 NaturalIs-same (above d l) (below_64 e m k) = let s = same-Natural e d k in absurd (omega (arith, s, l, k))
 NaturalIs-same (above d l) (above e m) = refl
 

@@ -30,7 +30,8 @@ keywords-are =
     word kind.LocalWord refl and word kind.ParamWord refl and word kind.ResultWord refl and
     word kind.MutWord refl and word kind.FuncrefWord refl and i32 and i64 and f32 and f64 and done
 
-found-keyword : (xs : List Entry) → AllAre xs → (text : List ℕ) (s : Symbol) → find_keyword xs text ≡ Some s → KeywordIs text s
+found-keyword : (xs : List Entry) → AllAre xs → (text : List ℕ) (s : Symbol) → find_keyword xs text ≡ Some s
+    → KeywordIs text s
 found-keyword [] are text s e = absurd cc
 found-keyword (x ∷ xs) (h and are) text s e = go (bytes_eq x.text text) refl e (λ f. found-keyword xs are text s f)
   where

@@ -27,7 +27,14 @@ pub record Begins (text : List ℕ) : Type 0 where
 
 begins-more : (front tail : List ℕ) → Begins front → Begins (front ++ tail)
 begins-more front tail b =
-    record { first = b.first; rest = b.rest ++ tail; text_is = ap (λ t. t ++ tail) b.text_is; low = b.low; high = b.high }
+    record {
+      first = b.first;
+      rest = b.rest ++ tail;
+      text_is = ap (λ t. t ++ tail) b.text_is;
+      low = b.low;
+      high =
+          b.high;
+    }
 
 begins-Digits : {base n : ℕ} {text : List ℕ} → Digits base text n → base ≡ 10 → Begins text
 begins-Digits (one c d) e =
@@ -82,5 +89,8 @@ Short-whole text at value s some few low high =
     let whole : take at text ≡ text = take_all at text low in
     elim s.digits [
       | inl none ↦ absurd (omega (arith, none.0, same, some))
-      | inr d ↦ (subst (λ (t : List ℕ). Digits 10 t value) whole d, Short-small text at value s (omega (arith, high, few)))
+      | inr d ↦ (
+        subst (λ (t : List ℕ). Digits 10 t value) whole d,
+        Short-small text at value s (omega (arith, high, few)),
+      )
     ]

@@ -22,7 +22,8 @@ or-both : (a b : Bool) → (a || b) ≡ false → (a ≡ false) × (b ≡ false)
 or-both true b e = absurd cc
 or-both false b e = (refl, e)
 
-any-append : (xs ys : List ℕ) → any_backslash (xs ++ ys) ≡ false → (any_backslash xs ≡ false) × (any_backslash ys ≡ false)
+any-append : (xs ys : List ℕ) → any_backslash (xs ++ ys) ≡ false → (any_backslash xs ≡ false)
+    × (any_backslash ys ≡ false)
 any-append [] ys e = (refl, e)
 any-append (x ∷ xs) ys e =
     let p = or-both (x == 92) (any_backslash (xs ++ ys)) e in
@@ -63,9 +64,11 @@ inside body u =
     take-append_seam (x ∷ xs) ys = ap (λ (t : List ℕ). x ∷ t) (take-append_seam xs ys)
 
 -- a string without escapes in a text is a name
-pub plain-name : (text bytes : List ℕ) → IsUtf8 text → list_any (λ c. c == 92) text ≡ false → IsString text bytes → IsUtf8 bytes
+pub plain-name : (text bytes : List ℕ) → IsUtf8 text → list_any (λ c. c == 92) text ≡ false → IsString text bytes
+    → IsUtf8 bytes
 plain-name text bytes u e s =
-    let whole : any_backslash (34 ∷ (s.body ++ 34 ∷ [])) ≡ false = subst (λ (t : List ℕ). any_backslash t ≡ false) s.text_is e in
+    let whole : any_backslash (34 ∷ (s.body ++ 34 ∷ [])) ≡ false =
+    subst (λ (t : List ℕ). any_backslash t ≡ false) s.text_is e in
     let body = (any-append s.body (34 ∷ []) whole).0 in
     let same : bytes ≡ s.body = same-body s.elements body in
     subst IsUtf8 (sym same) (inside s.body (subst IsUtf8 s.text_is u))
@@ -85,7 +88,8 @@ between body last e =
 pub plain-string : (text bytes part : List ℕ) (last : ℕ) → list_any (λ c. c == 92) text ≡ false → IsString text bytes
     → last ≡ length text - 1 → part ≡ take (last - 1) (drop 1 text) → IsString text part
 plain-string text bytes part last e s is_last is_part =
-    let whole : any_backslash (34 ∷ (s.body ++ 34 ∷ [])) ≡ false = subst (λ (t : List ℕ). any_backslash t ≡ false) s.text_is e in
+    let whole : any_backslash (34 ∷ (s.body ++ 34 ∷ [])) ≡ false =
+    subst (λ (t : List ℕ). any_backslash t ≡ false) s.text_is e in
     let body = (any-append s.body (34 ∷ []) whole).0 in
     let same : bytes ≡ s.body = same-body s.elements body in
     let inner : take (last - 1) (drop 1 text) ≡ s.body =
@@ -125,7 +129,8 @@ Elements-begin : {a b v w : List ℕ} (r s : List ℕ) → Elements a v → Elem
 Elements-begin {w = w} r s none g e n = (w, refl)
 Elements-begin r s (more {part = part} {rest = rest} {value = value} f fs) none e n =
     let whole : s ≡ part ++ (rest ++ r) = sym e ∙ append_assoc part rest r in
-    let k : Some (ValueAndRest value (rest ++ r)) ≡ None = sym (read-Element f (rest ++ r)) ∙ ap read_element (sym whole)
+    let k : Some (ValueAndRest value (rest ++ r)) ≡ None = sym (read-Element f (rest ++ r))
+    ∙ ap read_element (sym whole)
     ∙ n in
     absurd cc
 Elements-begin r s (more {part = p} {rest = a} {value = v} {values = vs} f fs)
@@ -137,8 +142,11 @@ Elements-begin r s (more {part = p} {rest = a} {value = v} {values = vs} f fs)
     let both : Some (ValueAndRest v (a ++ r)) ≡ Some (ValueAndRest w (b ++ s)) = sym left ∙ ap read_element e ∙ right in
     let value : v ≡ w = cc in
     let others : a ++ r ≡ b ++ s = cc in
-    let i = Elements-begin r s fs gs others n in
-    (i.0, ap (λ (x : List ℕ). w ++ x) i.1 ∙ ap (λ (x : List ℕ). x ++ (vs ++ i.0)) (sym value) ∙ sym (append_assoc v vs i.0))
+    let i = Elements-begin r s fs gs others n in (
+      i.0,
+      ap (λ (x : List ℕ). w ++ x) i.1 ∙ ap (λ (x : List ℕ). x ++ (vs ++ i.0)) (sym value)
+          ∙ sym (append_assoc v vs i.0),
+    )
 
 -- where these are the front of no UTF-8, the string is no name
 pub broken-front : (text rest read bytes : List ℕ) → IsBegun text rest read → ¬ (Steps 0 0 0 read) → IsString text bytes

@@ -177,7 +177,8 @@ SaysAs shape.Offset text s = (digits : List ℕ) × (text ≡ codes "offset=" ++
 SaysAs shape.Align text s = (digits : List ℕ) × (text ≡ codes "align=" ++ digits) × AlignIs digits s
 SaysAs shape.Name text s = NameIs text s
 
-as-shape : (text : List ℕ) (s : Symbol) (x : Shape) → shape_of text ≡ x → SaysAs x text s → SaysAs (shape_of text) text s
+as-shape : (text : List ℕ) (s : Symbol) (x : Shape) → shape_of text ≡ x → SaysAs x text s
+    → SaysAs (shape_of text) text s
 as-shape text s x e h = rw e h
 
 pub says-as : {text : List ℕ} {s : Symbol} → Says text s → SaysAs (shape_of text) text s
@@ -214,7 +215,8 @@ word-is text bytes x s e b (inr (none, is)) = rw is (other (λ o h. none o (back
 
 -- ---- what stands behind `offset=` and `align=`
 
-pub prefixed : (text prefix : List ℕ) → starts_with nat_eq text prefix ≡ true → text ≡ prefix ++ drop (length prefix) text
+pub prefixed : (text prefix : List ℕ) → starts_with nat_eq text prefix ≡ true
+    → text ≡ prefix ++ drop (length prefix) text
 prefixed text prefix t =
     let e : prefix ≡ take (length prefix) text = (bytes_eq-Decides prefix (take (length prefix) text)).0 t in
     sym (take-append-drop (length prefix) text) ∙ ap (λ (f : List ℕ). f ++ drop (length prefix) text) (sym e)

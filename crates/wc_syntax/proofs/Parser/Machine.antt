@@ -42,7 +42,8 @@ nat-same : (m n : ℕ) → nat_eq m n ≡ true → m ≡ n
 nat-same m n e = grind (arith, e)
 
 pub same-is : (c t : Terminal) → same c t ≡ true → t ≡ c
-same-is c t e = sym (decoded t) ∙ ap (λ (n : ℕ). decode n all_terminals) (sym (nat-same (code_of c) (code_of t) e)) ∙ decoded c
+same-is c t e = sym (decoded t) ∙ ap (λ (n : ℕ). decode n all_terminals) (sym (nat-same (code_of c) (code_of t) e))
+    ∙ decoded c
 
 pub is-same : (c t : Terminal) → t ≡ c → same c t ≡ true
 is-same c t e = rw e (same-refl c)
@@ -64,16 +65,21 @@ abbrev pub Reads : Mode → List (List Phrase) → List Phrase → List Item →
 Reads m [] k us es = ⊥
 Reads m (s ∷ ss) k us es = Run m (s ++ k) us es ⊎ Reads m ss k us es
 
-all-out : (d : ℕ) (m : Mode) (ss : List (List Phrase)) (k : List Phrase) (i : Item) (us : List Item) (es : List Event) → Reads m ss k (i ∷ us) es → OutAlong m (edges-all d ss) k i us es
+all-out : (d : ℕ) (m : Mode) (ss : List (List Phrase)) (k : List Phrase) (i : Item) (us : List Item) (es : List Event)
+    → Reads m ss k (i ∷ us) es → OutAlong m (edges-all d ss) k i us es
 all-out d m [] k i us es h = elim h [ ]
-all-out d m (s ∷ ss) k i us es (inl r) = out-left m (edges-of d s) (edges-all d ss) k i us es (edges-out d m s k i us es r)
-all-out d m (s ∷ ss) k i us es (inr h) = out-right m (edges-of d s) (edges-all d ss) k i us es (all-out d m ss k i us es h)
+all-out d m (s ∷ ss) k i us es (inl r) = out-left m (edges-of d s) (edges-all d ss) k i us es
+    (edges-out d m s k i us es r)
+all-out d m (s ∷ ss) k i us es (inr h) = out-right m (edges-of d s) (edges-all d ss) k i us es
+    (all-out d m ss k i us es h)
 
-no-edge : (m : Mode) (k : List Phrase) (i : Item) (us : List Item) (es : List Event) → InAlong m (edges [] false) k i us es → ⊥
+no-edge : (m : Mode) (k : List Phrase) (i : Item) (us : List Item) (es : List Event)
+    → InAlong m (edges [] false) k i us es → ⊥
 no-edge m k i us es (inl h) = h
 no-edge m k i us es (inr h) = absurd (let e = h.0 in cc)
 
-all-in : (d : ℕ) (m : Mode) (ss : List (List Phrase)) (k : List Phrase) (i : Item) (us : List Item) (es : List Event) → InAlong m (edges-all d ss) k i us es → Reads m ss k (i ∷ us) es
+all-in : (d : ℕ) (m : Mode) (ss : List (List Phrase)) (k : List Phrase) (i : Item) (us : List Item) (es : List Event)
+    → InAlong m (edges-all d ss) k i us es → Reads m ss k (i ∷ us) es
 all-in d m [] k i us es h = no-edge m k i us es h
 all-in d m (s ∷ ss) k i us es h = elim (in-split m (edges-of d s) (edges-all d ss) k i us es h) [
   | inl q ↦ inl (edges-in d m s k i us es q)
@@ -85,47 +91,61 @@ abbrev pub Alts : Mode → List Alt → List Phrase → Item → List Item → L
 Alts m [] k i us es = ⊥
 Alts m (alt o s ∷ l) k i us es = ((fs : List Event) × (es ≡ keep o i fs) × Run m (s ++ k) us fs) ⊎ Alts m l k i us es
 
-fit-out : (m : Mode) (b : Bool) (o : Option Role) (s : List Phrase) (l : List Alt) (k : List Phrase) (i : Item) (us : List Item) (es : List Event) → b ≡ true → Alts m (alt o s ∷ l) k i us es → Alts m (cond b (alt o s ∷ l) l) k i us es
+fit-out : (m : Mode) (b : Bool) (o : Option Role) (s : List Phrase) (l : List Alt) (k : List Phrase) (i : Item)
+    (us : List Item) (es : List Event) → b ≡ true → Alts m (alt o s ∷ l) k i us es
+    → Alts m (cond b (alt o s ∷ l) l) k i us es
 fit-out m true o s l k i us es e h = h
 fit-out m false o s l k i us es e h = absurd cc
 
-skip-out : (m : Mode) (b : Bool) (o : Option Role) (s : List Phrase) (l : List Alt) (k : List Phrase) (i : Item) (us : List Item) (es : List Event) → Alts m l k i us es → Alts m (cond b (alt o s ∷ l) l) k i us es
+skip-out : (m : Mode) (b : Bool) (o : Option Role) (s : List Phrase) (l : List Alt) (k : List Phrase) (i : Item)
+    (us : List Item) (es : List Event) → Alts m l k i us es → Alts m (cond b (alt o s ∷ l) l) k i us es
 skip-out m true o s l k i us es h = inr h
 skip-out m false o s l k i us es h = h
 
-pick-out : (m : Mode) (xs : List Edge) (k : List Phrase) (i : Item) (us : List Item) (es : List Event) → AlongAny m xs k i us es → Alts m (pick (terminal_of i) xs) k i us es
+pick-out : (m : Mode) (xs : List Edge) (k : List Phrase) (i : Item) (us : List Item) (es : List Event)
+    → AlongAny m xs k i us es → Alts m (pick (terminal_of i) xs) k i us es
 pick-out m [] k i us es h = h
-pick-out m (edge c o s ∷ xs) k i us es (inl h) = fit-out m (same c (terminal_of i)) o s (pick (terminal_of i) xs) k i us es (is-same c (terminal_of i) h.0) (inl h.1)
-pick-out m (edge c o s ∷ xs) k i us es (inr h) = skip-out m (same c (terminal_of i)) o s (pick (terminal_of i) xs) k i us es (pick-out m xs k i us es h)
+pick-out m (edge c o s ∷ xs) k i us es (inl h) =
+    fit-out m (same c (terminal_of i)) o s (pick (terminal_of i) xs) k i us es (is-same c (terminal_of i) h.0) (inl h.1)
+pick-out m (edge c o s ∷ xs) k i us es (inr h) =
+    skip-out m (same c (terminal_of i)) o s (pick (terminal_of i) xs) k i us es (pick-out m xs k i us es h)
 
-fit-in : (m : Mode) (b : Bool) (o : Option Role) (s : List Phrase) (l : List Alt) (k : List Phrase) (i : Item) (us : List Item) (es : List Event) → Alts m (cond b (alt o s ∷ l) l) k i us es → ((b ≡ true) × ((fs : List Event) × (es ≡ keep o i fs) × Run m (s ++ k) us fs)) ⊎ Alts m l k i us es
+fit-in : (m : Mode) (b : Bool) (o : Option Role) (s : List Phrase) (l : List Alt) (k : List Phrase) (i : Item)
+    (us : List Item) (es : List Event) → Alts m (cond b (alt o s ∷ l) l) k i us es
+    → ((b ≡ true) × ((fs : List Event) × (es ≡ keep o i fs) × Run m (s ++ k) us fs)) ⊎ Alts m l k i us es
 fit-in m true o s l k i us es (inl h) = inl (refl, h)
 fit-in m true o s l k i us es (inr h) = inr h
 fit-in m false o s l k i us es h = inr h
 
-pick-in : (m : Mode) (xs : List Edge) (k : List Phrase) (i : Item) (us : List Item) (es : List Event) → Alts m (pick (terminal_of i) xs) k i us es → AlongAny m xs k i us es
+pick-in : (m : Mode) (xs : List Edge) (k : List Phrase) (i : Item) (us : List Item) (es : List Event)
+    → Alts m (pick (terminal_of i) xs) k i us es → AlongAny m xs k i us es
 pick-in m [] k i us es h = h
-pick-in m (edge c o s ∷ xs) k i us es h = elim (fit-in m (same c (terminal_of i)) o s (pick (terminal_of i) xs) k i us es h) [
-  | inl w ↦ inl (same-is c (terminal_of i) w.0, w.1)
-  | inr w ↦ inr (pick-in m xs k i us es w)
-]
+pick-in m (edge c o s ∷ xs) k i us es h = elim (fit-in m (same c (terminal_of i)) o s (pick (terminal_of i) xs) k i us
+    es h) [
+      | inl w ↦ inl (same-is c (terminal_of i) w.0, w.1)
+      | inr w ↦ inr (pick-in m xs k i us es w)
+    ]
 
-pub tag-out : (m : Mode) (o : Option Role) (ss : List (List Phrase)) (k : List Phrase) (i : Item) (us : List Item) (es : List Event) → Alts m (tag o ss) k i us es → (fs : List Event) × (es ≡ keep o i fs) × Reads m ss k us fs
+pub tag-out : (m : Mode) (o : Option Role) (ss : List (List Phrase)) (k : List Phrase) (i : Item) (us : List Item)
+    (es : List Event) → Alts m (tag o ss) k i us es → (fs : List Event) × (es ≡ keep o i fs) × Reads m ss k us fs
 tag-out m o [] k i us es h = elim h [ ]
 tag-out m o (s ∷ ss) k i us es (inl h) = (h.0, h.1, inl h.2)
 tag-out m o (s ∷ ss) k i us es (inr h) = let w = tag-out m o ss k i us es h in (w.0, w.1, inr w.2)
 
-pub tag-in : (m : Mode) (o : Option Role) (ss : List (List Phrase)) (k : List Phrase) (i : Item) (us : List Item) (fs : List Event) → Reads m ss k us fs → Alts m (tag o ss) k i us (keep o i fs)
+pub tag-in : (m : Mode) (o : Option Role) (ss : List (List Phrase)) (k : List Phrase) (i : Item) (us : List Item)
+    (fs : List Event) → Reads m ss k us fs → Alts m (tag o ss) k i us (keep o i fs)
 tag-in m o [] k i us fs h = h
 tag-in m o (s ∷ ss) k i us fs (inl r) = inl (fs, refl, r)
 tag-in m o (s ∷ ss) k i us fs (inr h) = inr (tag-in m o ss k i us fs h)
 
-pub over-out : (m : Mode) (t : List Phrase) (ss : List (List Phrase)) (k : List Phrase) (us : List Item) (es : List Event) → Reads m (over t ss) k us es → Reads m ss (t ++ k) us es
+pub over-out : (m : Mode) (t : List Phrase) (ss : List (List Phrase)) (k : List Phrase) (us : List Item)
+    (es : List Event) → Reads m (over t ss) k us es → Reads m ss (t ++ k) us es
 over-out m t [] k us es h = h
 over-out m t (s ∷ ss) k us es (inl r) = inl (subst (λ (y : List Phrase). Run m y us es) (append_assoc s t k) r)
 over-out m t (s ∷ ss) k us es (inr h) = inr (over-out m t ss k us es h)
 
-pub over-in : (m : Mode) (t : List Phrase) (ss : List (List Phrase)) (k : List Phrase) (us : List Item) (es : List Event) → Reads m ss (t ++ k) us es → Reads m (over t ss) k us es
+pub over-in : (m : Mode) (t : List Phrase) (ss : List (List Phrase)) (k : List Phrase) (us : List Item)
+    (es : List Event) → Reads m ss (t ++ k) us es → Reads m (over t ss) k us es
 over-in m t [] k us es h = h
 over-in m t (s ∷ ss) k us es (inl r) = inl (subst (λ (y : List Phrase). Run m y us es) (sym (append_assoc s t k)) r)
 over-in m t (s ∷ ss) k us es (inr h) = inr (over-in m t ss k us es h)
@@ -135,27 +155,36 @@ over-in m t (s ∷ ss) k us es (inr h) = inr (over-in m t ss k us es h)
 nothing-reads : (m : Mode) (i : Item) (us : List Item) (es : List Event) → Run m [] (i ∷ us) es → ⊥
 nothing-reads m i us es r = elim r [ ]
 
-agreed : (d : ℕ) (p : Place) (b : Frame) (k : Terminal) → valid p b ≡ true → pick k (the-edges (edges-all fuel (means d p b))) ≡ said d b (leads_to p b (limit-reached d) k)
+agreed : (d : ℕ) (p : Place) (b : Frame) (k : Terminal) → valid p b ≡ true
+    → pick k (the-edges (edges-all fuel (means d p b))) ≡ said d b (leads_to p b (limit-reached d) k)
 agreed d p b k v =
     at-kind (λ c. pick c (the-edges (edges-all fuel (means d p b)))) (λ c. said d b (leads_to p b (limit-reached d) c))
     (at-place (λ q. all-picks d q b) (λ q. all-said d q b) b (tabled d b).agrees p v) k
 
-pub leads : (d : ℕ) (p : Place) (b : Frame) (k : Terminal) → valid p b ≡ true → sound d b (leads_to p b (limit-reached d) k) ≡ true
+pub leads : (d : ℕ) (p : Place) (b : Frame) (k : Terminal) → valid p b ≡ true
+    → sound d b (leads_to p b (limit-reached d) k) ≡ true
 leads d p b k v =
     at-kind (λ c. sound d b (leads_to p b (limit-reached d) c)) (λ c. true)
     (at-place (λ q. all-sound d q b) (λ q. trues) b (tabled d b).all-lead p v) k
 
-pub ends-so : (d : ℕ) (p : Place) (b : Frame) → valid p b ≡ true → edges-all fuel (means d p b) ≡ edges (the-edges (edges-all fuel (means d p b))) (is_end p b)
+pub ends-so : (d : ℕ) (p : Place) (b : Frame) → valid p b ≡ true
+    → edges-all fuel (means d p b) ≡ edges (the-edges (edges-all fuel (means d p b))) (is_end p b)
 ends-so d p b v = at-place (λ q. all-edges d q b) (λ q. ended-edges d q b) b (tabled d b).ends p v
 
-pub step-out : (d : ℕ) (p : Place) (b : Frame) → valid p b ≡ true → (m : Mode) (k : List Phrase) (i : Item) (us : List Item) (es : List Event) → (is_end p b ≡ true → k ≡ []) → Reads m (means d p b) k (i ∷ us) es → Alts m (said d b (leads_to p b (limit-reached d) (terminal_of i))) k i us es
+pub step-out : (d : ℕ) (p : Place) (b : Frame) → valid p b ≡ true
+    → (m : Mode) (k : List Phrase) (i : Item) (us : List Item) (es : List Event) → (is_end p b ≡ true → k ≡ [])
+    → Reads m (means d p b) k (i ∷ us) es → Alts m (said d b (leads_to p b (limit-reached d) (terminal_of i))) k i us es
 step-out d p b v m k i us es bottom r =
     elim (subst (λ (x : Edges). OutAlong m x k i us es) (ends-so d p b v) (all-out fuel m (means d p b) k i us es r)) [
-      | inl h ↦ subst (λ (l : List Alt). Alts m l k i us es) (agreed d p b (terminal_of i) v) (pick-out m (the-edges (edges-all fuel (means d p b))) k i us es h)
+      | inl h ↦ subst (λ (l : List Alt). Alts m l k i us es) (agreed d p b (terminal_of i) v)
+          (pick-out m (the-edges (edges-all fuel (means d p b))) k i us es h)
       | inr h ↦ absurd (nothing-reads m i us es (subst (λ (y : List Phrase). Run m y (i ∷ us) es) (bottom h.0) h.1))
     ]
 
-pub step-in : (d : ℕ) (p : Place) (b : Frame) → valid p b ≡ true → (m : Mode) (k : List Phrase) (i : Item) (us : List Item) (es : List Event) → Alts m (said d b (leads_to p b (limit-reached d) (terminal_of i))) k i us es → Reads m (means d p b) k (i ∷ us) es
+pub step-in : (d : ℕ) (p : Place) (b : Frame) → valid p b ≡ true
+    → (m : Mode) (k : List Phrase) (i : Item) (us : List Item) (es : List Event)
+    → Alts m (said d b (leads_to p b (limit-reached d) (terminal_of i))) k i us es → Reads m (means d p b) k (i ∷ us) es
 step-in d p b v m k i us es h =
     all-in fuel m (means d p b) k i us es (subst (λ (x : Edges). InAlong m x k i us es) (sym (ends-so d p b v))
-    (inl (pick-in m (the-edges (edges-all fuel (means d p b))) k i us es (subst (λ (l : List Alt). Alts m l k i us es) (sym (agreed d p b (terminal_of i) v)) h))))
+    (inl (pick-in m (the-edges (edges-all fuel (means d p b))) k i us es (subst (λ (l : List Alt).
+    Alts m l k i us es) (sym (agreed d p b (terminal_of i) v)) h))))

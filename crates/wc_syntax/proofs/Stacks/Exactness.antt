@@ -39,41 +39,61 @@ pub record Parsed (d : ℕ) (ks : List Kind) (es : List Event) : Type 0 where
 abbrev pub Judged : ℕ → List Kind → Type 0
 Judged n ks = ((es : List Event) × Parsed n ks es) ⊎ ((p : ℕ) × (r : SynWhy) × FirstFault n ks p r)
 
-pub parsed : (n : ℕ) (ks : List Kind) (d : ℕ) (p : Place) (b : Frame) (bs : List Frame) (e : List Event) → Reached n (numbered 0 ks) d p b bs e → is_end p b ≡ true → Parsed n ks e
-parsed n ks d p b bs e r h = record { derives = accepted n (numbered 0 ks) d p b bs e r h; only = only-this n (numbered 0 ks) d p b bs e r }
+pub parsed : (n : ℕ) (ks : List Kind) (d : ℕ) (p : Place) (b : Frame) (bs : List Frame) (e : List Event)
+    → Reached n (numbered 0 ks) d p b bs e → is_end p b ≡ true → Parsed n ks e
+parsed n ks d p b bs e r h = record {
+  derives = accepted n (numbered 0 ks) d p b bs e r h;
+  only =
+      only-this n (numbered 0 ks) d p b bs e r;
+}
 
-judged-end : (n : ℕ) (ks : List Kind) (q d : ℕ) (p : Place) (b : Frame) (bs : List Frame) (e : List Event) → q ≡ length ks → Reached n (take q (numbered 0 ks)) d p b bs e → (z : Bool) → is_end p b ≡ z → Judged n ks
+judged-end : (n : ℕ) (ks : List Kind) (q d : ℕ) (p : Place) (b : Frame) (bs : List Frame) (e : List Event)
+    → q ≡ length ks → Reached n (take q (numbered 0 ks)) d p b bs e → (z : Bool) → is_end p b ≡ z → Judged n ks
 judged-end n ks q d p b bs e l r true h =
-    inl (e, parsed n ks d p b bs e (subst (λ (w : List Item). Reached n w d p b bs e) (all-of-it ks q (omega (arith, l))) r) h)
+    inl (
+      e,
+      parsed n ks d p b bs e (subst (λ (w : List Item).
+          Reached n w d p b bs e) (all-of-it ks q (omega (arith, l))) r) h,
+    )
 judged-end n ks q d p b bs e l r false h = inr (q, why.End, fault-end n ks q d p b bs e l r h)
 
 -- the state behind one more token is judged
 abbrev Goes : ℕ → List Kind → ℕ → Type 0
-Goes n ks q = (d : ℕ) (p : Place) (b : Frame) (bs : List Frame) (e : List Event) → Reached n (take q (numbered 0 ks)) d p b bs e → Judged n ks
+Goes n ks q = (d : ℕ) (p : Place) (b : Frame) (bs : List Frame) (e : List Event)
+    → Reached n (take q (numbered 0 ks)) d p b bs e → Judged n ks
 
-later : (n : ℕ) (ks : List Kind) (q d : ℕ) (b : Frame) (bs : List Frame) (f : List Event) (g : Move) → Goes n ks q → Next n (take q (numbered 0 ks)) d b bs f g → Judged n ks
+later : (n : ℕ) (ks : List Kind) (q d : ℕ) (b : Frame) (bs : List Frame) (f : List Event) (g : Move) → Goes n ks q
+    → Next n (take q (numbered 0 ks)) d b bs f g → Judged n ks
 later n ks q d b bs f (On x) go w = go d x b bs f w
 later n ks q d b bs f (Past x) go w = go d x (resume b) bs f w
 later n ks q d b bs f (Turn x c) go w = go d x c bs f w
 later n ks q d b bs f (Into x c) go (u, w) = go u x c (resume b ∷ bs) f w
 later n ks q d b bs f (Out x) go (c, cs, h, w) = go (up c d) x c cs f w
 
-judged-step : (n : ℕ) (ks : List Kind) (q d : ℕ) (p : Place) (b : Frame) (bs : List Frame) (e : List Event) → q < length ks → Reached n (take q (numbered 0 ks)) d p b bs e → Goes n ks (q + 1) → (o : Option Action) → step p b (limit-reached d) (get_or ks q kind.Open) ≡ o → Judged n ks
+judged-step : (n : ℕ) (ks : List Kind) (q d : ℕ) (p : Place) (b : Frame) (bs : List Frame) (e : List Event)
+    → q < length ks → Reached n (take q (numbered 0 ks)) d p b bs e → Goes n ks (q + 1) → (o : Option Action)
+    → step p b (limit-reached d) (get_or ks q kind.Open) ≡ o → Judged n ks
 judged-step n ks q d p b bs e l r go None h = inr (q, _, fault-here n ks q kind.Open d p b bs e l r h)
 judged-step n ks q d p b bs e l r go (Some a) h =
     later n ks (q + 1) d b bs (e ++ keeps-one a.keep (at q (word (get_or ks q kind.Open)))) a.go go
-    (rw (one-more ks q kind.Open l) (next n (take q (numbered 0 ks)) d p b bs e (at q (word (get_or ks q kind.Open))) a r h))
+    (rw (one-more ks q kind.Open l) (next n (take q (numbered 0 ks)) d p b bs e (at q (word (get_or ks q kind.Open))) a
+    r h))
 
-judged-from : (n : ℕ) (ks : List Kind) (m q d : ℕ) (p : Place) (b : Frame) (bs : List Frame) (e : List Event) → q + m ≡ length ks → Reached n (take q (numbered 0 ks)) d p b bs e → Judged n ks
+judged-from : (n : ℕ) (ks : List Kind) (m q d : ℕ) (p : Place) (b : Frame) (bs : List Frame) (e : List Event)
+    → q + m ≡ length ks → Reached n (take q (numbered 0 ks)) d p b bs e → Judged n ks
 judged-from n ks zero q d p b bs e l r = judged-end n ks q d p b bs e (omega (arith, l)) r (is_end p b) refl
 judged-from n ks (suc m) q d p b bs e l r =
     judged-step n ks q d p b bs e (omega (arith, l)) r
-    (λ d' p' b' bs' e' w. judged-from n ks m (q + 1) d' p' b' bs' e' (omega (arith, l)) w) (step p b (limit-reached d) (get_or ks q kind.Open)) refl
+    (λ d' p' b' bs' e' w. judged-from n ks m (q + 1) d' p' b' bs' e' (omega (
+      arith,
+      l,
+    )) w) (step p b (limit-reached d) (get_or ks q kind.Open)) refl
 
 pub judged : (n : ℕ) (ks : List Kind) → Judged n ks
 judged n ks = judged-from n ks (length ks) 0 n place.Done frame.Start [] [] (omega arith) (reached-first n)
 
-pub always-one : (n : ℕ) (ks : List Kind) → ((es : List Event) × IsText n ks es) ⊎ ((p : ℕ) × (r : SynWhy) × FirstFault n ks p r)
+pub always-one : (n : ℕ) (ks : List Kind) → ((es : List Event) × IsText n ks es)
+    ⊎ ((p : ℕ) × (r : SynWhy) × FirstFault n ks p r)
 always-one n ks = elim (judged n ks) [
   | inl (es, w) ↦ inl (es, w.derives)
   | inr w ↦ inr w
@@ -81,7 +101,8 @@ always-one n ks = elim (judged n ks) [
 
 -- ---- never both, and at most one of each
 
-pub not-both : (n : ℕ) (ks : List Kind) (es : List Event) (p : ℕ) (r : SynWhy) → IsText n ks es → FirstFault n ks p r → ⊥
+pub not-both : (n : ℕ) (ks : List Kind) (es : List Event) (p : ℕ) (r : SynWhy) → IsText n ks es → FirstFault n ks p r
+    → ⊥
 not-both n ks es p r w f = elim (cases_lt p (length ks)) [
   | inl l ↦ f.here l (begins-front (derives-begins w) (p + 1))
   | inr l ↦ f.at_end (omega (arith, l, f.within)) es w
@@ -100,13 +121,19 @@ one-why may (x ∷ xs) r s (inl v) (inr w) = absurd (w.0 v.1)
 one-why may (x ∷ xs) r s (inr v) (inl w) = absurd (v.0 w.1)
 one-why may (x ∷ xs) r s (inr v) (inr w) = one-why may xs r s v.1 w.1
 
-one-reason : (n : ℕ) (ks : List Kind) (p : ℕ) (ls : List Kind) (r s : SynWhy) → ReasonAt n ks p ls r → ReasonAt n ks p ls s → r ≡ s
+one-reason : (n : ℕ) (ks : List Kind) (p : ℕ) (ls : List Kind) (r s : SynWhy) → ReasonAt n ks p ls r
+    → ReasonAt n ks p ls s → r ≡ s
 one-reason n ks p [] r s v w = v ∙ sym w
 one-reason n ks p (k ∷ ls) r s v w = one-why _ (wrong k) r s v w
 
 not-before : (n : ℕ) (ks : List Kind) (p q : ℕ) (r s : SynWhy) → FirstFault n ks p r → FirstFault n ks q s → p < q → ⊥
 not-before n ks p q r s f g l =
-    f.here (omega (arith, l, g.within)) (subst (λ (w : List Item). Begins (The (text n)) w) (take-longer (p + 1) q (numbered 0 ks) (omega (arith, l)) (omega (arith, g.within, numbered-length 0 ks))) (begins-front g.before (p + 1)))
+    f.here (omega (arith, l, g.within)) (subst (λ (w : List Item).
+    Begins (The (text n)) w) (take-longer (p + 1) q (numbered 0 ks) (omega (arith, l)) (omega (
+      arith,
+      g.within,
+      numbered-length 0 ks,
+    ))) (begins-front g.before (p + 1)))
 
 pub one-place : (n : ℕ) (ks : List Kind) (p q : ℕ) (r s : SynWhy) → FirstFault n ks p r → FirstFault n ks q s → p ≡ q
 one-place n ks p q r s f g = elim (cases_lt p q) [
@@ -117,7 +144,8 @@ one-place n ks p q r s f g = elim (cases_lt p q) [
   ]
 ]
 
-pub one-fault : (n : ℕ) (ks : List Kind) (p q : ℕ) (r s : SynWhy) → FirstFault n ks p r → FirstFault n ks q s → (p ≡ q) × (r ≡ s)
+pub one-fault : (n : ℕ) (ks : List Kind) (p q : ℕ) (r s : SynWhy) → FirstFault n ks p r → FirstFault n ks q s → (p ≡ q)
+    × (r ≡ s)
 one-fault n ks p q r s f g =
     let e = one-place n ks p q r s f g in
     (e, one-reason n ks p (drop p ks) r s f.reason (subst (λ (x : ℕ). ReasonAt n ks x (drop x ks) s) (sym e) g.reason))
@@ -127,20 +155,24 @@ one-fault n ks p q r s f g =
 abbrev pub Answers : ℕ → List Kind → Result (Vec Kept Global) Refusal → Type 0
 Answers n ks result = MatchResult result (λ v. IsText n ks (events v.items)) (λ r. IsRefusal n ks r)
 
-pub answers-kept : (n : ℕ) (ks : List Kind) (result : Result (Vec Kept Global) Refusal) → Answers n ks result → IfOk result (λ v. IsText n ks (events v.items))
+pub answers-kept : (n : ℕ) (ks : List Kind) (result : Result (Vec Kept Global) Refusal) → Answers n ks result
+    → IfOk result (λ v. IsText n ks (events v.items))
 answers-kept n ks (Ok v) a = a
 answers-kept n ks (Err r) a = tt
 
-pub answers-refusal : (n : ℕ) (ks : List Kind) (result : Result (Vec Kept Global) Refusal) → Answers n ks result → IfErr result (λ r. IsRefusal n ks r)
+pub answers-refusal : (n : ℕ) (ks : List Kind) (result : Result (Vec Kept Global) Refusal) → Answers n ks result
+    → IfErr result (λ r. IsRefusal n ks r)
 answers-refusal n ks (Ok v) a = tt
 answers-refusal n ks (Err r) a = a
 
-pub only-kept : (n : ℕ) (ks : List Kind) (result : Result (Vec Kept Global) Refusal) → Answers n ks result → (es : List Event) → IsText n ks es → MatchResult result (λ v. events v.items ≡ es) (λ r. r ≡ refusal.Memory)
+pub only-kept : (n : ℕ) (ks : List Kind) (result : Result (Vec Kept Global) Refusal) → Answers n ks result
+    → (es : List Event) → IsText n ks es → MatchResult result (λ v. events v.items ≡ es) (λ r. r ≡ refusal.Memory)
 only-kept n ks (Ok v) a es w = one-list n ks (events v.items) es a w
 only-kept n ks (Err refusal.Memory) a es w = refl
 only-kept n ks (Err (refusal.Bad p r)) a es w = absurd (not-both n ks es p r w a)
 
-pub only-fault : (n : ℕ) (ks : List Kind) (result : Result (Vec Kept Global) Refusal) → Answers n ks result → (p : ℕ) (r : SynWhy) → FirstFault n ks p r → IsErrAnd result (λ f. (f ≡ refusal.Bad p r) ⊎ (f ≡ refusal.Memory))
+pub only-fault : (n : ℕ) (ks : List Kind) (result : Result (Vec Kept Global) Refusal) → Answers n ks result
+    → (p : ℕ) (r : SynWhy) → FirstFault n ks p r → IsErrAnd result (λ f. (f ≡ refusal.Bad p r) ⊎ (f ≡ refusal.Memory))
 only-fault n ks (Ok v) a p r f = absurd (not-both n ks (events v.items) p r a f)
 only-fault n ks (Err refusal.Memory) a p r f = inr refl
 only-fault n ks (Err (refusal.Bad q s)) a p r f = let w = one-fault n ks q p s r a f in inl (cc (w.0, w.1))

@@ -19,29 +19,42 @@ pub data Run : Mode → List Phrase → List Item → List Event → Type 0 wher
   end : Run Whole [] [] []
   cut : {k : List Phrase} → Run Cut k [] []
   r-empty : {m : Mode} {k : List Phrase} {us : List Item} {es : List Event} → Run m k us es → Run m (Empty ∷ k) us es
-  r-token : {m : Mode} {c : Terminal} {i : Item} {k : List Phrase} {us : List Item} {es : List Event} → terminal_of i ≡ c → Run m k us es → Run m (Token c ∷ k) (i ∷ us) es
-  r-keeps : {m : Mode} {r : Role} {c : Kind} {i : Item} {k : List Phrase} {us : List Item} {es : List Event} → terminal_of i ≡ word c → Run m k us es → Run m (Keep r c ∷ k) (i ∷ us) (kept r i ∷ es)
-  r-then : {m : Mode} {a b : Phrase} {k : List Phrase} {us : List Item} {es : List Event} → Run m (a ∷ b ∷ k) us es → Run m ((a · b) ∷ k) us es
-  r-left : {m : Mode} {a b : Phrase} {k : List Phrase} {us : List Item} {es : List Event} → Run m (a ∷ k) us es → Run m ((a ∣ b) ∷ k) us es
-  r-right : {m : Mode} {a b : Phrase} {k : List Phrase} {us : List Item} {es : List Event} → Run m (b ∷ k) us es → Run m ((a ∣ b) ∷ k) us es
-  r-none : {m : Mode} {a : Phrase} {k : List Phrase} {us : List Item} {es : List Event} → Run m k us es → Run m (Many a ∷ k) us es
-  r-more : {m : Mode} {a : Phrase} {k : List Phrase} {us : List Item} {es : List Event} → Run m (a ∷ Many a ∷ k) us es → Run m (Many a ∷ k) us es
-  r-rule : {m : Mode} {n : Nonterminal} {k : List Phrase} {us : List Item} {es : List Event} → Run m (body n ∷ k) us es → Run m (The n ∷ k) us es
+  r-token : {m : Mode} {c : Terminal} {i : Item} {k : List Phrase} {us : List Item} {es : List Event}
+      → terminal_of i ≡ c → Run m k us es → Run m (Token c ∷ k) (i ∷ us) es
+  r-keeps : {m : Mode} {r : Role} {c : Kind} {i : Item} {k : List Phrase} {us : List Item} {es : List Event}
+      → terminal_of i ≡ word c → Run m k us es → Run m (Keep r c ∷ k) (i ∷ us) (kept r i ∷ es)
+  r-then : {m : Mode} {a b : Phrase} {k : List Phrase} {us : List Item} {es : List Event} → Run m (a ∷ b ∷ k) us es
+      → Run m ((a · b) ∷ k) us es
+  r-left : {m : Mode} {a b : Phrase} {k : List Phrase} {us : List Item} {es : List Event} → Run m (a ∷ k) us es
+      → Run m ((a ∣ b) ∷ k) us es
+  r-right : {m : Mode} {a b : Phrase} {k : List Phrase} {us : List Item} {es : List Event} → Run m (b ∷ k) us es
+      → Run m ((a ∣ b) ∷ k) us es
+  r-none : {m : Mode} {a : Phrase} {k : List Phrase} {us : List Item} {es : List Event} → Run m k us es
+      → Run m (Many a ∷ k) us es
+  r-more : {m : Mode} {a : Phrase} {k : List Phrase} {us : List Item} {es : List Event} → Run m (a ∷ Many a ∷ k) us es
+      → Run m (Many a ∷ k) us es
+  r-rule : {m : Mode} {n : Nonterminal} {k : List Phrase} {us : List Item} {es : List Event} → Run m (body n ∷ k) us es
+      → Run m (The n ∷ k) us es
 
 -- ---- from the grammar to the stack
 
-regroup : {m : Mode} {k : List Phrase} (us vs ws : List Item) (es fs gs : List Event) → Run m k (us ++ (vs ++ ws)) (es ++ (fs ++ gs)) → Run m k ((us ++ vs) ++ ws) ((es ++ fs) ++ gs)
+regroup : {m : Mode} {k : List Phrase} (us vs ws : List Item) (es fs gs : List Event)
+    → Run m k (us ++ (vs ++ ws)) (es ++ (fs ++ gs)) → Run m k ((us ++ vs) ++ ws) ((es ++ fs) ++ gs)
 regroup us vs ws es fs gs r = rw (append_assoc us vs ws, append_assoc es fs gs) r
 
-pub derived : {g : Phrase} {us : List Item} {es : List Event} → Derives g us es → (m : Mode) (k : List Phrase) (vs : List Item) (fs : List Event) → Run m k vs fs → Run m (g ∷ k) (us ++ vs) (es ++ fs)
+pub derived : {g : Phrase} {us : List Item} {es : List Event} → Derives g us es
+    → (m : Mode) (k : List Phrase) (vs : List Item) (fs : List Event) → Run m k vs fs
+    → Run m (g ∷ k) (us ++ vs) (es ++ fs)
 derived empty m k vs fs r = r-empty r
 derived (token h) m k vs fs r = r-token h r
 derived (keeps h) m k vs fs r = r-keeps h r
-derived (then {b = b} {us = u1} {vs = u2} {es = e1} {fs = e2} d e) m k vs fs r = r-then (regroup u1 u2 vs e1 e2 fs (derived d m (b ∷ k) (u2 ++ vs) (e2 ++ fs) (derived e m k vs fs r)))
+derived (then {b = b} {us = u1} {vs = u2} {es = e1} {fs = e2} d e) m k vs fs r =
+    r-then (regroup u1 u2 vs e1 e2 fs (derived d m (b ∷ k) (u2 ++ vs) (e2 ++ fs) (derived e m k vs fs r)))
 derived (left d) m k vs fs r = r-left (derived d m k vs fs r)
 derived (right d) m k vs fs r = r-right (derived d m k vs fs r)
 derived none m k vs fs r = r-none r
-derived (more {a = a} {us = u1} {vs = u2} {es = e1} {fs = e2} d e) m k vs fs r = r-more (regroup u1 u2 vs e1 e2 fs (derived d m (Many a ∷ k) (u2 ++ vs) (e2 ++ fs) (derived e m k vs fs r)))
+derived (more {a = a} {us = u1} {vs = u2} {es = e1} {fs = e2} d e) m k vs fs r =
+    r-more (regroup u1 u2 vs e1 e2 fs (derived d m (Many a ∷ k) (u2 ++ vs) (e2 ++ fs) (derived e m k vs fs r)))
 derived (rule d) m k vs fs r = r-rule (derived d m k vs fs r)
 
 pub begun : {g : Phrase} {us : List Item} → Begins g us → (k : List Phrase) → (es : List Event) × Run Cut (g ∷ k) us es
@@ -49,11 +62,13 @@ begun nothing k = ([], cut)
 begun (begins-token h) k = ([], r-token h cut)
 begun (begins-keeps {r = r} {i = i} h) k = (kept r i ∷ [], r-keeps h cut)
 begun (in-first {b = b} d) k = let w = begun d (b ∷ k) in (w.0, r-then w.1)
-begun (in-second {b = b} {vs = vs} {es = es} d e) k = let w = begun e k in (es ++ w.0, r-then (derived d Cut (b ∷ k) vs w.0 w.1))
+begun (in-second {b = b} {vs = vs} {es = es} d e) k = let w = begun e k in
+    (es ++ w.0, r-then (derived d Cut (b ∷ k) vs w.0 w.1))
 begun (in-left d) k = let w = begun d k in (w.0, r-left w.1)
 begun (in-right d) k = let w = begun d k in (w.0, r-right w.1)
 begun (in-item {a = a} d) k = let w = begun d (Many a ∷ k) in (w.0, r-more w.1)
-begun (in-later {a = a} {vs = vs} {es = es} d e) k = let w = begun e k in (es ++ w.0, r-more (derived d Cut (Many a ∷ k) vs w.0 w.1))
+begun (in-later {a = a} {vs = vs} {es = es} d e) k = let w = begun e k in
+    (es ++ w.0, r-more (derived d Cut (Many a ∷ k) vs w.0 w.1))
 begun (in-rule d) k = let w = begun d k in (w.0, r-rule w.1)
 
 -- ---- from the stack to the grammar
@@ -77,9 +92,11 @@ pub record Taken (g : Phrase) (us vs : List Item) (es fs : List Event) (ws : Lis
 
 abbrev pub Stacked : Mode → List Phrase → List Item → List Event → Type 0
 Stacked m [] us es = (us ≡ []) × (es ≡ [])
-Stacked m (g ∷ k) ws gs = ((us vs : List Item) × (es fs : List Event) × Taken g us vs es fs ws gs × Stacked m k vs fs) ⊎ ((m ≡ Cut) × Begins g ws)
+Stacked m (g ∷ k) ws gs = ((us vs : List Item) × (es fs : List Event) × Taken g us vs es fs ws gs × Stacked m k vs fs)
+    ⊎ ((m ≡ Cut) × Begins g ws)
 
-then-is : {m : Mode} {a b : Phrase} (k : List Phrase) (ws : List Item) (gs : List Event) → Stacked m (a ∷ b ∷ k) ws gs → Stacked m ((a · b) ∷ k) ws gs
+then-is : {m : Mode} {a b : Phrase} (k : List Phrase) (ws : List Item) (gs : List Event) → Stacked m (a ∷ b ∷ k) ws gs
+    → Stacked m ((a · b) ∷ k) ws gs
 then-is k ws gs (inl (us, vs, es, fs, t, inl (us', vs', es', fs', t', r))) = inl (
   us ++ us',
   vs',
@@ -92,10 +109,12 @@ then-is k ws gs (inl (us, vs, es, fs, t, inl (us', vs', es', fs', t', r))) = inl
   },
   r,
 )
-then-is {a = a} {b = b} k ws gs (inl (us, vs, es, fs, t, inr (e, d))) = inr (e, subst (λ (x : List Item). Begins (a · b) x) (sym t.items) (in-second t.is d))
+then-is {a = a} {b = b} k ws gs (inl (us, vs, es, fs, t, inr (e, d))) =
+    inr (e, subst (λ (x : List Item). Begins (a · b) x) (sym t.items) (in-second t.is d))
 then-is k ws gs (inr (e, d)) = inr (e, in-first d)
 
-more-is : {m : Mode} {a : Phrase} (k : List Phrase) (ws : List Item) (gs : List Event) → Stacked m (a ∷ Many a ∷ k) ws gs → Stacked m (Many a ∷ k) ws gs
+more-is : {m : Mode} {a : Phrase} (k : List Phrase) (ws : List Item) (gs : List Event)
+    → Stacked m (a ∷ Many a ∷ k) ws gs → Stacked m (Many a ∷ k) ws gs
 more-is k ws gs (inl (us, vs, es, fs, t, inl (us', vs', es', fs', t', r))) = inl (
   us ++ us',
   vs',
@@ -108,12 +127,16 @@ more-is k ws gs (inl (us, vs, es, fs, t, inl (us', vs', es', fs', t', r))) = inl
   },
   r,
 )
-more-is {a = a} k ws gs (inl (us, vs, es, fs, t, inr (e, d))) = inr (e, subst (λ (x : List Item). Begins (Many a) x) (sym t.items) (in-later t.is d))
+more-is {a = a} k ws gs (inl (us, vs, es, fs, t, inr (e, d))) =
+    inr (e, subst (λ (x : List Item). Begins (Many a) x) (sym t.items) (in-later t.is d))
 more-is k ws gs (inr (e, d)) = inr (e, in-item d)
 
 -- a phrase that takes what another one takes
-onto : (m : Mode) (a b : Phrase) (k : List Phrase) (ws : List Item) (gs : List Event) → ((us : List Item) (es : List Event) → Derives a us es → Derives b us es) → ((us : List Item) → Begins a us → Begins b us) → Stacked m (a ∷ k) ws gs → Stacked m (b ∷ k) ws gs
-onto m a b k ws gs f g (inl (us, vs, es, fs, t, r)) = inl (us, vs, es, fs, record { is = f us es t.is; items = t.items; events = t.events }, r)
+onto : (m : Mode) (a b : Phrase) (k : List Phrase) (ws : List Item) (gs : List Event)
+    → ((us : List Item) (es : List Event) → Derives a us es → Derives b us es)
+    → ((us : List Item) → Begins a us → Begins b us) → Stacked m (a ∷ k) ws gs → Stacked m (b ∷ k) ws gs
+onto m a b k ws gs f g (inl (us, vs, es, fs, t, r)) =
+    inl (us, vs, es, fs, record { is = f us es t.is; items = t.items; events = t.events }, r)
 onto m a b k ws gs f g (inr (e, d)) = inr (e, g ws d)
 
 cut-is : (k : List Phrase) → Stacked Cut k [] []
@@ -123,19 +146,39 @@ cut-is (g ∷ k) = inr (refl, nothing)
 pub stacked : {m : Mode} {k : List Phrase} {us : List Item} {es : List Event} → Run m k us es → Stacked m k us es
 stacked end = (refl, refl)
 stacked (cut {k = k}) = cut-is k
-stacked (r-empty {us = us} {es = es} r) = inl ([], us, [], es, record { is = empty; items = refl; events = refl }, stacked r)
-stacked (r-token {i = i} {us = us} {es = es} h r) = inl (i ∷ [], us, [], es, record { is = token h; items = refl; events = refl }, stacked r)
-stacked (r-keeps {r = r} {i = i} {us = us} {es = es} h q) = inl (i ∷ [], us, kept r i ∷ [], es, record { is = keeps h; items = refl; events = refl }, stacked q)
+stacked (r-empty {us = us} {es = es} r) = inl (
+  [],
+  us,
+  [],
+  es,
+  record { is = empty; items = refl; events = refl },
+  stacked r,
+)
+stacked (r-token {i = i} {us = us} {es = es} h r) =
+    inl (i ∷ [], us, [], es, record { is = token h; items = refl; events = refl }, stacked r)
+stacked (r-keeps {r = r} {i = i} {us = us} {es = es} h q) =
+    inl (i ∷ [], us, kept r i ∷ [], es, record { is = keeps h; items = refl; events = refl }, stacked q)
 stacked (r-then {k = k} r) = then-is k _ _ (stacked r)
-stacked (r-left {m = m} {a = a} {b = b} {k = k} {us = us} {es = es} r) = onto m a (a ∣ b) k us es (λ _ _ d. left d) (λ _ d. in-left d) (stacked r)
-stacked (r-right {m = m} {a = a} {b = b} {k = k} {us = us} {es = es} r) = onto m b (a ∣ b) k us es (λ _ _ d. right d) (λ _ d. in-right d) (stacked r)
-stacked (r-none {us = us} {es = es} r) = inl ([], us, [], es, record { is = none; items = refl; events = refl }, stacked r)
+stacked (r-left {m = m} {a = a} {b = b} {k = k} {us = us} {es = es} r) =
+    onto m a (a ∣ b) k us es (λ _ _ d. left d) (λ _ d. in-left d) (stacked r)
+stacked (r-right {m = m} {a = a} {b = b} {k = k} {us = us} {es = es} r) =
+    onto m b (a ∣ b) k us es (λ _ _ d. right d) (λ _ d. in-right d) (stacked r)
+stacked (r-none {us = us} {es = es} r) = inl (
+  [],
+  us,
+  [],
+  es,
+  record { is = none; items = refl; events = refl },
+  stacked r,
+)
 stacked (r-more {k = k} r) = more-is k _ _ (stacked r)
-stacked (r-rule {m = m} {n = n} {k = k} {us = us} {es = es} r) = onto m (body n) (The n) k us es (λ _ _ d. rule d) (λ _ d. in-rule d) (stacked r)
+stacked (r-rule {m = m} {n = n} {k = k} {us = us} {es = es} r) =
+    onto m (body n) (The n) k us es (λ _ _ d. rule d) (λ _ d. in-rule d) (stacked r)
 
 -- ---- one phrase alone
 
-whole-end : {m : Mode} {g : Phrase} {ws : List Item} {gs : List Event} → m ≡ Whole → Stacked m (g ∷ []) ws gs → Derives g ws gs
+whole-end : {m : Mode} {g : Phrase} {ws : List Item} {gs : List Event} → m ≡ Whole → Stacked m (g ∷ []) ws gs
+    → Derives g ws gs
 whole-end {g = g} {gs = gs} e (inl (us, vs, es, fs, t, r)) =
     let items = t.items ∙ ap (λ (x : List Item). us ++ x) r.0 ∙ append-nil us in
     let events = t.events ∙ ap (λ (x : List Event). es ++ x) r.1 ∙ append-nil es in

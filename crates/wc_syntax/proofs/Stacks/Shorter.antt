@@ -7,7 +7,8 @@ use Rattle.wc_syntax.proofs.Stacks.Run.{Mode, Cut, Run, end, cut, r-empty, r-tok
 use Rattle.wc_syntax.proofs.Stacks.Run.{r-none, r-more, r-rule, begun, front}
 
 -- a stack that reads tokens reads those at their front
-shortened : {m : Mode} {k : List Phrase} {ws : List Item} {es : List Event} → Run m k ws es → (us vs : List Item) → ws ≡ us ++ vs → (fs : List Event) × Run Cut k us fs
+shortened : {m : Mode} {k : List Phrase} {ws : List Item} {es : List Event} → Run m k ws es → (us vs : List Item)
+    → ws ≡ us ++ vs → (fs : List Event) × Run Cut k us fs
 shortened end [] vs e = ([], cut)
 shortened end (u ∷ us) vs e = absurd cc
 shortened cut [] vs e = ([], cut)
@@ -38,4 +39,5 @@ begins-front {ws = ws} h n =
 -- the front of a longer front
 pub take-longer : (n m : ℕ) (ws : List Item) → n ≤ m → m ≤ length ws → take n (take m ws) ≡ take n ws
 take-longer n m ws l h =
-    sym (take-append-le n (take m ws) (drop m ws) (omega (arith, length-take-le m ws h))) ∙ ap (λ (x : List Item). take n x) (take-append-drop m ws)
+    sym (take-append-le n (take m ws) (drop m ws) (omega (arith, length-take-le m ws h)))
+    ∙ ap (λ (x : List Item). take n x) (take-append-drop m ws)

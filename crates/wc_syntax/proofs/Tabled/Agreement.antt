@@ -56,10 +56,12 @@ alike false q = not q
 -- an action leads somewhere, and the bottom is never left
 abbrev pub sound-go : ℕ → Frame → Move → Bool
 sound-go d f (On p) = valid p f
-sound-go d f (Past p) = valid p (resume f) && (alike (at-bottom f) (at-bottom (resume f)) && alike (is-block f) (is-block (resume f)))
+sound-go d f (Past p) = valid p (resume f) && (alike (at-bottom f) (at-bottom (resume f)) && alike (is-block f)
+    (is-block (resume f)))
 sound-go d f (Turn p g) = valid p g && (alike (at-bottom f) (at-bottom g) && alike (is-block f) (is-block g))
 sound-go d f (Into p g) =
-    valid p g && (not (at-bottom g) && (fits-in g (resume f) && (alike (at-bottom f) (at-bottom (resume f)) && alike (is-block f) (is-block (resume f)))))
+    valid p g && (not (at-bottom g) && (fits-in g (resume f) &&
+    (alike (at-bottom f) (at-bottom (resume f)) && alike (is-block f) (is-block (resume f)))))
 sound-go d f (Out p) = leaves f p && (not (at-bottom f) && not (is-open p))
 
 abbrev pub sound : ℕ → Frame → Option Action → Bool
@@ -93,6 +95,8 @@ ended-edges d p f = edges (the-edges (edges-all fuel (means d p f))) (is_end p f
 
 -- at each place over the frame the table says of each kind of token what the grammar has
 pub record Tabled (d : ℕ) (f : Frame) : Type 0 where
-  pub agrees : map (λ p. all-picks d p f) (over-frame f all-places) ≡ map (λ p. all-said d p f) (over-frame f all-places)
-  pub ends : map (λ p. all-edges d p f) (over-frame f all-places) ≡ map (λ p. ended-edges d p f) (over-frame f all-places)
+  pub agrees : map (λ p. all-picks d p f) (over-frame f all-places) ≡ map (λ p.
+      all-said d p f) (over-frame f all-places)
+  pub ends : map (λ p. all-edges d p f) (over-frame f all-places) ≡ map (λ p.
+      ended-edges d p f) (over-frame f all-places)
   pub all-lead : map (λ p. all-sound d p f) (over-frame f all-places) ≡ map (λ p. trues) (over-frame f all-places)

@@ -114,7 +114,8 @@ pub at-place : {A : Type 0} (g h : Place → A) (f : Frame)
     → map g (over-frame f all-places) ≡ map h (over-frame f all-places) → (p : Place) → valid p f ≡ true → g p ≡ h p
 at-place {A} g h f e p v = go (number p) all-places (listed p) e
   where
-    first : (q : Place) (b : Bool) (qs : List Place) → b ≡ true → map g (cond b (q ∷ qs) qs) ≡ map h (cond b (q ∷ qs) qs)
+    first : (q : Place) (b : Bool) (qs : List Place) → b ≡ true
+        → map g (cond b (q ∷ qs) qs) ≡ map h (cond b (q ∷ qs) qs)
         → g q ≡ h q
     first q true qs is e = ap (λ (l : List A). first-of (g q) l) e
     first q false qs is e = absurd cc

@@ -167,7 +167,8 @@ ends frame.Region deep e = refl
 ends frame.First deep e = refl
 ends _ deep e = absurd cc
 
-opens : (f : Frame) (deep : Bool) → takes_open f ≡ true → step place.Done f deep kind.Open ≡ dropping (On place.OpenDone)
+opens : (f : Frame) (deep : Bool) → takes_open f ≡ true
+    → step place.Done f deep kind.Open ≡ dropping (On place.OpenDone)
 opens frame.FuncStart true e = refl
 opens frame.FuncStart false e = refl
 opens frame.FuncHead true e = refl
@@ -263,8 +264,10 @@ usual-by n q ks es s t u k o g e h i r j =
 pub plain-at : (s : Standing) (k : Kind) (p : Place) → behind_name k ≡ Some p → takes_name s.place ≡ true
     → takes_instrs s.frame ≡ true → action_at s k ≡ keeping role.Plain (Past p)
 plain-at s k p e f t =
-    at-name (λ k p. step s.place s.frame (is_deep s) k ≡ step place.Done s.frame (is_deep s) k) k p e (free-name s.place s.frame (is_deep s) f)
-    ∙ at-name (λ k p. step place.Done s.frame (is_deep s) k ≡ keeping role.Plain (Past p)) k p e (plain-names s.frame (is_deep s) t)
+    at-name (λ k p. step s.place s.frame (is_deep s) k ≡ step place.Done s.frame (is_deep s) k) k p e
+    (free-name s.place s.frame (is_deep s) f)
+    ∙ at-name (λ k p. step place.Done s.frame (is_deep s) k ≡ keeping role.Plain (Past p)) k p e
+    (plain-names s.frame (is_deep s) t)
 
 pub held-at : (s : Standing) (k : Kind) (p : Place) → behind_name k ≡ Some p → is_opened s.place ≡ true
     → takes_folded s.frame ≡ true → is_deep s ≡ false → action_at s k ≡ keeping role.HeldPlain (Into p frame.Held)
@@ -272,7 +275,8 @@ held-at s k p e f t d =
     at-name (λ k p. step s.place s.frame (is_deep s) k ≡ step place.OpenDone s.frame (is_deep s) k) k p e
     (opened-name s.place s.frame (is_deep s) f)
     ∙ ap (λ (b : Bool). step place.OpenDone s.frame b k) d
-    ∙ at-name (λ k p. step place.OpenDone s.frame false k ≡ keeping role.HeldPlain (Into p frame.Held)) k p e (held-names s.frame t)
+    ∙ at-name (λ k p. step place.OpenDone s.frame false k ≡ keeping role.HeldPlain (Into p frame.Held)) k p e
+    (held-names s.frame t)
 
 pub begin-at : (s : Standing) (k : Kind) (g : Frame) → begun_frame k ≡ Some g → takes_name s.place ≡ true
     → takes_instrs s.frame ≡ true → is_deep s ≡ false → action_at s k ≡ keeping role.Begin (Into place.Label g)
@@ -294,7 +298,8 @@ open-at s f t = (free-open s.place s.frame (is_deep s) f).0 ∙ opens s.frame (i
 pub held-end-at : (s : Standing) → is_free s.place ≡ true → is_held s.frame ≡ true
     → action_at s kind.Close ≡ keeping role.HeldEnd (Out place.Done)
 held-end-at s f t =
-    (free-open s.place s.frame (is_deep s) f).1 ∙ ap (λ (g : Frame). step place.Done g (is_deep s) kind.Close) (held-is s.frame t)
+    (free-open s.place s.frame (is_deep s) f).1 ∙ ap (λ (g : Frame).
+    step place.Done g (is_deep s) kind.Close) (held-is s.frame t)
 
 pub part-at : (s : Standing) (p : Place) → opened_part s.place ≡ Some p → action_at s kind.Open ≡ dropping (On p)
 part-at s p e = part-opens s.place p s.frame (is_deep s) e
@@ -316,7 +321,8 @@ pub align-at : (s : Standing) (k : Kind) → is_align s.place k ≡ true
 align-at s k e = align-leads s.place s.frame (is_deep s) k e
 
 -- what the place itself takes is read
-pub part-by : (n q : ℕ) (ks : List Kind) (es : List Event) (s t u : Standing) (k : Kind) (r : Option Action) (a : Action)
+pub part-by : (n q : ℕ) (ks : List Kind) (es : List Event) (s t u : Standing) (k : Kind) (r : Option Action)
+    (a : Action)
     (p : Place) → t ≡ s → r ≡ find (place_rows t.place) k → r ≡ Some a → a.go ≡ On p → u ≡ moved (On p) t
     → IsRead n ks es s → q ≡ length ks → IsRead n (ks ++ k ∷ []) (es ++ kept_as a.keep q k) u
 part-by n q ks es s t u k r a p e f h g i j l =

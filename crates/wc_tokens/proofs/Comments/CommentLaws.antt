@@ -115,7 +115,13 @@ Marks c d = (((c ≡ 40) × (d ≡ 59)) ⊎ ((c ≡ 59) × (d ≡ 41))) ⊎ ((c 
 
 marks : (c d : ℕ) → Marks c d
 marks c d = elim (cases_eq c 40) [
-  | inl e ↦ elim (cases_eq d 59) [ inl f ↦ inl (inl (e, f)) | inr f ↦ inr ((λ g. f), (λ g. absurd (omega (arith, e, g)))) ]
+  | inl e ↦ elim (cases_eq d 59) [
+    | inl f ↦ inl (inl (e, f))
+    | inr f ↦ inr (
+      (λ g. f),
+      (λ g. absurd (omega (arith, e, g))),
+    )
+  ]
   | inr e ↦ elim (cases_eq c 59) [
     | inl g ↦ elim (cases_eq d 41) [ inl f ↦ inl (inr (g, f)) | inr f ↦ inr ((λ h. absurd (e h)), (λ h. f)) ]
     | inr g ↦ inr ((λ h. absurd (e h)), (λ h. absurd (g h)))
@@ -139,7 +145,8 @@ after-is (c ∷ d ∷ text) depth rest e = elim (marks c d) [
       ∙ e in
       subst (λ (t : List ℕ). Closes depth t rest) (sym q)
       (Closes-close depth text rest f (λ m h. after-is text m rest h))
-  | inr p ↦ Closes-more depth rest (Inside-one c d text p.0 p.1) (after-is (d ∷ text) depth rest (sym (step-other c d text depth p.0 p.1) ∙ e))
+  | inr p ↦ Closes-more depth rest (Inside-one c d text p.0 p.1) (after-is (d
+      ∷ text) depth rest (sym (step-other c d text depth p.0 p.1) ∙ e))
 ]
 
 pub Inside-closed : (text rest : List ℕ) → after_comments text 0 ≡ Some rest → Inside text (59 ∷ 41 ∷ rest)

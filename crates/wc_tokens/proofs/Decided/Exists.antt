@@ -77,7 +77,11 @@ elements-go zero text rest l before = elim (element-or-not rest) [
 ]
 elements-go (suc steps) text rest l before = elim (element-or-not rest) [
   | inl e ↦ (rest, EndsElements-end text rest before refl e)
-  | inr w ↦ elements-go steps text w.1 (omega (arith, l, read_element-shorter rest w.0 w.1 w.2)) (EndsElements-step text rest w.0 w.1 before refl w.2)
+  | inr w ↦ elements-go steps text w.1 (omega (
+    arith,
+    l,
+    read_element-shorter rest w.0 w.1 w.2,
+  )) (EndsElements-step text rest w.0 w.1 before refl w.2)
 ]
 
 pub elements-end : (text : List ℕ) → (end : List ℕ) × EndsElements text end

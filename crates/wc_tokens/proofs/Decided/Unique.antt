@@ -94,7 +94,8 @@ after_run-is (c ∷ run) rest a e = let f = a.0 in rw f (after_run-is run rest a
 elements-end-is : (text rest : List ℕ) → EndsElements text rest → (elements-end text).0 ≡ rest
 elements-end-is text rest s =
     let w = elements-end text in
-    (Elements-same w.0 rest w.1.elements s.elements (sym w.1.text_is ∙ s.text_is) (read_element-none w.0 w.1.ended) (read_element-none rest s.ended)).rest_is
+    (Elements-same w.0 rest w.1.elements s.elements (sym w.1.text_is
+    ∙ s.text_is) (read_element-none w.0 w.1.ended) (read_element-none rest s.ended)).rest_is
 
 -- the bytes that begin other things are no idchars
 no-idchar : (is_idchar 32 ≡ false) × (is_idchar 9 ≡ false) × (is_idchar 10 ≡ false) × (is_idchar 13 ≡ false) ×
@@ -111,7 +112,8 @@ blank-idchar c b = elim (cases_eq c 32) [
       | inl e ↦ ap is_idchar e ∙ no-idchar.2
       | inr o ↦ elim (cases_eq c 13) [
         | inl e ↦ ap is_idchar e ∙ no-idchar.3
-        | inr p ↦ let f : false ≡ true = rw (eq-false c 32 m, eq-false c 9 n, eq-false c 10 o, eq-false c 13 p) at b in absurd cc
+        | inr p ↦ let f : false ≡ true = rw (eq-false c 32 m, eq-false c 9 n, eq-false c 10 o, eq-false c 13 p) at b in
+            absurd cc
       ]
     ]
   ]

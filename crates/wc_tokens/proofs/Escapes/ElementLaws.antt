@@ -108,7 +108,8 @@ read_byte-is high [] value rest e = absurd cc
 read_byte-is high (low ∷ text) value rest e = elim (cases_lt (digit_of high) 16) [
   | inl h ↦ elim (cases_lt (digit_of low) 16) [
     | inl l ↦
-        let f : Some (ValueAndRest ((16 * digit_of high + digit_of low) ∷ []) text) ≡ Some (ValueAndRest value rest) = rw
+        let f : Some (ValueAndRest ((16 * digit_of high + digit_of low) ∷ []) text) ≡ Some (ValueAndRest value rest) =
+        rw
         (lt-true (digit_of high) 16 h, lt-true (digit_of low) 16 l) at e in
         let same : text ≡ rest = cc in
         let is : (16 * digit_of high + digit_of low) ∷ [] ≡ value = cc in
@@ -117,7 +118,8 @@ read_byte-is high (low ∷ text) value rest e = elim (cases_lt (digit_of high) 1
           text_is = ap (λ (t : List ℕ). 92 ∷ high ∷ low ∷ t) same;
           element = subst (Element (92 ∷ high ∷ low ∷ [])) is (byte high low h l);
         }
-    | inr l ↦ let f : None ≡ Some (ValueAndRest value rest) = rw (lt-true (digit_of high) 16 h, lt-false (digit_of low) 16 l) at e in absurd cc
+    | inr l ↦ let f : None ≡ Some (ValueAndRest value rest) =
+        rw (lt-true (digit_of high) 16 h, lt-false (digit_of low) 16 l) at e in absurd cc
   ]
   | inr h ↦ let f : None ≡ Some (ValueAndRest value rest) = rw (lt-false (digit_of high) 16 h) at e in absurd cc
 ]
@@ -132,7 +134,8 @@ read_closed-is text value rest (Some n) (c ∷ after) s e = elim (cases_eq c 125
   | inr b ↦ let f : None ≡ Some (ValueAndRest value rest) = rw (eq-false c 125 b) at e in absurd cc
 ]
   where
-    go : (t : Bool) → scalar n ≡ t → (if t then Some (ValueAndRest (encode_utf8 n) after) else None) ≡ Some (ValueAndRest value rest)
+    go : (t : Bool) → scalar n ≡ t → (if t then Some (ValueAndRest (encode_utf8 n) after) else None) ≡ Some
+        (ValueAndRest value rest)
         → c ≡ 125 → IsRead (92 ∷ 117 ∷ 123 ∷ text) value rest
     go true t f b =
         let found = Found-scan 16 (omega arith) (omega arith) text false (Some 0) [] (c ∷ after) (Some n)
@@ -155,16 +158,19 @@ read_unicode-is : (text value rest : List ℕ) → read_unicode text ≡ Some (V
 unfolding read_unicode
 read_unicode-is [] value rest e = absurd cc
 read_unicode-is (c ∷ text) value rest e = elim (cases_eq c 123) [
-  | inl b ↦ subst (λ (d : ℕ). IsRead (92 ∷ 117 ∷ d ∷ text) value rest) (sym b) (go (scan 16 false (Some 0) text) refl (rw (eq-true c 123 b) at e))
+  | inl b ↦ subst (λ (d : ℕ). IsRead (92 ∷ 117 ∷ d
+      ∷ text) value rest) (sym b) (go (scan 16 false (Some 0) text) refl (rw (eq-true c 123 b) at e))
   | inr b ↦ let f : None ≡ Some (ValueAndRest value rest) = rw (eq-false c 123 b) at e in absurd cc
 ]
   where
-    go : (s : Option (Option ℕ × List ℕ)) → scan 16 false (Some 0) text ≡ s → read_number s ≡ Some (ValueAndRest value rest)
+    go : (s : Option (Option ℕ × List ℕ)) → scan 16 false (Some 0) text ≡ s
+        → read_number s ≡ Some (ValueAndRest value rest)
         → IsRead (92 ∷ 117 ∷ 123 ∷ text) value rest
     go None s f = absurd cc
     go (Some p) s f = read_closed-is text value rest p.0 p.1 s f
 
-read_escape-is : (text value rest : List ℕ) → read_escape text ≡ Some (ValueAndRest value rest) → IsRead (92 ∷ text) value rest
+read_escape-is : (text value rest : List ℕ) → read_escape text ≡ Some (ValueAndRest value rest)
+    → IsRead (92 ∷ text) value rest
 unfolding read_escape
 read_escape-is [] value rest e = absurd cc
 read_escape-is (c ∷ text) value rest e = go (escaped c) refl e
@@ -174,29 +180,43 @@ read_escape-is (c ∷ text) value rest e = go (escaped c) refl e
     go (Some v) s f =
         let same : text ≡ rest = cc in
         let is : v ∷ [] ≡ value = cc in
-        record { part = 92 ∷ c ∷ []; text_is = ap (λ (t : List ℕ). 92 ∷ c ∷ t) same; element = subst (Element (92 ∷ c ∷ [])) is (escape c s) }
+        record {
+          part = 92 ∷ c ∷ [];
+          text_is = ap (λ (t : List ℕ). 92 ∷ c ∷ t) same;
+          element =
+              subst (Element (92 ∷ c ∷ [])) is (escape c s);
+        }
     go None s f = elim (cases_eq c 117) [
-      | inl b ↦ subst (λ (d : ℕ). IsRead (92 ∷ d ∷ text) value rest) (sym b) (read_unicode-is text value rest (rw (eq-true c 117 b) at f))
+      | inl b ↦ subst (λ (d : ℕ). IsRead (92 ∷ d
+          ∷ text) value rest) (sym b) (read_unicode-is text value rest (rw (eq-true c 117 b) at f))
       | inr b ↦ read_byte-is c text value rest (rw (eq-false c 117 b) at f)
     ]
 
 IsPlain-test : (c : ℕ) → c ≢ 92 → is_plain c ≡ true → IsPlain c
 IsPlain-test c n h = (grind (arith, nat_tests), grind (arith, nat_tests), grind (arith, nat_tests), n)
 
-pub read_element-is : (text value rest : List ℕ) → read_element text ≡ Some (ValueAndRest value rest) → IsRead text value rest
+pub read_element-is : (text value rest : List ℕ) → read_element text ≡ Some (ValueAndRest value rest)
+    → IsRead text value rest
 unfolding read_element
 read_element-is [] value rest e = absurd cc
 read_element-is (c ∷ text) value rest e = elim (cases_eq c 92) [
-  | inl b ↦ subst (λ (d : ℕ). IsRead (d ∷ text) value rest) (sym b) (read_escape-is text value rest (rw (eq-true c 92 b) at e))
+  | inl b ↦ subst (λ (d : ℕ). IsRead (d ∷ text) value rest) (sym b)
+      (read_escape-is text value rest (rw (eq-true c 92 b) at e))
   | inr b ↦ go b (is_plain c) refl (rw (eq-false c 92 b) at e)
 ]
   where
     go : c ≢ 92 → (t : Bool) → is_plain c ≡ t
-        → (if t then Some (ValueAndRest (c ∷ []) text) else None) ≡ Some (ValueAndRest value rest) → IsRead (c ∷ text) value rest
+        → (if t then Some (ValueAndRest (c ∷ []) text) else None) ≡ Some (ValueAndRest value rest)
+        → IsRead (c ∷ text) value rest
     go n true t f =
         let same : text ≡ rest = cc in
         let is : c ∷ [] ≡ value = cc in
-        record { part = c ∷ []; text_is = ap (λ (t : List ℕ). c ∷ t) same; element = subst (Element (c ∷ [])) is (plain c (IsPlain-test c n t)) }
+        record {
+          part = c ∷ [];
+          text_is = ap (λ (t : List ℕ). c ∷ t) same;
+          element =
+              subst (Element (c ∷ [])) is (plain c (IsPlain-test c n t));
+        }
     go n false t f = absurd cc
 
 -- ---- no element
@@ -211,7 +231,8 @@ read_element-none text empty = go (read_element text) refl
 
 pub NoElement-read : (text : List ℕ) → read_element text ≡ None → NoElement text
 NoElement-read text unread part value rest element is =
-    let e : Some (ValueAndRest value rest) ≡ None = sym (read-Element element rest) ∙ ap read_element (sym is) ∙ unread in
+    let e : Some (ValueAndRest value rest) ≡ None = sym (read-Element element rest) ∙ ap read_element (sym is)
+    ∙ unread in
     absurd cc
 
 -- ---- elements one after another
@@ -234,12 +255,14 @@ pub Elements-same : {a b v w : List ℕ} (r s : List ℕ) → Elements a v → E
 Elements-same r s none none e m n = record { rest_is = e; bytes_is = refl }
 Elements-same r s none (more {part = part} {rest = rest} {value = value} f fs) e m n =
     let whole : r ≡ part ++ (rest ++ s) = e ∙ append_assoc part rest s in
-    let g : Some (ValueAndRest value (rest ++ s)) ≡ None = sym (read-Element f (rest ++ s)) ∙ ap read_element (sym whole)
+    let g : Some (ValueAndRest value (rest ++ s)) ≡ None = sym (read-Element f (rest ++ s))
+    ∙ ap read_element (sym whole)
     ∙ m in
     absurd cc
 Elements-same r s (more {part = part} {rest = rest} {value = value} f fs) none e m n =
     let whole : s ≡ part ++ (rest ++ r) = sym e ∙ append_assoc part rest r in
-    let g : Some (ValueAndRest value (rest ++ r)) ≡ None = sym (read-Element f (rest ++ r)) ∙ ap read_element (sym whole)
+    let g : Some (ValueAndRest value (rest ++ r)) ≡ None = sym (read-Element f (rest ++ r))
+    ∙ ap read_element (sym whole)
     ∙ n in
     absurd cc
 Elements-same r s (more {part = p} {rest = a} {value = v} {values = vs} f fs)
@@ -303,5 +326,8 @@ pub IsBegun-more : (text rest old new : List ℕ) {r : Option FirstElement} (val
 IsBegun-more text rest old new value after (body, is, es) e f n =
     let i = read_element-is rest value after (sym e ∙ f) in
     let whole : body ++ rest ≡ (body ++ i.part) ++ after = ap (λ (t : List ℕ). body ++ t) i.text_is
-    ∙ sym (append_assoc body i.part after) in
-    (body ++ i.part, is ∙ ap (λ (t : List ℕ). 34 ∷ t) whole, subst (Elements (body ++ i.part)) (sym n) (Elements-append es (Elements-one i.element)))
+    ∙ sym (append_assoc body i.part after) in (
+      body ++ i.part,
+      is ∙ ap (λ (t : List ℕ). 34 ∷ t) whole,
+      subst (Elements (body ++ i.part)) (sym n) (Elements-append es (Elements-one i.element)),
+    )

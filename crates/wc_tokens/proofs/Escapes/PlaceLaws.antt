@@ -84,7 +84,8 @@ escape-digits text k h e = elim h [
   | inr escape ↦ (digit-apart _ escape.1, digit-apart _ escape.2)
 ]
 
-before : (text values starts : List ℕ) (n k : ℕ) → ((j : ℕ) → j < n → IsSimpleAt text j) → AreNoted text values starts n → k < n → IsBefore text starts k
+before : (text values starts : List ℕ) (n k : ℕ) → ((j : ℕ) → j < n → IsSimpleAt text j) → AreNoted text values starts n
+    → k < n → IsBefore text starts k
 before text values starts n zero simple h lt = record {
   a = 0;
   b = 0;

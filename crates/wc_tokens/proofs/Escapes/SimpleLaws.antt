@@ -35,7 +35,14 @@ EndsElements-read text value after rest r e =
     subst (λ (t : List ℕ). EndsElements t rest) (sym i.text_is) (EndsElements-cons i.element e)
 
 pub EndsElements-here : (rest : List ℕ) → read_element rest ≡ None → EndsElements rest rest
-EndsElements-here rest r = record { body = []; bytes = []; text_is = refl; elements = none; ended = NoElement-read rest r }
+EndsElements-here rest r = record {
+  body = [];
+  bytes = [];
+  text_is = refl;
+  elements = none;
+  ended =
+      NoElement-read rest r;
+}
 
 -- ---- one element less in front
 
@@ -126,7 +133,8 @@ Element-digits high low h l first second lt =
     rw (a.1, b.1) (byte high low a.0 b.0)
 
 -- the byte that stands for itself, likewise
-pub Element-plain : (c value : ℕ) → (value < 256 → IsPlain c × (value ≡ c)) → value < 256 → Element (c ∷ []) (value ∷ [])
+pub Element-plain : (c value : ℕ) → (value < 256 → IsPlain c × (value ≡ c)) → value < 256
+    → Element (c ∷ []) (value ∷ [])
 Element-plain c value told lt =
     let p = told lt in
     rw p.1 (plain c p.0)

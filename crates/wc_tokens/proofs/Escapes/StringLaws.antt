@@ -13,8 +13,11 @@ IsBegun text rest bytes = (body : List ℕ) × (text ≡ 34 ∷ (body ++ rest)) 
 pub IsBegun-quote : (text bytes : List ℕ) → (value : List ℕ) × IsString text value → bytes ≡ text → (bytes' : List ℕ)
     → bytes' ≡ [] → IsBegun text (take (length bytes - 1) (drop 1 bytes)) bytes'
 IsBegun-quote text bytes (value, s) same bytes' empty =
-    let start : text ≡ 34 ∷ take (length text - 1) (drop 1 text) = behind text (s.body ++ 34 ∷ []) s.text_is in
-    ([], subst (λ (t : List ℕ). text ≡ 34 ∷ take (length t - 1) (drop 1 t)) (sym same) start, subst (Elements []) (sym empty) none)
+    let start : text ≡ 34 ∷ take (length text - 1) (drop 1 text) = behind text (s.body ++ 34 ∷ []) s.text_is in (
+      [],
+      subst (λ (t : List ℕ). text ≡ 34 ∷ take (length t - 1) (drop 1 t)) (sym same) start,
+      subst (Elements []) (sym empty) none,
+    )
   where
     behind : (text tail : List ℕ) → text ≡ 34 ∷ tail → text ≡ 34 ∷ take (length text - 1) (drop 1 text)
     behind [] tail e = absurd cc
@@ -32,7 +35,8 @@ IsBegun-end text rest bytes (body, is, es) e f value s =
     (Elements-same rest (34 ∷ []) es s.elements same (sym e ∙ f) (read_element-quote [])).bytes_is
 
 -- a run of elements more
-pub IsBegun-run : (text rest old new values : List ℕ) (len : ℕ) → IsBegun text rest old → Elements (take len rest) values
+pub IsBegun-run : (text rest old new values : List ℕ) (len : ℕ) → IsBegun text rest old
+    → Elements (take len rest) values
     → new ≡ old ++ values → IsBegun text (drop len rest) new
 IsBegun-run text rest old new values len (body, is, es) fs n =
     let whole : body ++ rest ≡ (body ++ take len rest) ++ drop len rest = ap (λ (t : List ℕ). body ++ t)

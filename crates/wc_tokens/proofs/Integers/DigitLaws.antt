@@ -63,8 +63,12 @@ module _ (base : ℕ) (pos : 0 < base) (low : base ≤ 36) where
 
   Before-digit : (after_digit : Bool) (value : Option ℕ) (front : List ℕ) (c : ℕ) → IsDigit base c
       → Before after_digit value front → Before true (extended base value (digit_of c)) (front ++ c ∷ [])
-  Before-digit true value front c d b =
-      (base * b.0 + digit_of c, more c b.1 d, ap (λ v. extended base v (digit_of c)) b.2 ∙ extended-fitting base b.0 (digit_of c) pos)
+  Before-digit true value front c d b = (
+    base * b.0 + digit_of c,
+    more c b.1 d,
+    ap (λ v. extended base v (digit_of c)) b.2
+        ∙ extended-fitting base b.0 (digit_of c) pos,
+  )
   Before-digit false value front c d (inl b) =
       (digit_of c, rw b.0 (one c d), ap (λ v. extended base v (digit_of c)) b.1 ∙ ap fitting (omega arith))
   Before-digit false value front c d (inr b) = (
@@ -106,12 +110,14 @@ module _ (base : ℕ) (pos : 0 < base) (low : base ≤ 36) where
     | inl d ↦ Found-more c front text rest v
         (Found-scan text true (extended base value (digit_of c)) (front ++ c ∷ []) rest v
         (Before-digit after_digit value front c d b) (sym (scan-digit base after_digit value c text d) ∙ e))
-    | inr d ↦ Found-other c text after_digit value front rest v b e d (λ w. Found-scan text false value (front ++ 95 ∷ []) rest v w)
+    | inr d ↦ Found-other c text after_digit value front rest v b e d (λ w.
+        Found-scan text false value (front ++ 95 ∷ []) rest v w)
   ]
     where
       Found-other : (c : ℕ) (text : List ℕ) (after_digit : Bool) (value : Option ℕ) (front rest : List ℕ) (v : Option ℕ)
           → Before after_digit value front → scan base after_digit value (c ∷ text) ≡ Some (v, rest) → base ≤ digit_of c
-          → (Before false value (front ++ 95 ∷ []) → scan base false value text ≡ Some (v, rest) → Found (front ++ 95 ∷ []) text rest v)
+          → (Before false value (front ++ 95 ∷ []) → scan base false value text ≡ Some (v, rest)
+          → Found (front ++ 95 ∷ []) text rest v)
           → Found front (c ∷ text) rest v
       Found-other c text true value front rest v b e d next = elim (cases_eq c 95) [
         | inl s ↦

@@ -43,7 +43,8 @@ module _ (text : List ℕ) (limit : ℕ) (within : limit ≤ 2 ^ 64) where
   )
   IsNum-value Range r n = (
     (λ e. absurd cc),
-    (λ h. let small : n < 2 ^ 64 = omega (arith, h.1) in let s = same-Natural h.0 r.1 small in absurd (omega (arith, h.1, r.2))),
+    (λ h. let small : n < 2 ^ 64 = omega (arith, h.1) in let s = same-Natural h.0 r.1 small in
+        absurd (omega (arith, h.1, r.2))),
   )
   IsNum-value NotANumber r n = ((λ e. absurd cc), (λ h. absurd (r n h.0)))
 
@@ -51,7 +52,8 @@ module _ (text : List ℕ) (limit : ℕ) (within : limit ≤ 2 ^ 64) where
       → (result ≡ Range) ↔ ((n : ℕ) × Natural text n × (limit ≤ n))
   IsNum-range (Value m) r = (
     (λ e. absurd cc),
-    (λ h. let small : m < 2 ^ 64 = omega (arith, r.1) in let s = same-Natural r.0 h.1 small in absurd (omega (arith, h.2, r.1))),
+    (λ h. let small : m < 2 ^ 64 = omega (arith, r.1) in let s = same-Natural r.0 h.1 small in
+        absurd (omega (arith, h.2, r.1))),
   )
   IsNum-range Range r = ((λ e. r), (λ h. refl))
   IsNum-range NotANumber r = ((λ e. absurd cc), (λ h. absurd (r h.0 h.1)))
@@ -303,7 +305,8 @@ IsInteger-minus bits max text bytes digits number width top same front reads is 
     let w = IsWidth-bits bits max width top in
     let a = Answers-minus bits max digits number w reads in
     subst (IsInteger bits text) (sym is)
-    (IsInteger-answers bits Minus text digits (negated number max) (HasSign-minus text digits (sym same ∙ front)) (λ n f. omega (arith, f, w.half_within)) a)
+    (IsInteger-answers bits Minus text digits (negated number max) (HasSign-minus text digits (sym same
+    ∙ front)) (λ n f. omega (arith, f, w.half_within)) a)
 
 pub IsInteger-unsigned : (bits max : ℕ) (text bytes : List ℕ) (number : Num) {result : Num} → (bits ≡ 32) ⊎ (bits ≡ 64)
     → max + 1 ≡ 2 ^ bits → bytes ≡ text → ((rest : List ℕ) → bytes ≢ 43 ∷ rest) → ((rest : List ℕ) → bytes ≢ 45 ∷ rest)

@@ -45,7 +45,8 @@ pub scan-none : (base : ℕ) (value : Option ℕ) → scan base false value [] �
 unfolding scan
 scan-none base value = refl
 
--- ---- the same at a place of a text, as the code goes on: read is what is read from there, whole what is read from the start
+-- ---- the same at a place of a text, as the code goes on: read is what is read from there, whole what is read from the
+-- start
 
 abbrev Scanned : Type 0
 Scanned = Option (Option ℕ × List ℕ)

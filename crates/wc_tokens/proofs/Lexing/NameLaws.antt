@@ -11,4 +11,5 @@ rare-or-idchar = refl
 
 pub idchar-from : (c : ℕ) → c < 256 → is_rare c ≡ false → IsIdchar c
 idchar-from c byte e =
-    sym (ap (λ b. b || is_idchar c) e) ∙ agree_below_at (λ c. is_rare c || is_idchar c) (λ _. true) 256 c rare-or-idchar byte
+    sym (ap (λ b. b || is_idchar c) e) ∙ agree_below_at (λ c. is_rare c || is_idchar c) (λ _.
+    true) 256 c rare-or-idchar byte

@@ -38,13 +38,42 @@ HasEnds-run : (kind : TokenKind) (text : List ℕ) → IsRun kind text → HasEn
 HasEnds-run kind [] r = absurd (r.some refl)
 HasEnds-run kind (c ∷ run) r =
     let w = run-last c run r.idchars in
-    record { first = c; tail = run; begins = refl; first_ascii = idchar-ascii c r.idchars.0; front = w.0; last = w.1; ends = w.2; last_ascii = w.3 }
+    record {
+      first = c;
+      tail = run;
+      begins = refl;
+      first_ascii = idchar-ascii c r.idchars.0;
+      front = w.0;
+      last = w.1;
+      ends = w.2;
+      last_ascii = w.3;
+    }
 
 HasEnds-form : (kind : TokenKind) (text : List ℕ) → HasForm kind text → HasEnds text
 HasEnds-form Open text f =
-    record { first = 40; tail = []; begins = f; first_ascii = omega arith; front = []; last = 40; ends = f; last_ascii = omega arith }
+    record {
+      first = 40;
+      tail = [];
+      begins = f;
+      first_ascii = omega arith;
+      front = [];
+      last = 40;
+      ends = f;
+      last_ascii =
+          omega arith;
+    }
 HasEnds-form Close text f =
-    record { first = 41; tail = []; begins = f; first_ascii = omega arith; front = []; last = 41; ends = f; last_ascii = omega arith }
+    record {
+      first = 41;
+      tail = [];
+      begins = f;
+      first_ascii = omega arith;
+      front = [];
+      last = 41;
+      ends = f;
+      last_ascii =
+          omega arith;
+    }
 HasEnds-form Id text f = HasEnds-run Id text f
 HasEnds-form Str text f =
     record {

@@ -31,7 +31,8 @@ each-byte (x ∷ xs) h = (h 0, each-byte xs (λ k. h (suc k)))
 
 -- the same where they are dropped, which are bytes
 pub pending-dropped : (buffer : List ℕ) (at end n k : ℕ) → k ≡ n → at + n ≤ end → end ≤ length buffer
-    → AllByRecursion IsByte (take k (drop at buffer)) → (after left : List ℕ) → left ≡ drop at (take end buffer) ++ after
+    → AllByRecursion IsByte (take k (drop at buffer)) → (after left : List ℕ)
+    → left ≡ drop at (take end buffer) ++ after
     → (n ≤ length left) × (drop (at + n) (take end buffer) ++ after ≡ drop n left) × AllByRecursion IsByte (take n left)
 pending-dropped buffer at end n k same le within are after left is =
     let split = pending-split buffer at end n k same le within in

@@ -22,7 +22,8 @@ use Rattle.wc_binary.proofs.spelling.whole.Contents.{code-writes}
 
 -- what was passed is what the first bytes ahead spell
 module _ {A : Type 0} (p : Phrase A) (old new : Input) (bytes x : List ℕ) (n : ℕ) (v : A)
-    (ahead : AreAhead old (length bytes) bytes) (few : n ≤ length bytes) (are : take n bytes ≡ x) (spelled : Spells p x v)
+    (ahead : AreAhead old (length bytes) bytes) (few : n ≤ length bytes) (are : take n bytes ≡ x)
+    (spelled : Spells p x v)
     (passes : Passes n old new n)
   where
     long : length x ≡ n
@@ -45,7 +46,8 @@ module _ {A : Type 0} (p : Phrase A) (old new : Input) (bytes x : List ℕ) (n :
       λ k. ((passes.3 k).0, rw (next k, spells-read p old.place x new.left v spelled, place) refl),
     )
 
-pub code-passed : (row after : List FuncCode) (old new : Input) (bytes : List ℕ) (n : ℕ) → AreAhead old (length bytes) bytes
+pub code-passed : (row after : List FuncCode) (old new : Input) (bytes : List ℕ) (n : ℕ)
+    → AreAhead old (length bytes) bytes
     → (h : AddsCode row after bytes (Some n)) → Passes n old new n → Gives code old new (Ok h.0)
 code-passed row after old new bytes n ahead h passes =
     let f = h.0 in
@@ -54,7 +56,8 @@ code-passed row after old new bytes n ahead h passes =
 
 -- ---- a small code without locals
 
-pub begins-bare : (x rest left body : List ℕ) (size groups count : ℕ) → x ≡ size ∷ rest → rest ≡ groups ∷ left → size ≢ 0
+pub begins-bare : (x rest left body : List ℕ) (size groups count : ℕ) → x ≡ size ∷ rest → rest ≡ groups ∷ left
+    → size ≢ 0
     → size < 128 → groups ≡ 0 → count ≡ size - 1 → count ≤ length left → body ≡ take count left → BeginsBare x body
 begins-bare x rest left body size groups count e f some low none is within are =
     let long : size ≡ suc (length body) =
@@ -85,7 +88,8 @@ bare-adds row after x body b h =
     let all : length (suc (length body) ∷ 0 ∷ body) ≡ length body + 2 = omega arith in (
       code_of [] c,
       omega (arith, ap length b.1, length-append body b.0),
-      ap (λ (y : List ℕ). take (length body + 2) y) b.1 ∙ take_at (suc (length body) ∷ 0 ∷ body) b.0 (length body + 2) all
+      ap (λ (y : List ℕ). take (length body + 2) y) b.1
+          ∙ take_at (suc (length body) ∷ 0 ∷ body) b.0 (length body + 2) all
           ∙ sym are,
       bare-fits body c h.1 b.2 h.2,
       h.3,

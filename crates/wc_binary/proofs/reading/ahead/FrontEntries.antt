@@ -55,7 +55,8 @@ behind : (o : ℕ) (x : List ℕ) → o + 1 + length x ≡ o + suc (length x)
 behind o x = omega arith
 
 -- the opcode of an instruction, and bytes that spell what follows it
-spelled-read : (d : Draft Instr BlockType) (i : Instr) (x : List ℕ) (o : ℕ) (z : List ℕ) → Spells (follows (op_of i)) x i
+spelled-read : (d : Draft Instr BlockType) (i : Instr) (x : List ℕ) (o : ℕ) (z : List ℕ)
+    → Spells (follows (op_of i)) x i
     → IsRead d (Plain i) ((row (op_of i)).byte ∷ x) o z
 spelled-read d i x o z spelled =
     let u = op_of i in
@@ -139,8 +140,12 @@ run-marks : (es : List Entry) (x : List ℕ) (d : Draft Instr BlockType) (o n : 
     × (all_marks (suc m) (steps d (marks es)) (o + length x) y ≡ all_marks (suc n) d o (x ++ y))
 run-marks [] x d o n y f s le =
     let here : o + length x ≡ o = omega (arith, ap length f) in
-    let none : x ++ y ≡ y = ap (λ (q : List ℕ). q ++ y) f in
-    (n, rw none at le, ap (λ (q : ℕ). all_marks (suc n) d q y) here ∙ ap (λ (q : List ℕ). all_marks (suc n) d o q) (sym none))
+    let none : x ++ y ≡ y = ap (λ (q : List ℕ). q ++ y) f in (
+      n,
+      rw none at le,
+      ap (λ (q : ℕ). all_marks (suc n) d q y) here
+          ∙ ap (λ (q : List ℕ). all_marks (suc n) d o q) (sym none),
+    )
 run-marks (e ∷ es) x d o n y (w, v, is, one, f) s le =
     let z = v ++ y in
     let whole : x ++ y ≡ w ++ z = ap (λ (q : List ℕ). q ++ y) is ∙ append_assoc w v y in

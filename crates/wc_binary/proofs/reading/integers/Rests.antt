@@ -50,14 +50,16 @@ rest-taken N first old new bytes y v count n ahead (b ∷ a, e, s) all passes =
     (a, subst (λ (x : ℕ). U N (x ∷ a) v) head s, takes old new bytes a y count n ahead tail all passes)
 
 -- what is left is no more than what lay ahead
-pub rest-within : (N first : ℕ) (bytes y : List ℕ) (v : ℕ) → IsAtFront (U N) (first ∷ bytes) v y → length y ≤ length bytes
+pub rest-within : (N first : ℕ) (bytes y : List ℕ) (v : ℕ) → IsAtFront (U N) (first ∷ bytes) v y
+    → length y ≤ length bytes
 rest-within N first bytes y v ([], e, s) = absurd s
 rest-within N first bytes y v (b ∷ a, e, s) =
     let tail : bytes ≡ a ++ y = cc in
     omega (arith, ap length tail, length-append a y)
 
 -- so reading gives the integer
-pub rest-gives : (N start first v : ℕ) (old new : Input) → old.place ≡ start + 1 → TakesRest (U N) first old new (Some v)
+pub rest-gives : (N start first v : ℕ) (old new : Input) → old.place ≡ start + 1
+    → TakesRest (U N) first old new (Some v)
     → Gave old new (Ok v) (λ x. unsigned_at N start (first ∷ x))
 rest-gives N start first v old new e (a, s, t) = (
   t.0,

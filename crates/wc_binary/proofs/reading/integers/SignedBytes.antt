@@ -21,7 +21,13 @@ pub record Held (a : List ℕ) (start first : ℕ) (old now : Input) (at byte : 
   pub bytes : IsTrue old.known → IsTrue now.known × (first ∷ old.left ≡ a ++ byte ∷ now.left) × (at ≡ start + length a)
 
 pub held-first : (start first : ℕ) (old : Input) → old.place ≡ start + 1 → Held [] start first old old start first
-held-first start first old e = record { going = GoesOn-refl old; begun = e; behind = e; bytes = λ k. (k, refl, omega arith) }
+held-first start first old e = record {
+  going = GoesOn-refl old;
+  begun = e;
+  behind = e;
+  bytes = λ k.
+      (k, refl, omega arith);
+}
 
 -- the same up to any place behind them
 pub held-to : (a : List ℕ) (start first : ℕ) (old now : Input) (at byte : ℕ) → Held a start first old now at byte
@@ -90,5 +96,6 @@ module _ (N : ℕ) (a : List ℕ) (start first : ℕ) (old now : Input) (at byte
         s.0,
         λ c within e.
             let t = signed-stopped-at N start (a ++ byte ∷ []) (bytes_to c now) f u (inl (e, refl)) in
-            ap (λ (z : List ℕ). signed_at N start z) (held-to a start first old now at byte h k c within) ∙ t ∙ ap (λ (q : ℕ). Err (halt q End q)) place,
+            ap (λ (z : List ℕ). signed_at N start z) (held-to a start first old now at byte h k c within) ∙ t
+            ∙ ap (λ (q : ℕ). Err (halt q End q)) place,
       )

@@ -53,5 +53,6 @@ module _ (N : ℕ) (a : List ℕ) (start first : ℕ) (old now : Input) (at byte
         s.0,
         λ c within e.
             let t = unsigned-stopped-at N start (a ++ byte ∷ []) (bytes_to c now) f u (inl (e, refl)) in
-            ap (λ (z : List ℕ). unsigned_at N start z) (held-to a start first old now at byte h k c within) ∙ t ∙ ap (λ (q : ℕ). Err (halt q End q)) place,
+            ap (λ (z : List ℕ). unsigned_at N start z) (held-to a start first old now at byte h k c within) ∙ t
+            ∙ ap (λ (q : ℕ). Err (halt q End q)) place,
       )

@@ -56,7 +56,8 @@ module _ (s : Style) (V : List ℕ → List ℕ → Type 0) (j : Judges s V) (p 
       let rest = bytes_from p ks in (
         (one.0, behind.0),
         rw split
-            (j.join h.0 (h.1 ++ h.2) [] (here ++ rest) (customs-told s V j h.0 h.4) (j.join h.1 h.2 here rest one.1 behind.1)),
+            (j.join h.0 (h.1 ++ h.2) [] (here ++ rest) (customs-told s V j h.0 h.4)
+            (j.join h.1 h.2 here rest one.1 behind.1)),
       )
 
   pub sections-told : (b : List ℕ) → HasFrom s p in_order b → FitsSections p × V b (sections_bytes p)

@@ -64,7 +64,8 @@ bytes-writes = record {
 abbrev elem_fits : Elem → Type 0
 elem_fits e =
     Fits32 e.table ×
-    (FitsExpr e.offset × (FitsVector Fits32 e.funcs × (e ≡ record { table = e.table; offset = e.offset; funcs = e.funcs })))
+    (FitsExpr e.offset × (FitsVector Fits32 e.funcs
+    × (e ≡ record { table = e.table; offset = e.offset; funcs = e.funcs })))
 
 pub elem-writes : HasBytes (of elem_segment) FitsElem elem_bytes
 unfolding elem_segment
@@ -72,7 +73,8 @@ elem-writes =
     writes-as (of elem_segment) elem_fits FitsElem elem_bytes elem_bytes
     (then-writes u32 (λ x. expr >>= λ o. vector u32 >>= λ fs. gives (record { table = x; offset = o; funcs = fs }))
     Fits32 unsigned_bytes
-    (λ x e. FitsExpr e.offset × (FitsVector Fits32 e.funcs × (e ≡ record { table = x; offset = e.offset; funcs = e.funcs })))
+    (λ x e. FitsExpr e.offset × (FitsVector Fits32 e.funcs
+    × (e ≡ record { table = x; offset = e.offset; funcs = e.funcs })))
     (λ x e. expr_bytes e.offset ++ vector_bytes unsigned_bytes e.funcs)
     (λ e. e.table)
     u32-writes
@@ -97,7 +99,8 @@ pub data-writes : HasBytes (of data_segment) FitsData data_bytes
 unfolding data_segment
 data-writes =
     writes-as (of data_segment) data_fits FitsData data_bytes data_bytes
-    (then-writes u32 (λ x. expr >>= λ o. vector any_byte >>= λ bs. gives (record { memory = x; offset = o; bytes = bs }))
+    (then-writes u32 (λ x. expr >>= λ o. vector any_byte >>= λ bs.
+    gives (record { memory = x; offset = o; bytes = bs }))
     Fits32 unsigned_bytes
     (λ x d. FitsExpr d.offset × (FitsBytes d.bytes × (d ≡ record { memory = x; offset = d.offset; bytes = d.bytes })))
     (λ x d. expr_bytes d.offset ++ sized_bytes d.bytes)
@@ -109,7 +112,8 @@ data-writes =
     (λ o d. sized_bytes d.bytes)
     (λ d. d.offset)
     expr-writes
-    (λ o. seen-writes (vector any_byte) FitsBytes sized_bytes bytes-writes (λ bs. record { memory = x; offset = o; bytes = bs }) (λ d. d.bytes) (λ bs. refl))
+    (λ o. seen-writes (vector any_byte) FitsBytes sized_bytes bytes-writes (λ bs.
+    record { memory = x; offset = o; bytes = bs }) (λ d. d.bytes) (λ bs. refl))
     (λ s o b v h. sym (ap (λ (y : Data). y.offset) h.5.1)))
     (λ s x b v h. sym (ap (λ (y : Data). y.memory) h.5.5.1)))
     (λ d h. (h.0, (h.1.0, h.1.1.0))) (λ d h. (h.0, (h.1.0, (h.1.1, refl)))) (λ d. refl)
@@ -129,7 +133,8 @@ func-writes =
     (λ ls f. expr_bytes f.body)
     (λ f. f.locals)
     locals-writes
-    (λ ls. seen-writes expr FitsExpr expr_bytes expr-writes (λ e. record { locals = ls; body = e }) (λ f. f.body) (λ e. refl))
+    (λ ls. seen-writes expr FitsExpr expr_bytes expr-writes (λ e. record { locals = ls; body = e }) (λ f. f.body) (λ e.
+    refl))
     (λ s ls b v h. sym (ap (λ (x : FuncCode). x.locals) h.5.1)))
     (λ f h. (h.0, h.1.0)) (λ f h. (h.0, (h.1, refl))) (λ f. refl)
 

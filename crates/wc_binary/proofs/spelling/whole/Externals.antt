@@ -75,8 +75,14 @@ unfolding name
 name-writes = record {
   written =
       λ v h. let good = is_utf8-from_IsUtf8 v h.1
-      in
-      (unsigned_bytes (length v), v, length v, refl, u32-writes.written (length v) h.0, (raw-written v (utf8-bytes v h.1), rw good refl));
+      in (
+        unsigned_bytes (length v),
+        v,
+        length v,
+        refl,
+        u32-writes.written (length v) h.0,
+        (raw-written v (utf8-bytes v h.1), rw good refl),
+      );
   told = λ s V j b v h.
       let n = u32-writes.told s V j h.0 h.2 h.4 in
       let r = raw-told s h.2 h.1 v h.5.0 in
@@ -113,7 +119,16 @@ pub kind-writes : HasBytes (of kind) Anything kind_bytes
 unfolding kind
 kind-writes =
     byte-writes kind_of kind_bytes
-    (elim [ kinds.Func ↦ (0, refl, refl) | kinds.Table ↦ (1, refl, refl) | kinds.Memory ↦ (2, refl, refl) | kinds.Global ↦ (3, refl, refl) ])
+    (elim [
+      | kinds.Func ↦ (0, refl, refl)
+      | kinds.Table ↦ (1, refl, refl)
+      | kinds.Memory ↦ (
+        2,
+        refl,
+        refl,
+      )
+      | kinds.Global ↦ (3, refl, refl)
+    ])
     kind-only
 
 abbrev desc_kind : Desc → ExportKind
@@ -181,7 +196,8 @@ unfolding desc
 desc-writes =
     writes-as (of desc) (λ d. Unit {0} × FitsKind (desc_kind d) d) FitsDesc
     (λ d. kind_bytes (desc_kind d) ++ behind_kind d) desc_bytes
-    (then-writes kind desc_of Anything kind_bytes FitsKind (λ k d. behind_kind d) desc_kind kind-writes desc_of-writes kind-is)
+    (then-writes kind desc_of Anything kind_bytes FitsKind (λ k d.
+    behind_kind d) desc_kind kind-writes desc_of-writes kind-is)
     (λ d h. h.1.1) (λ d h. (tt, (refl, h))) desc_bytes-split
   where
     kind-is : (s : Style) (k : ExportKind) (b : List ℕ) (v : Desc) → SpellsBy s (desc_of k) b v → k ≡ desc_kind v
@@ -211,7 +227,8 @@ import-writes =
     (λ n i. desc_bytes i.desc)
     (λ i. i.name)
     name-writes
-    (λ n. seen-writes desc FitsDesc desc_bytes desc-writes (λ d. record { «module» = m; name = n; desc = d }) (λ i. i.desc) (λ d. refl))
+    (λ n. seen-writes desc FitsDesc desc_bytes desc-writes (λ d. record { «module» = m; name = n; desc = d }) (λ i.
+    i.desc) (λ d. refl))
     (λ s n b v h. sym (ap (λ (x : Import). x.name) h.5.1)))
     (λ s m b v h. sym (ap (λ (x : Import). x.«module») h.5.5.1)))
     (λ i h. (h.0, (h.1.0, h.1.1.0))) (λ i h. (h.0, (h.1.0, (h.1.1, refl)))) (λ i. refl)
@@ -236,7 +253,8 @@ export-writes =
     (λ k e. unsigned_bytes e.index)
     (λ e. e.kind)
     kind-writes
-    (λ k. seen-writes u32 Fits32 unsigned_bytes u32-writes (λ x. record { name = n; kind = k; index = x }) (λ e. e.index) (λ x. refl))
+    (λ k. seen-writes u32 Fits32 unsigned_bytes u32-writes (λ x. record { name = n; kind = k; index = x }) (λ e.
+    e.index) (λ x. refl))
     (λ s k b v h. sym (ap (λ (x : Export). x.kind) h.5.1)))
     (λ s n b v h. sym (ap (λ (x : Export). x.name) h.5.5.1)))
     (λ e h. (h.0, h.1.1.0)) (λ e h. (h.0, (tt, (h.1, refl)))) (λ e. refl)

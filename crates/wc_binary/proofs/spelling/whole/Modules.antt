@@ -33,8 +33,11 @@ pub module-told : (s : Style) (V : List ℕ → List ℕ → Type 0) → Judges 
 module-told s V j b m h =
     let t = sections-told s V j (parts_of m) h.1 h.4 in
     let front = preamble-told s h.0 h.3 in
-    let split = h.2 in
-    (t.0, rw (split, front) (j.join preamble_bytes h.1 preamble_bytes (sections_bytes (parts_of m)) (j.same preamble_bytes) t.1))
+    let split = h.2 in (
+      t.0,
+      rw (split, front) (j.join preamble_bytes h.1 preamble_bytes (sections_bytes (parts_of m))
+          (j.same preamble_bytes) t.1),
+    )
 
 -- ---- the canonical bytes are canonical
 

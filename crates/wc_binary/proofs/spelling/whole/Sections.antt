@@ -55,7 +55,8 @@ module _ {A : Type 0} (id : ℕ) (p : Phrase A) (Fits : A → Type 0) (w : A →
   section-written (v ∷ vs) fits =
       inr (sized_bytes (vector_bytes w (v ∷ vs)), refl, vector_writes.written (v ∷ vs) fits, λ e. absurd cc)
 
-  pub section-writes : HasBytes (StandsAlone id (sized SectionSize (vector p)) []) (FitsSection w Fits) (section_bytes id w)
+  pub section-writes : HasBytes (StandsAlone id (sized SectionSize (vector p)) []) (FitsSection w Fits)
+      (section_bytes id w)
   section-writes = record { written = section-written; told = section-told }
 
 -- ---- the start section
@@ -77,7 +78,8 @@ start_writes : HasBytes (of (sized SectionSize start)) (FitsSized index_bytes Fi
 unfolding start
 start_writes =
     sized-writes start FitsIndex index_bytes
-    (made-writes u32 Fits32 unsigned_bytes (λ n. Some n) FitsIndex index_bytes u32-writes (λ n f. f) (λ n. refl) index-back) SectionSize
+    (made-writes u32 Fits32 unsigned_bytes (λ n. Some n) FitsIndex index_bytes u32-writes (λ n f. f) (λ n.
+    refl) index-back) SectionSize
 
 module _ (id : ℕ) (s : Style) (V : List ℕ → List ℕ → Type 0) (j : Judges s V) where
   start-stands : (a : List ℕ) (v : Option ℕ) → FitsSized index_bytes FitsIndex v → V a (sized_bytes (index_bytes v))
@@ -86,14 +88,16 @@ module _ (id : ℕ) (s : Style) (V : List ℕ → List ℕ → Type 0) (j : Judg
   start-stands a (Some index) fits v =
       (fits, j.join (id ∷ []) a (id ∷ []) (sized_bytes (unsigned_bytes index)) (j.same (id ∷ [])) v)
 
-  start-told : (b : List ℕ) (v : Option ℕ) → StandsAlone id (sized SectionSize start) None s b v → FitsStart v × V b (start_bytes id v)
+  start-told : (b : List ℕ) (v : Option ℕ) → StandsAlone id (sized SectionSize start) None s b v → FitsStart v
+      × V b (start_bytes id v)
   start-told b v (inl h) = let empty = h.0 in let none = h.1 in rw (none, empty) (tt, j.same [])
   start-told b v (inr h) =
       let t = start_writes.told s V j h.0 v h.2 in
       let split = h.1 in
       rw split (start-stands h.0 v t.0 t.1)
 
-start-written : (id : ℕ) (v : Option ℕ) → FitsStart v → StandsAlone id (sized SectionSize start) None canonical (start_bytes id v) v
+start-written : (id : ℕ) (v : Option ℕ) → FitsStart v
+    → StandsAlone id (sized SectionSize start) None canonical (start_bytes id v) v
 start-written id None fits = inl (refl, refl)
 start-written id (Some index) fits =
     inr (sized_bytes (unsigned_bytes index), refl, start_writes.written (Some index) fits, λ e. absurd cc)

@@ -22,7 +22,8 @@ packed-spell : (es : List Entry) → AllByRecursion FitsEntry es → SpellEntrie
 packed-spell [] f = refl
 packed-spell (e ∷ es) f = (entry_bytes e, packed es, refl, inl (refl, f.0), packed-spell es f.1)
 
-spell-append : (es fs : List Entry) (x y : List ℕ) → SpellEntries es x → SpellEntries fs y → SpellEntries (es ++ fs) (x ++ y)
+spell-append : (es fs : List Entry) (x y : List ℕ) → SpellEntries es x → SpellEntries fs y
+    → SpellEntries (es ++ fs) (x ++ y)
 spell-append [] fs x y s t = rw s t
 spell-append (e ∷ es) fs x y (a, b, is, one, s) t =
     let split = ap (λ (q : List ℕ). q ++ y) is ∙ append_assoc a b y in
@@ -85,7 +86,8 @@ pub one-shorter : (d after : Draft Instr BlockType) (rest left : List ℕ) → A
 one-shorter d after rest left h =
     omega (arith, ap length h.2, length-append h.1 left, spelled-some h.0 h.1 h.3)
 
-pub later-shorter : (d after : Draft Instr BlockType) (n : ℕ) (rest left : List ℕ) → AddsOne d after (behind n rest) left
+pub later-shorter : (d after : Draft Instr BlockType) (n : ℕ) (rest left : List ℕ)
+    → AddsOne d after (behind n rest) left
     → length left < length rest
 later-shorter d after n rest left h =
     let cut = length-take (length rest - n) (drop n rest) in

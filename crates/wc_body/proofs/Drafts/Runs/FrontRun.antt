@@ -95,7 +95,8 @@ fronted-none x d bytes parts needs s is = record {
   built = rw (append-nil x) is;
 }
 
-pub fronted-more : (x : List ℕ) (d : Draft Instr BlockType) (bytes rest left : List ℕ) (old new : List Part) (s t : Needs)
+pub fronted-more : (x : List ℕ) (d : Draft Instr BlockType) (bytes rest left : List ℕ) (old new : List Part)
+    (s t : Needs)
     → Fronted x d bytes rest old s → Notes rest left s t old new → Fronted x d bytes left new t
 fronted-more x d bytes rest left old new s t f h =
     let e = h.0 in
@@ -126,7 +127,8 @@ pub fronted-taken : (x : List ℕ) (d : Draft Instr BlockType) (bytes rest : Lis
 fronted-taken x d bytes rest parts needs f =
     let count : length bytes - length rest ≡ length (packed f.es) =
     omega (arith, fronted-length x d bytes rest parts needs f) in
-    rw (count, f.split) (take-append-le (length (packed f.es)) (packed f.es) rest (omega arith) ∙ take-length (packed f.es))
+    rw (count, f.split) (take-append-le (length (packed f.es)) (packed f.es) rest (omega arith)
+    ∙ take-length (packed f.es))
 
 -- shorter by an entry
 pub fronted-shorter : (rest left : List ℕ) (e : Entry) → rest ≡ entry_bytes e ++ left → length left < length rest
@@ -140,7 +142,8 @@ pub instr-notes : (x rest : List ℕ) (s t : Needs) (parts : List Part) → Note
 instr-notes x rest s t parts h = (Plain h.0, h.1, h.2, h.3, refl)
 
 -- so many more
-many-more : (n : ℕ) (x : List ℕ) (d : Draft Instr BlockType) (bytes rest left : List ℕ) (parts : List Part) (s t : Needs)
+many-more : (n : ℕ) (x : List ℕ) (d : Draft Instr BlockType) (bytes rest left : List ℕ) (parts : List Part)
+    (s t : Needs)
     → Fronted x d bytes rest parts s → NotesMany n (length parts) rest left s t → Fronted x d bytes left parts t
 many-more zero x d bytes rest left parts s t f h = rw (h.0, h.1) f
 many-more (suc n) x d bytes rest left parts s t f (y, u, before, last) =
@@ -162,13 +165,15 @@ run-shorter k rest left s t h = many-shorter h.0 k rest left s t h.1
 
 -- ---- a usual entry, and such as need no more
 
-marks-more : (n : ℕ) (x : List ℕ) (d : Draft Instr BlockType) (bytes rest left : List ℕ) (old new : List Part) (s : Needs)
+marks-more : (n : ℕ) (x : List ℕ) (d : Draft Instr BlockType) (bytes rest left : List ℕ) (old new : List Part)
+    (s : Needs)
     → Fronted x d bytes rest old s → NotesManyMarks n rest left old new → Fronted x d bytes left new s
 marks-more zero x d bytes rest left old new s f h = rw (h.0, h.1) f
 marks-more (suc n) x d bytes rest left old new s f (y, parts, before, last) =
     fronted-more x d bytes y left parts new s s (marks-more n x d bytes rest y old parts s f before) (last s)
 
-pub fronted-usual : (x : List ℕ) (d : Draft Instr BlockType) (bytes rest left : List ℕ) (old new : List Part) (s t : Needs)
+pub fronted-usual : (x : List ℕ) (d : Draft Instr BlockType) (bytes rest left : List ℕ) (old new : List Part)
+    (s t : Needs)
     → Fronted x d bytes rest old s → NotesUsual rest left s t old new → Fronted x d bytes left new t
 fronted-usual x d bytes rest left old new s t f (y, parts, first, more) =
     marks-more more.0 x d bytes y left parts new t (fronted-more x d bytes rest y old parts s t f first) more.1

@@ -84,9 +84,12 @@ module _ (k b : ℕ) (s : Needs) where
       index-padded Br lt two within (label-noted k b 0 [] s (omega (arith, lt)) within)
   op-padded (ops.Index BrIf) lt two within =
       index-padded BrIf lt two within (label-noted k b 0 [] s (omega (arith, lt)) within)
-  op-padded (ops.Index LocalGet) lt two within = index-padded LocalGet lt two within (local-noted k b 0 [] s (omega (arith, lt)))
-  op-padded (ops.Index LocalSet) lt two within = index-padded LocalSet lt two within (local-noted k b 0 [] s (omega (arith, lt)))
-  op-padded (ops.Index LocalTee) lt two within = index-padded LocalTee lt two within (local-noted k b 0 [] s (omega (arith, lt)))
+  op-padded (ops.Index LocalGet) lt two within =
+      index-padded LocalGet lt two within (local-noted k b 0 [] s (omega (arith, lt)))
+  op-padded (ops.Index LocalSet) lt two within =
+      index-padded LocalSet lt two within (local-noted k b 0 [] s (omega (arith, lt)))
+  op-padded (ops.Index LocalTee) lt two within =
+      index-padded LocalTee lt two within (local-noted k b 0 [] s (omega (arith, lt)))
   op-padded ops.I32Const lt two within = (
     I32Const (pos b),
     rw (signed_bytes-low false b lt) refl,

@@ -12,7 +12,8 @@ returns-in_err-judge_module-clause-err c =
 
 pub returns-in_default-clause-err : goal.returns-in_default-clause-err
 returns-in_default-clause-err c =
-    inr (has-oversize c.args.input.now c.in_ok-module.module c.in_ok-module.ensures.ok c.in_ok-judge_module.ensures.keeps
+    inr (has-oversize c.args.input.now c.in_ok-module.module c.in_ok-module.ensures.ok
+    c.in_ok-judge_module.ensures.keeps
     (rw c.in_default.is at c.encoded_length.ensures))
 
 pub returns-then-not-is_binary-clause-ok : goal.returns-then-not-is_binary-clause-ok

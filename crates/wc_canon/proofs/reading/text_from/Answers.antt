@@ -12,7 +12,8 @@ use Rattle.wc_canon.proofs.reading.text_from.Goals as goal
 
 pub returns-in_err-module-clause-judges : goal.returns-in_err-module-clause-judges
 returns-in_err-module-clause-judges g c =
-    judges-error {V = Module} (λ m. IsOutputOf Text (g.R.Read.remaining (device_inner c.args.r.now)) (text (layout m))) _ _ _ _
+    judges-error {V = Module} (λ m. IsOutputOf Text (g.R.Read.remaining (device_inner c.args.r.now)) (text (layout m)))
+    _ _ _ _
     c.in_err-module.ensures.judges c.from_residual.ensures.1
 
 pub returns-clause-judges : goal.returns-clause-judges

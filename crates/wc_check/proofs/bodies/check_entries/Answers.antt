@@ -9,5 +9,6 @@ loop-entry-init c =
     record {
       shallow = omega (arith, few, c.bytes.type_inv);
       few = omega (arith, few, c.bytes.type_inv);
-      rest = rw c.entries-entries.ensures.marks (walked-all c.args.context.now c.args.locals c.args.func c.args.body.now);
+      rest = rw c.entries-entries.ensures.marks (walked-all c.args.context.now c.args.locals c.args.func
+          c.args.body.now);
     }

@@ -21,7 +21,8 @@ loop-export-preserved c =
     let found = rw c.requires.rules at c.space_rule.ensures in
     let none = judged-passes (items.Export n) _ _ _ c.judge.ensures found c.in_ok-judge.was in
     let passes : broken_export m n e ≡ []
-    = ap (λ ws. at (items.Export n) ws) (distinct-rules (module_context m) m.exports n e c.requires.distinct there) ∙ none in
+    = ap (λ ws. at (items.Export n) ws) (distinct-rules (module_context m) m.exports n e c.requires.distinct there)
+    ∙ none in
     record {
       left = append_assoc before (e ∷ []) behind ∙ left;
       place = omega (arith, length_push before e, c.loop-export.invariant.place);

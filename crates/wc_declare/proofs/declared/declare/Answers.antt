@@ -7,5 +7,6 @@ use Rattle.wc_declare.proofs.declared.declare.Goals as goal
 pub gather-requires : goal.gather-requires
 gather-requires c =
     let sized : sum_by field_size c.fields-fields.result.now < 2 ^ 32 =
-    subst (λ (x : List Field). sum_by field_size x < 2 ^ 32) (sym c.fields-fields.ensures.fields) c.fields-fields.ensures.sized.sized in
+    subst (λ (x : List Field). sum_by field_size x < 2 ^ 32) (sym c.fields-fields.ensures.fields)
+    c.fields-fields.ensures.sized.sized in
     omega (arith, few-types c.fields-fields.result.now, sized)

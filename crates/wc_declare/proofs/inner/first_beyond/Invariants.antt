@@ -5,4 +5,5 @@ use Rattle.wc_declare.proofs.Beyond.{token_at}
 use Rattle.wc_declare.proofs.inner.first_beyond.Given as goal
 
 abbrev pub invariant-loop-group : goal.invariant-loop-group
-invariant-loop-group l = token_at (written_out (drop l.group-index l.groups)) l.room ≡ token_beyond (written_out l.groups)
+invariant-loop-group l = token_at (written_out (drop l.group-index l.groups)) l.room ≡ token_beyond
+    (written_out l.groups)

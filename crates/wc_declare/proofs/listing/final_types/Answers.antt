@@ -12,7 +12,8 @@ loop-field-init c = record {
 
 pub loop-field-preserved : goal.loop-field-preserved
 loop-field-preserved c =
-    let next = fields-next c.args.fields.now c.loop-field.field-index c.field-item.result c.loop-field-test.true c.field-item.is in
+    let next = fields-next c.args.fields.now c.loop-field.field-index c.field-item.result c.loop-field-test.true
+    c.field-item.is in
     record {
       few = omega (
         arith,
@@ -21,7 +22,8 @@ loop-field-preserved c =
         ap (λ (x : List TypeUse). length x) next,
         length-append (uses_of c.field-item.result) (all_uses (drop (c.loop-field.field-index + 1) c.args.fields.now)),
       );
-      listing = listed-more (types_of c.args.fields.now) c.loop-field.types c.add_inner.new.types _ (uses_of c.field-item.result) _
+      listing = listed-more (types_of c.args.fields.now) c.loop-field.types c.add_inner.new.types _
+          (uses_of c.field-item.result) _
           next c.loop-field.invariant.listing
           c.in_ok-add_inner.ensures.types;
     }

@@ -73,7 +73,13 @@ returns-then-fourth-lt128 c =
     let front1 =
     next-front 25 _ _ _ _ _ c.in_ok-second.ensures.cases.0 c.if-second-lt128.false second (omega arith) front2 in
     let front0 = next-front 32 _ _ _ _ _ refl c.requires first (omega arith) front1 in
-    only-front 32 _ _ _ _ front0 (omega (arith, c.from-low.ensures, c.from-2.ensures, c.from-3.ensures, c.from-then-fourth-lt128.ensures))
+    only-front 32 _ _ _ _ front0 (omega (
+      arith,
+      c.from-low.ensures,
+      c.from-2.ensures,
+      c.from-3.ensures,
+      c.from-then-fourth-lt128.ensures,
+    ))
 
 pub returns : goal.returns
 returns c =
@@ -90,4 +96,11 @@ returns c =
     let front1 =
     next-front 25 _ _ _ _ _ c.in_ok-second.ensures.cases.0 c.if-second-lt128.false second (omega arith) front2 in
     let front0 = next-front 32 _ _ _ _ _ refl c.requires first (omega arith) front1 in
-    only-front 32 _ _ _ _ front0 (omega (arith, c.from-low.ensures, c.from-2.ensures, c.from-3.ensures, c.from-4.ensures, c.from-5.ensures))
+    only-front 32 _ _ _ _ front0 (omega (
+      arith,
+      c.from-low.ensures,
+      c.from-2.ensures,
+      c.from-3.ensures,
+      c.from-4.ensures,
+      c.from-5.ensures,
+    ))

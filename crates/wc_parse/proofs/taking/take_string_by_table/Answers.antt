@@ -15,7 +15,8 @@ returns-in_err-role-clause-fault c =
 
 pub returns-in_default-clause-said : goal.returns-in_default-clause-said
 returns-in_default-clause-said c = λ ts rest w e.
-    said-dropped w _ rest _ _ e (string-token _ _ _ c.requires.kind (c.symbol_of_string-string.ensures _ c.in_ok-value.ensures))
+    said-dropped w _ rest _ _ e (string-token _ _ _ c.requires.kind
+    (c.symbol_of_string-string.ensures _ c.in_ok-value.ensures))
     (rw c.in_default.is at (c.in_ok-role.ensures.kept nesting_limit w.kinds w.es w.read (said-count w _ rest e)))
 
 pub returns-clause-said : goal.returns-clause-said

@@ -11,7 +11,8 @@ use Rattle.wc_parse.proofs.words.take_begin.Goals as goal
 pub returns-then-branch-clause-said : goal.returns-then-branch-clause-said
 returns-then-branch-clause-said c = λ ts rest w e.
     said-word w _ rest _ role.Begin _ _ e c.requires.kind c.requires.symbol
-    (c.in_ok-take_begin.ensures.read c.if-branch.true nesting_limit c.args.at w.kinds w.es w.read (said-count w _ rest e))
+    (c.in_ok-take_begin.ensures.read c.if-branch.true nesting_limit c.args.at w.kinds w.es w.read
+    (said-count w _ rest e))
     c.in_ok-keep.ensures
 
 pub returns-clause-said : goal.returns-clause-said

@@ -13,7 +13,8 @@ pub returns-then-take_end-clause-said : goal.returns-then-take_end-clause-said
 returns-then-take_end-clause-said c = λ ts rest w e.
     said-word w _ rest _ role.End _ _ e c.requires.kind c.requires.symbol
     (subst
-    (λ (k : Kind). IsRead nesting_limit (w.kinds ++ k ∷ []) (w.es ++ kept_as (Some role.End) c.args.at k) c.take_end.new.self)
+    (λ (k : Kind). IsRead nesting_limit (w.kinds ++ k
+    ∷ []) (w.es ++ kept_as (Some role.End) c.args.at k) c.take_end.new.self)
     (sym c.requires.end)
     (c.take_end.ensures.read c.if-take_end.true nesting_limit c.args.at w.kinds w.es w.read (said-count w _ rest e)))
     c.in_ok-keep.ensures

@@ -12,7 +12,8 @@ use Rattle.wc_parse.proofs.words.take_func.Goals as goal
 pub returns-then-branch-clause-said : goal.returns-then-branch-clause-said
 returns-then-branch-clause-said c = λ ts rest w e.
     said-word-of w _ rest _ kind.FuncWord role.Field _ _ e c.requires.kind c.requires.symbol c.requires.func
-    (c.in_ok-take_func.ensures.read c.if-branch.true nesting_limit c.args.at w.kinds w.es w.read (said-count w _ rest e))
+    (c.in_ok-take_func.ensures.read c.if-branch.true nesting_limit c.args.at w.kinds w.es w.read
+    (said-count w _ rest e))
     c.in_ok-take_kept.ensures
 
 pub returns-clause-said : goal.returns-clause-said

@@ -18,7 +18,8 @@ pub returns-then-branch-clause-said : goal.returns-then-branch-clause-said
 returns-then-branch-clause-said c = λ ts rest w e.
     said-word w _ rest _ role.HeldPlain _ _ e c.requires.kind c.requires.symbol
     (c.in_ok-take_held.ensures.read c.if-branch.true nesting_limit c.args.at w.kinds w.es
-    (subst (λ (s : Standing). IsRead nesting_limit w.kinds w.es s) (sym (c.take_plain.ensures.stays c.if-take_plain.false)) w.read)
+    (subst (λ (s : Standing). IsRead nesting_limit w.kinds w.es s)
+    (sym (c.take_plain.ensures.stays c.if-take_plain.false)) w.read)
     (said-count w _ rest e))
     c.in_ok-keep-2.ensures
 
@@ -26,5 +27,7 @@ pub returns-clause-said : goal.returns-clause-said
 returns-clause-said c =
     subst
     (λ (s : Standing). OnOk c.take_begin.result
-    (SaysMore (lexeme_of c.args.token.now) c.args.at s c.args.draft.now c.take_begin.new.reading c.take_begin.new.draft))
-    (c.in_ok-take_held.ensures.stays c.if-branch.false ∙ c.take_plain.ensures.stays c.if-take_plain.false) c.take_begin.ensures.said
+    (SaysMore (lexeme_of c.args.token.now) c.args.at s c.args.draft.now c.take_begin.new.reading
+    c.take_begin.new.draft))
+    (c.in_ok-take_held.ensures.stays c.if-branch.false
+    ∙ c.take_plain.ensures.stays c.if-take_plain.false) c.take_begin.ensures.said

@@ -18,7 +18,8 @@ pub returns-then-take_literal-clause-said : goal.returns-then-take_literal-claus
 returns-then-take_literal-clause-said c = λ ts rest w e.
     said-word w _ rest _ role.Literal _ _ e c.requires.kind c.requires.symbol
     (c.take_literal.ensures.read c.if-take_literal.true nesting_limit c.args.at w.kinds w.es
-    (subst (λ (s : Standing). IsRead nesting_limit w.kinds w.es s) (sym (c.take_index.ensures.stays c.if-take_index.false)) w.read)
+    (subst (λ (s : Standing). IsRead nesting_limit w.kinds w.es s)
+    (sym (c.take_index.ensures.stays c.if-take_index.false)) w.read)
     (said-count w _ rest e))
     c.in_ok-keep-2.ensures
 
@@ -27,7 +28,8 @@ returns-then-take_type_index-clause-said c = λ ts rest w e.
     said-word w _ rest _ role.TypeIndex _ _ e c.requires.kind c.requires.symbol
     (c.take_type_index.ensures.read c.if-take_type_index.true nesting_limit c.args.at w.kinds w.es
     (subst (λ (s : Standing). IsRead nesting_limit w.kinds w.es s)
-    (sym (c.take_literal.ensures.stays c.if-take_literal.false ∙ c.take_index.ensures.stays c.if-take_index.false)) w.read)
+    (sym (c.take_literal.ensures.stays c.if-take_literal.false
+    ∙ c.take_index.ensures.stays c.if-take_index.false)) w.read)
     (said-count w _ rest e))
     c.in_ok-keep-3.ensures
 

@@ -11,7 +11,8 @@ use Rattle.wc_parse.proofs.words.take_offset.Goals as goal
 pub returns-then-take_offset-clause-said : goal.returns-then-take_offset-clause-said
 returns-then-take_offset-clause-said c = λ ts rest w e.
     said-word w _ rest _ role.MemOffset _ _ e c.requires.kind c.requires.symbol
-    (c.take_offset.ensures.read c.if-take_offset.true nesting_limit c.args.at w.kinds w.es w.read (said-count w _ rest e))
+    (c.take_offset.ensures.read c.if-take_offset.true nesting_limit c.args.at w.kinds w.es w.read
+    (said-count w _ rest e))
     c.in_ok-keep.ensures
 
 pub returns-clause-said : goal.returns-clause-said

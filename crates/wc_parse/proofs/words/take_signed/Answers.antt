@@ -11,7 +11,8 @@ use Rattle.wc_parse.proofs.words.take_signed.Goals as goal
 pub returns-then-take_literal-clause-said : goal.returns-then-take_literal-clause-said
 returns-then-take_literal-clause-said c = λ ts rest w e.
     said-word w _ rest _ role.Literal _ _ e c.requires.kind c.requires.symbol
-    (c.take_literal.ensures.read c.if-take_literal.true nesting_limit c.args.at w.kinds w.es w.read (said-count w _ rest e))
+    (c.take_literal.ensures.read c.if-take_literal.true nesting_limit c.args.at w.kinds w.es w.read
+    (said-count w _ rest e))
     c.in_ok-keep.ensures
 
 pub returns-clause-said : goal.returns-clause-said

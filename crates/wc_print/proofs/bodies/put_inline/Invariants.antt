@@ -7,7 +7,8 @@ use Rattle.wc_print.proofs.bodies.put_inline.Given as goal
 
 abbrev pub invariant-loop-entry : goal.invariant-loop-entry
 invariant-loop-entry g l =
-    Leaves g.S.Sink.Has (flat_map (mark_items (λ p. after p)) l.entries) (flat_map (mark_items (λ p. after p)) l.initial.entries)
+    Leaves g.S.Sink.Has (flat_map (mark_items (λ p. after p)) l.entries) (flat_map (mark_items (λ p.
+    after p)) l.initial.entries)
     l.out l.initial.out
 
 abbrev pub decreases-loop-entry : goal.decreases-loop-entry

@@ -30,13 +30,15 @@ pub returns-in-BrTable : goal.returns-in-BrTable
 unfolding is_idchar
 returns-in-BrTable g c =
     rw c.in-BrTable.is
-    (chain (c.put_at-in-BrTable.ensures (word (codes "br_table")) c.op_line-in-BrTable.ensures.line refl) c.put_labels.ensures)
+    (chain (c.put_at-in-BrTable.ensures (word (codes "br_table")) c.op_line-in-BrTable.ensures.line refl)
+    c.put_labels.ensures)
 
 pub returns-in-CallIndirect : goal.returns-in-CallIndirect
 unfolding is_idchar
 returns-in-CallIndirect g c =
     rw c.in-CallIndirect.is
-    (chain (c.put_at-in-CallIndirect.ensures (word (codes "call_indirect")) c.op_line-in-CallIndirect.ensures.line refl) c.put_type_use.ensures)
+    (chain (c.put_at-in-CallIndirect.ensures (word (codes "call_indirect")) c.op_line-in-CallIndirect.ensures.line refl)
+    c.put_type_use.ensures)
 
 pub returns-in-I32Const : goal.returns-in-I32Const
 unfolding is_idchar

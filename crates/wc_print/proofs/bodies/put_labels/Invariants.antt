@@ -6,7 +6,8 @@ use Rattle.wc_print.proofs.bodies.put_labels.Given as goal
 
 abbrev pub invariant-loop-label : goal.invariant-loop-label
 invariant-loop-label g l =
-    Leaves g.S.Sink.Has (number_items l.labels ++ after (number l.default) ∷ []) (number_items l.initial.labels ++ after (number l.default) ∷ [])
+    Leaves g.S.Sink.Has (number_items l.labels ++ after (number l.default)
+    ∷ []) (number_items l.initial.labels ++ after (number l.default) ∷ [])
     l.out l.initial.out
 
 abbrev pub decreases-loop-label : goal.decreases-loop-label

@@ -6,7 +6,8 @@ use Rattle.wc_print.proofs.definitions.put_tables.Goals as goal
 
 pub loop-limits-preserved : goal.loop-limits-preserved
 loop-limits-preserved g c =
-    each-less (flat_map table_items) table_items refl (λ x xs. refl) c.args.tables.now c.loop-limits.limits-index _ _ refl
+    each-less (flat_map table_items) table_items refl (λ x xs.
+    refl) c.args.tables.now c.loop-limits.limits-index _ _ refl
     c.loop-limits-test.true c.put_table.ensures c.loop-limits.invariant
 
 pub returns : goal.returns

@@ -5,4 +5,5 @@ use Rattle.wc_print.specs.Standard.Going.{Leaves}
 use Rattle.wc_print.proofs.definitions.put_tables.Given as goal
 
 abbrev pub invariant-loop-limits : goal.invariant-loop-limits
-invariant-loop-limits g l = Leaves g.S.Sink.Has (flat_map table_items (drop l.limits-index l.tables)) (flat_map table_items l.tables) l.out l.initial.out
+invariant-loop-limits g l = Leaves g.S.Sink.Has (flat_map table_items (drop l.limits-index l.tables))
+    (flat_map table_items l.tables) l.out l.initial.out

@@ -8,7 +8,10 @@ pub returns-clause-put : goal.returns-clause-put
 unfolding is_idchar
 returns-clause-put g c =
     none-behind
-    (chain (literal (below 2 opening ∷ next (word (codes "func")) ∷ []) (tt, (refl, tt)) c.put.ensures) c.put_type_use.ensures)
+    (chain (literal (below 2 opening ∷ next (word (codes "func")) ∷ []) (
+      tt,
+      (refl, tt),
+    ) c.put.ensures) c.put_type_use.ensures)
 
 pub returns-then-index-lt-LIMIT-clause-put : goal.returns-then-index-lt-LIMIT-clause-put
 returns-then-index-lt-LIMIT-clause-put g c = on-page _ c.write_head.ensures.put

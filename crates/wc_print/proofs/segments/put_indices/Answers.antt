@@ -6,7 +6,8 @@ use Rattle.wc_print.proofs.segments.put_indices.Goals as goal
 
 pub loop-index-preserved : goal.loop-index-preserved
 loop-index-preserved g c =
-    each-less number_items (λ n. after (number n) ∷ []) refl (λ n ns. refl) c.args.indices.now c.loop-index.index-index _ _ refl
+    each-less number_items (λ n. after (number n) ∷ []) refl (λ n ns.
+    refl) c.args.indices.now c.loop-index.index-index _ _ refl
     c.loop-index-test.true c.put_number.ensures c.loop-index.invariant
 
 pub returns : goal.returns

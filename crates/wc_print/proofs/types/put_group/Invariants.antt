@@ -5,7 +5,8 @@ use Rattle.wc_print.proofs.types.put_group.Given as goal
 
 abbrev pub invariant-loop-left : goal.invariant-loop-left
 invariant-loop-left g l =
-    Leaves g.S.Sink.Has (map type_item (replicate l.left l.group.value_type)) (map type_item (replicate l.group.count l.group.value_type))
+    Leaves g.S.Sink.Has (map type_item (replicate l.left l.group.value_type))
+    (map type_item (replicate l.group.count l.group.value_type))
     l.out l.initial.out
 
 abbrev pub decreases-loop-left : goal.decreases-loop-left

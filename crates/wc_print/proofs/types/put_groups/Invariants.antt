@@ -7,5 +7,6 @@ use Rattle.wc_print.proofs.types.put_groups.Given as goal
 
 abbrev pub invariant-loop-group : goal.invariant-loop-group
 invariant-loop-group g l =
-    Leaves g.S.Sink.Has (map type_item (written_out (drop l.group-index l.groups))) (map type_item (written_out l.groups))
+    Leaves g.S.Sink.Has (map type_item (written_out (drop l.group-index l.groups)))
+    (map type_item (written_out l.groups))
     l.out l.initial.out

@@ -10,4 +10,5 @@ use Rattle.wc_readback.proofs.grammar.printed_symbols.Goals as goal
 
 pub returns : goal.returns
 returns c = λ m h.
-    told (length (text (layout m))) (layout m) (signs m) (whole m).same (module-means nesting_limit (omega arith) m h).says
+    told (length (text (layout m))) (layout m) (signs m) (whole m).same
+    (module-means nesting_limit (omega arith) m h).says

@@ -11,7 +11,8 @@ pub returns-clause-noted : goal.returns-clause-noted
 returns-clause-noted c = λ all w.
     let elem = c.args.elem.now in
     let ds = declared_in kind.Func all in
-    before _ _ _ (unknown_in (declared_in kind.Table all) elem.table) (constant_faults all elem.offset ++ unknown_of ds elem.funcs)
+    before _ _ _ (unknown_in (declared_in kind.Table all) elem.table)
+    (constant_faults all elem.offset ++ unknown_of ds elem.funcs)
     (rw c.get.ensures.value at c.resolve_optional-table.ensures.noted (declared_in kind.Table all) w.spaces.tables)
     (before _ _ _ (constant_faults all elem.offset) (unknown_of ds elem.funcs) (c.in_ok-offset.ensures.noted all w)
     (c.in_ok-funcs.ensures.noted ds w.spaces.funcs

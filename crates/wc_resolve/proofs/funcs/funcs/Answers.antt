@@ -9,7 +9,8 @@ use Rattle.wc_resolve.specs.Standard.Funcs.{field_funcs, field_func_faults}
 use Rattle.wc_resolve.proofs.Rows.{flat-more}
 use Rattle.wc_resolve.proofs.funcs.funcs.Goals as goal
 
-fits : (fs : List Field) (i : ℕ) (f : Field) → i < length fs → f ≡ get_or fs i f → All (FieldFits fs) fs → FieldFits fs f
+fits : (fs : List Field) (i : ℕ) (f : Field) → i < length fs → f ≡ get_or fs i f → All (FieldFits fs) fs
+    → FieldFits fs f
 fits fs i f lt e h =
     let P : Field → Type 0 = λ x. FieldFits fs x in subst P (sym e) (All-get_or (FieldFits fs) fs i f lt h)
 
@@ -22,7 +23,8 @@ put_field-requires-clause-room c =
 
 pub put_field-requires-clause-within : goal.put_field-requires-clause-within
 put_field-requires-clause-within c =
-    (fits c.args.fields.now c.loop-field.field-index c.field-item.result c.loop-field-test.true c.field-item.is c.requires.fit).within
+    (fits c.args.fields.now c.loop-field.field-index c.field-item.result c.loop-field-test.true c.field-item.is
+    c.requires.fit).within
 
 pub loop-field-preserved : goal.loop-field-preserved
 loop-field-preserved c =
@@ -32,7 +34,8 @@ loop-field-preserved c =
       funcs = flat-more (field_funcs fs) fs c.loop-field.field-index c.field-item.result c.loop-field.out _ _
           c.loop-field-test.true c.field-item.is (c.in_ok-put_field.ensures.funcs fs c.requires.declared known)
           c.loop-field.invariant.funcs;
-      noted = faults-next (field_func_faults fs) fs c.loop-field.field-index c.field-item.result c.loop-field.noted.first _ _
+      noted = faults-next (field_func_faults fs) fs c.loop-field.field-index c.field-item.result
+          c.loop-field.noted.first _ _
           c.loop-field-test.true c.field-item.is (c.in_ok-put_field.ensures.noted fs c.requires.declared known)
           c.loop-field.invariant.noted;
     }

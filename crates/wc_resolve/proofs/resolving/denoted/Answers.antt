@@ -8,4 +8,5 @@ gather-requires-clause-few c = omega (arith, few-types c.args.fields.now, c.requ
 
 pub returns-clause-noted : goal.returns-clause-noted
 returns-clause-noted c =
-    references-told c.args.fields.now _ _ _ _ _ _ _ refl refl refl refl c.in_ok-lists.ensures.noted c.in_ok-funcs.ensures.noted
+    references-told c.args.fields.now _ _ _ _ _ _ _ refl refl refl refl c.in_ok-lists.ensures.noted
+    c.in_ok-funcs.ensures.noted

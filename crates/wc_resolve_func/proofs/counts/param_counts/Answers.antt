@@ -6,5 +6,6 @@ use Rattle.wc_resolve_func.proofs.counts.param_counts.Goals as goal
 
 pub returns : goal.returns
 returns c = λ fs w.
-    all-counts c.keys-keys.result.now (types_of fs) c.loop-key.key-index c.loop-key.counts.items c.loop-key-test.false c.loop-key.invariant
+    all-counts c.keys-keys.result.now (types_of fs) c.loop-key.key-index c.loop-key.counts.items c.loop-key-test.false
+    c.loop-key.invariant
     (c.keys-keys.ensures (map key_of (types_of fs)) w.types)

@@ -9,7 +9,8 @@ loop-place-preserved c = record {
   used = omega (arith, c.loop-place.invariant.used, c.in_ok-next.ensures.used);
   growing = λ ds w. grown c.loop-place.space c.add_param.new.space ds _ _
       (id_at c.loop-place.place (drop c.loop-place.next c.args.names.now) ∷ []) _
-      (params-next c.loop-place.place c.args.count c.loop-place.next c.in_ok-next.next c.args.names.now c.loop-place-test.true
+      (params-next c.loop-place.place c.args.count c.loop-place.next c.in_ok-next.next c.args.names.now
+      c.loop-place-test.true
       c.in_ok-next.ensures.left)
       (c.loop-place.invariant.growing ds w) c.in_ok-next.ensures.space;
 }

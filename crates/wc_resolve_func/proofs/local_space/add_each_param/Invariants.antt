@@ -9,5 +9,6 @@ invariant-loop-place l = record {
   size : size_of l.space ≡ size_of l.initial.space + l.place;
   used : l.next ≤ l.place;
   growing : (ds : List (Option (List ℕ))) → IsSpace ds l.initial.space
-      → Growing l.space ds (params_from 0 l.count l.names) (params_from l.place (l.count - l.place) (drop l.next l.names));
+      → Growing l.space ds (params_from 0 l.count l.names) (params_from l.place (l.count - l.place)
+      (drop l.next l.names));
 }

@@ -21,6 +21,7 @@ loop-group-preserved c = record {
     split-length c.args.groups.now c.loop-group.group-index c.group-item.result c.loop-group-test.true c.group-item.is,
   );
   growing = λ ds w. grown c.loop-group.space c.add_group.new.space ds _ _ (local_ids (locals_of c.group-item.result)) _
-      (groups-next c.args.groups.now c.loop-group.group-index c.group-item.result c.loop-group-test.true c.group-item.is)
+      (groups-next c.args.groups.now c.loop-group.group-index c.group-item.result c.loop-group-test.true
+      c.group-item.is)
       (c.loop-group.invariant.growing ds w) c.in_ok-add_group.ensures.space;
 }

@@ -6,7 +6,8 @@ pub put-requires : goal.put-requires
 put-requires c = omega (
   arith,
   c.requires,
-  types-room c.args.groups.now c.loop-group.group-index c.group-item.result c.loop-group.types c.loop-group-test.true c.group-item.is
+  types-room c.args.groups.now c.loop-group.group-index c.group-item.result c.loop-group.types c.loop-group-test.true
+      c.group-item.is
       c.loop-group.invariant,
 )
 

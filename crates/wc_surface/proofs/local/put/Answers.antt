@@ -39,5 +39,6 @@ returns-then-is_next-clause-numbered c =
     All-set AtMost gs (c.len-last.result - 1) _ (omega (
       arith,
       last-numbered gs (c.len-last.result - 1) c.index.result.now
-          c.index-then-is_next.result.now c.args.local.ty c.args.local.token c.index.ensures c.index-then-is_next.ensures n e,
+          c.index-then-is_next.result.now c.args.local.ty c.args.local.token c.index.ensures
+          c.index-then-is_next.ensures n e,
     )) c.requires

@@ -13,4 +13,5 @@ pub returns-in-Float : goal.returns-in-Float
 returns-in-Float c = name-float _ _ c.in-Float.ensures c.bare.ensures
 
 pub returns-in-Unknown : goal.returns-in-Unknown
-returns-in-Unknown c = name-none _ _ (rw c.in_default.is at c.keyword.ensures) c.in-Unknown.ensures c.bare-in-Unknown.ensures
+returns-in-Unknown c = name-none _ _ (rw c.in_default.is at c.keyword.ensures) c.in-Unknown.ensures
+    c.bare-in-Unknown.ensures

@@ -34,7 +34,8 @@ returns c = λ bytes s.
     let read = c.loop-element.invariant.0 in
     let same : read ≡ bytes = IsBegun-end c.args.text.now c.loop-element.rest.now read c.loop-element.invariant.2
     c.read_element.ensures (ap (option_map first_element) c.in_default.is) bytes s in
-    subst (λ (t : List ℕ). IsTrue c.is_whole.result ↔ IsUtf8 t) same (c.is_whole.ensures read c.loop-element.invariant.1)
+    subst (λ (t : List ℕ). IsTrue c.is_whole.result
+    ↔ IsUtf8 t) same (c.is_whole.ensures read c.loop-element.invariant.1)
 
 pub returns-then-is_none : goal.returns-then-is_none
 returns-then-is_none c = λ bytes s.

@@ -7,4 +7,7 @@ returns-in-Some c =
     λ read k. whole-some c.in-Some.tail read c.is_closed.result (rw c.in-Some.is at k) c.is_closed.ensures
 
 pub returns-in-None : goal.returns-in-None
-returns-in-None c = λ read k. ((λ (h : ◌≡◌ {A = Bool} false true). absurd cc), (λ u. absurd (whole-none read (rw c.in-None.is at k) u)))
+returns-in-None c = λ read k. (
+  (λ (h : ◌≡◌ {A = Bool} false true). absurd cc),
+  (λ u. absurd (whole-none read (rw c.in-None.is at k) u)),
+)

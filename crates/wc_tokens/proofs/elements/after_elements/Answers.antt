@@ -19,7 +19,8 @@ loop-element-preserved c = λ end e.
 
 pub loop-element-smaller : goal.loop-element-smaller
 loop-element-smaller c =
-    let shorter = read_element-shorter c.loop-element.rest.now (bytes_of c.in-Some.element.meaning) c.in-Some.element.rest.now
+    let shorter = read_element-shorter c.loop-element.rest.now (bytes_of c.in-Some.element.meaning)
+    c.in-Some.element.rest.now
     (sym c.read_element.ensures ∙ ap (option_map first_element) c.in-Some.is) in
     omega (arith, shorter, c.after_simple-rest-in-Some.ensures.shorter)
 

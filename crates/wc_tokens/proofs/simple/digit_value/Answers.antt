@@ -16,7 +16,8 @@ computed k = (k % 16 + (if nat_lt k 64 then 0 else 9)) % 16
 is-digit : (byte : ℕ) → byte < 256 → digit_of byte < 16 → computed byte ≡ digit_of byte
 unfolding digit_of
 is-digit byte fits digit =
-    let test = agree_below_at (λ k. not (nat_lt (digit_of k) 16) || nat_eq (computed k) (digit_of k)) (λ _. true) 256 byte refl fits in
+    let test = agree_below_at (λ k. not (nat_lt (digit_of k) 16) || nat_eq (computed k) (digit_of k)) (λ _.
+    true) 256 byte refl fits in
     told (computed byte) (digit_of byte) test digit
 
 pub returns-clause-digit : goal.returns-clause-digit

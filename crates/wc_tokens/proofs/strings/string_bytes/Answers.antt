@@ -45,7 +45,8 @@ pub returns-clause-string : goal.returns-clause-string
 returns-clause-string c =
     let value = c.requires.0 in
     let same = IsBegun-end c.args.token.now.text.now c.loop-element.rest.now c.loop-element.bytes.items
-    c.loop-element.invariant c.read_element.ensures (ap (option_map first_element) c.in_default.is) value c.requires.1 in
+    c.loop-element.invariant c.read_element.ensures (ap (option_map first_element) c.in_default.is) value c.requires.1
+    in
     subst (IsString c.args.token.now.text.now) (sym same) c.requires.1
 
 pub returns-clause-only : goal.returns-clause-only

@@ -18,7 +18,13 @@ invariant_of-self-2 c =
     } in
     let it = code-pushed c.self.inside.spans.items c.self.inside.groups.items c.groups-groups.result.now c.len.result
     c.self.inside.bodies c.args.body.now c.self.invariant are in
-    rw (c.push_reserved.ensures.items, c.append.ensures, c.in_ok-reserve-2.ensures.items, c.in_ok-reserve.ensures.items, c.in_ok-push.ensures.ok)
+    rw (
+      c.push_reserved.ensures.items,
+      c.append.ensures,
+      c.in_ok-reserve-2.ensures.items,
+      c.in_ok-reserve.ensures.items,
+      c.in_ok-push.ensures.ok,
+    )
     it.kept
 
 pub returns-clause-ok : goal.returns-clause-ok
@@ -30,5 +36,13 @@ returns-clause-ok c =
     } in
     let it = code-pushed c.self.inside.spans.items c.self.inside.groups.items c.groups-groups.result.now c.len.result
     c.self.inside.bodies c.args.body.now c.self.invariant are in
-    rw (← c.self.view_is, ← c.groups-groups.ensures.written_out, c.push_reserved.ensures.items, c.append.ensures, c.in_ok-reserve-2.ensures.items, c.in_ok-reserve.ensures.items, c.in_ok-push.ensures.ok)
+    rw (
+      ← c.self.view_is,
+      ← c.groups-groups.ensures.written_out,
+      c.push_reserved.ensures.items,
+      c.append.ensures,
+      c.in_ok-reserve-2.ensures.items,
+      c.in_ok-reserve.ensures.items,
+      c.in_ok-push.ensures.ok,
+    )
     it.seen

@@ -7,4 +7,5 @@ pub returns : goal.returns
 returns c =
     rw (← c.self.view_is)
     (c.needs.ensures
-    ∙ ap (λ bs. with_bodies nothing bs) (sym (bodies-same c.self.inside.types.items c.self.inside.codes c.self.invariant)))
+    ∙ ap (λ bs. with_bodies nothing bs) (sym (bodies-same c.self.inside.types.items c.self.inside.codes
+    c.self.invariant)))

@@ -7,7 +7,8 @@ pub loop-preserved : goal.loop-preserved
 loop-preserved g c =
     let adds = c.in_ok-next_export.ensures in
     rw adds.2
-    (times-more export c.loop.exports c.args.count c.loop.counter _ _ _ c.loop.invariant c.loop-test.true adds.0 _ adds.1)
+    (times-more export c.loop.exports c.args.count c.loop.counter _ _ _ c.loop.invariant c.loop-test.true adds.0 _
+    adds.1)
 
 pub returns-in_err-next_export : goal.returns-in_err-next_export
 returns-in_err-next_export g c =

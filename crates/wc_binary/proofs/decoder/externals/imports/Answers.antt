@@ -7,7 +7,8 @@ pub loop-preserved : goal.loop-preserved
 loop-preserved g c =
     let adds = c.in_ok-next_import.ensures in
     rw adds.2
-    (times-more import c.loop.imports c.args.count c.loop.counter _ _ _ c.loop.invariant c.loop-test.true adds.0 _ adds.1)
+    (times-more import c.loop.imports c.args.count c.loop.counter _ _ _ c.loop.invariant c.loop-test.true adds.0 _
+    adds.1)
 
 pub returns-in_err-next_import : goal.returns-in_err-next_import
 returns-in_err-next_import g c =

@@ -14,5 +14,6 @@ returns-in_err-index g c =
     let found = rw c.place-at.ensures at c.in_err-index.ensures.gives in
     rw (p.1, p.2) (leads-fail _ _ _ _ (λ x. read block_type at x)
     (byte-leads _ _ c.in_ok-first.first c.in_ok-first.ensures (λ x. read block_type at x)) c.in_err-index.field-0.0
-    (first-fails _ _ (λ x. signed_at 33 at (c.in_ok-first.first ∷ x)) (λ x. read block_type at (c.in_ok-first.first ∷ x))
+    (first-fails _ _ (λ x. signed_at 33 at (c.in_ok-first.first ∷ x)) (λ x.
+    read block_type at (c.in_ok-first.first ∷ x))
     (λ x f q. rw (whole, q) refl) c.in_err-index.field-0.0 found))

@@ -24,7 +24,8 @@ pub returns-in_err-next : goal.returns-in_err-next
 returns-in_err-next g c =
     let next = rw c.len.ensures.count at c.in_err-next.ensures.gives in
     let p = err_from_is_err_and c.from_residual-in_err-next.result c.from_residual-in_err-next.ensures.1 in
-    rw (p.1, p.2) (groups-fail c.loop.locals c.in_ok-count.count c.loop.counter _ _ _ c.loop.invariant c.loop-test.true _
+    rw (p.1, p.2) (groups-fail c.loop.locals c.in_ok-count.count c.loop.counter _ _ _ c.loop.invariant c.loop-test.true
+    _
     c.in_err-next.field-0.0 next)
 
 pub returns : goal.returns

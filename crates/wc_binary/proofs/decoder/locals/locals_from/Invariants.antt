@@ -9,4 +9,5 @@ abbrev pub invariant-loop : goal.invariant-loop
 invariant-loop g l =
     let old = g.S.Source.input l.fn.source in
     let now = g.S.Source.input l.source in
-    Leads old now (λ x. with_locals l.locals (groups_at (l.count - l.counter) (length l.locals) now x)) (λ x. read locals old.place x)
+    Leads old now (λ x. with_locals l.locals (groups_at (l.count - l.counter) (length l.locals) now x)) (λ x.
+    read locals old.place x)

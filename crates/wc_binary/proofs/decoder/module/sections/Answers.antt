@@ -24,7 +24,8 @@ returns-in_err-section g c =
     let s = rw c.in-Some.is at c.in_ok-next.ensures in
     let p = err_from_is_err_and c.from_residual-in_err-section.result c.from_residual-in_err-section.ensures.1 in
     rw (p.1, p.2)
-    (content-fails _ _ _ _ _ c.loop-parts.invariant c.in-Some.byte s c.in-Ok.kind (sym c.in-Ok.ensures) _ c.in_err-section.field-0.0 c.in_err-section.ensures)
+    (content-fails _ _ _ _ _ c.loop-parts.invariant c.in-Some.byte s c.in-Ok.kind (sym c.in-Ok.ensures) _
+    c.in_err-section.field-0.0 c.in_err-section.ensures)
 
 pub loop-parts-preserved : goal.loop-parts-preserved
 loop-parts-preserved g c =

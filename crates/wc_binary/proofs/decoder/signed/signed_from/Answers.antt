@@ -43,5 +43,10 @@ returns-in_err-byte-clause-gives g c =
 pub loop-value-preserved : goal.loop-value-preserved
 loop-value-preserved g c =
     let i = c.loop-value.invariant in
-    let u = rw i.1 at c.in-More.ensures in
-    (_, u.1, u.0, rw c.place-at.ensures (held-next g.row.N i.0 _ _ _ _ _ _ i.3 _ c.in_ok-byte.byte c.in_ok-byte.ensures))
+    let u = rw i.1 at c.in-More.ensures in (
+      _,
+      u.1,
+      u.0,
+      rw c.place-at.ensures (held-next g.row.N i.0 _ _ _ _ _ _ i.3 _ c.in_ok-byte.byte
+          c.in_ok-byte.ensures),
+    )

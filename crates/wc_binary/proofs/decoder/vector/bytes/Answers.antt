@@ -28,5 +28,6 @@ pub returns-clause-gives : goal.returns-clause-gives
 returns-clause-gives g c =
     let le : c.args.count ≤ length c.loop-source.bytes.items =
     omega (arith, rw c.len.ensures at c.loop-source-test.false) in
-    rw c.from_vec.ensures (times-done any_byte c.loop-source.bytes.items c.args.count (length c.loop-source.bytes.items) _
+    rw c.from_vec.ensures (times-done any_byte c.loop-source.bytes.items c.args.count (length c.loop-source.bytes.items)
+    _
     _ _ c.loop-source.invariant.leads le)

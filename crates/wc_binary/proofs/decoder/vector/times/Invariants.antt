@@ -12,6 +12,7 @@ invariant-loop g l =
     record {
       counted : length l.values ≡ l.counter;
       leads :
-          Leads old now (λ x. with_first l.values (read (times (l.count - l.counter) g.V.FromSource.phrase) now.place x))
+          Leads old now (λ x. with_first l.values (read (times (l.count - l.counter) g.V.FromSource.phrase) now.place
+          x))
           (λ x. read (times l.count g.V.FromSource.phrase) old.place x);
     }

@@ -32,11 +32,13 @@ returns-in_err-write c =
     let left = rw c.in-Some.ensures.steps at c.loop-export.invariant.left in
     rw (p.1, p.2)
     (next-fails FitsExport c.args.exports.now c.loop-export.yielded c.in-Some.export c.next.new.self left
-    c.loop-export.out.items c.write.new.out.items (export_bytes c.in-Some.export) c.args.out.now.items c.write.new.out.items
+    c.loop-export.out.items c.write.new.out.items (export_bytes c.in-Some.export) c.args.out.now.items
+    c.write.new.out.items
     (vector_bytes export_bytes c.args.exports.now) c.in_err-write.field-0.0 c.in_err-write.ensures)
 
 pub returns : goal.returns
 returns c =
     let i = c.loop-export.invariant in
-    let all = all-left c.loop-export.yielded c.loop-export.export-iterator c.args.exports.now i.left c.in-None.ensures.steps.0 in
+    let all = all-left c.loop-export.yielded c.loop-export.export-iterator c.args.exports.now i.left
+    c.in-None.ensures.steps.0 in
     ((rw c.len.ensures at c.in_ok-write_length.ensures.0, rw all at i.fits), rw all at i.written)

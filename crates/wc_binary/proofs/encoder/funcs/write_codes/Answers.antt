@@ -38,5 +38,6 @@ returns-in_err-write c =
 pub returns : goal.returns
 returns c =
     let i = c.loop-code.invariant in
-    let all = all-left c.loop-code.yielded c.loop-code.code-iterator c.args.codes.now i.left c.in-None.ensures.steps.0 in
+    let all = all-left c.loop-code.yielded c.loop-code.code-iterator c.args.codes.now i.left c.in-None.ensures.steps.0
+    in
     ((rw c.len.ensures at c.in_ok-write_length.ensures.0, rw all at i.fits), rw all at i.written)

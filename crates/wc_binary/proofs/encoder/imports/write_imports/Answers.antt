@@ -32,11 +32,13 @@ returns-in_err-write c =
     let left = rw c.in-Some.ensures.steps at c.loop-import.invariant.left in
     rw (p.1, p.2)
     (next-fails FitsImport c.args.imports.now c.loop-import.yielded c.in-Some.import c.next.new.self left
-    c.loop-import.out.items c.write.new.out.items (import_bytes c.in-Some.import) c.args.out.now.items c.write.new.out.items
+    c.loop-import.out.items c.write.new.out.items (import_bytes c.in-Some.import) c.args.out.now.items
+    c.write.new.out.items
     (vector_bytes import_bytes c.args.imports.now) c.in_err-write.field-0.0 c.in_err-write.ensures)
 
 pub returns : goal.returns
 returns c =
     let i = c.loop-import.invariant in
-    let all = all-left c.loop-import.yielded c.loop-import.import-iterator c.args.imports.now i.left c.in-None.ensures.steps.0 in
+    let all = all-left c.loop-import.yielded c.loop-import.import-iterator c.args.imports.now i.left
+    c.in-None.ensures.steps.0 in
     ((rw c.len.ensures at c.in_ok-write_length.ensures.0, rw all at i.fits), rw all at i.written)

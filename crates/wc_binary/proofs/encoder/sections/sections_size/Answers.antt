@@ -15,19 +15,23 @@ returns-in_err-imports c =
 
 pub returns-in_err-funcs : goal.returns-in_err-funcs
 returns-in_err-funcs c =
-    let none = rw c.types.ensures at (c.in_err-funcs.ensures 0) in rw c.from_residual-in_err-funcs.ensures (λ f. none f.1.1.0)
+    let none = rw c.types.ensures at (c.in_err-funcs.ensures 0) in
+    rw c.from_residual-in_err-funcs.ensures (λ f. none f.1.1.0)
 
 pub returns-in_err-tables : goal.returns-in_err-tables
 returns-in_err-tables c =
-    let none = rw c.as_slice-2.ensures at (c.in_err-tables.ensures 0) in rw c.from_residual-in_err-tables.ensures (λ f. none f.1.1.1.0)
+    let none = rw c.as_slice-2.ensures at (c.in_err-tables.ensures 0) in
+    rw c.from_residual-in_err-tables.ensures (λ f. none f.1.1.1.0)
 
 pub returns-in_err-mems : goal.returns-in_err-mems
 returns-in_err-mems c =
-    let none = rw c.as_slice-3.ensures at (c.in_err-mems.ensures 0) in rw c.from_residual-in_err-mems.ensures (λ f. none f.1.1.1.1.0)
+    let none = rw c.as_slice-3.ensures at (c.in_err-mems.ensures 0) in
+    rw c.from_residual-in_err-mems.ensures (λ f. none f.1.1.1.1.0)
 
 pub returns-in_err-globals : goal.returns-in_err-globals
 returns-in_err-globals c =
-    let none = rw c.as_slice-4.ensures at (c.in_err-globals.ensures 0) in rw c.from_residual-in_err-globals.ensures (λ f. none f.1.1.1.1.1.0)
+    let none = rw c.as_slice-4.ensures at (c.in_err-globals.ensures 0) in
+    rw c.from_residual-in_err-globals.ensures (λ f. none f.1.1.1.1.1.0)
 
 pub returns-in_err-exports : goal.returns-in_err-exports
 returns-in_err-exports c =
@@ -39,15 +43,18 @@ returns-in_err-start c =
 
 pub returns-in_err-elems : goal.returns-in_err-elems
 returns-in_err-elems c =
-    let none = rw c.as_slice-5.ensures at (c.in_err-elems.ensures 0) in rw c.from_residual-in_err-elems.ensures (λ f. none f.1.1.1.1.1.1.1.1.0)
+    let none = rw c.as_slice-5.ensures at (c.in_err-elems.ensures 0) in
+    rw c.from_residual-in_err-elems.ensures (λ f. none f.1.1.1.1.1.1.1.1.0)
 
 pub returns-in_err-codes : goal.returns-in_err-codes
 returns-in_err-codes c =
-    let none = rw c.codes.ensures at (c.in_err-codes.ensures 0) in rw c.from_residual-in_err-codes.ensures (λ f. none f.1.1.1.1.1.1.1.1.1.0)
+    let none = rw c.codes.ensures at (c.in_err-codes.ensures 0) in
+    rw c.from_residual-in_err-codes.ensures (λ f. none f.1.1.1.1.1.1.1.1.1.0)
 
 pub returns-in_err-datas : goal.returns-in_err-datas
 returns-in_err-datas c =
-    let none = rw c.as_slice-6.ensures at (c.in_err-datas.ensures 0) in rw c.from_residual-in_err-datas.ensures (λ f. none f.1.1.1.1.1.1.1.1.1.1.0)
+    let none = rw c.as_slice-6.ensures at (c.in_err-datas.ensures 0) in
+    rw c.from_residual-in_err-datas.ensures (λ f. none f.1.1.1.1.1.1.1.1.1.1.0)
 
 pub overflow_add-declared : goal.overflow_add-declared
 overflow_add-declared c = omega (arith, c.in_ok-types.ensures 0, c.in_ok-imports.ensures 0)
@@ -56,28 +63,104 @@ pub overflow_add-declared-2 : goal.overflow_add-declared-2
 overflow_add-declared-2 c = omega (arith, c.in_ok-types.ensures 0, c.in_ok-imports.ensures 0, c.in_ok-funcs.ensures 0)
 
 pub overflow_add-declared-3 : goal.overflow_add-declared-3
-overflow_add-declared-3 c = omega (arith, c.in_ok-types.ensures 0, c.in_ok-imports.ensures 0, c.in_ok-funcs.ensures 0, c.in_ok-tables.ensures 0)
+overflow_add-declared-3 c = omega (
+  arith,
+  c.in_ok-types.ensures 0,
+  c.in_ok-imports.ensures 0,
+  c.in_ok-funcs.ensures 0,
+  c.in_ok-tables.ensures 0,
+)
 
 pub overflow_add-declared-4 : goal.overflow_add-declared-4
-overflow_add-declared-4 c = omega (arith, c.in_ok-types.ensures 0, c.in_ok-imports.ensures 0, c.in_ok-funcs.ensures 0, c.in_ok-tables.ensures 0, c.in_ok-mems.ensures 0)
+overflow_add-declared-4 c = omega (
+  arith,
+  c.in_ok-types.ensures 0,
+  c.in_ok-imports.ensures 0,
+  c.in_ok-funcs.ensures 0,
+  c.in_ok-tables.ensures 0,
+  c.in_ok-mems.ensures 0,
+)
 
 pub overflow_add-declared-5 : goal.overflow_add-declared-5
-overflow_add-declared-5 c = omega (arith, c.in_ok-types.ensures 0, c.in_ok-imports.ensures 0, c.in_ok-funcs.ensures 0, c.in_ok-tables.ensures 0, c.in_ok-mems.ensures 0, c.in_ok-globals.ensures 0)
+overflow_add-declared-5 c = omega (
+  arith,
+  c.in_ok-types.ensures 0,
+  c.in_ok-imports.ensures 0,
+  c.in_ok-funcs.ensures 0,
+  c.in_ok-tables.ensures 0,
+  c.in_ok-mems.ensures 0,
+  c.in_ok-globals.ensures 0,
+)
 
 pub overflow_add-result : goal.overflow_add-result
-overflow_add-result c = omega (arith, c.in_ok-types.ensures 0, c.in_ok-imports.ensures 0, c.in_ok-funcs.ensures 0, c.in_ok-tables.ensures 0, c.in_ok-mems.ensures 0, c.in_ok-globals.ensures 0, c.in_ok-exports.ensures 0)
+overflow_add-result c = omega (
+  arith,
+  c.in_ok-types.ensures 0,
+  c.in_ok-imports.ensures 0,
+  c.in_ok-funcs.ensures 0,
+  c.in_ok-tables.ensures 0,
+  c.in_ok-mems.ensures 0,
+  c.in_ok-globals.ensures 0,
+  c.in_ok-exports.ensures 0,
+)
 
 pub overflow_add-result-2 : goal.overflow_add-result-2
-overflow_add-result-2 c = omega (arith, c.in_ok-types.ensures 0, c.in_ok-imports.ensures 0, c.in_ok-funcs.ensures 0, c.in_ok-tables.ensures 0, c.in_ok-mems.ensures 0, c.in_ok-globals.ensures 0, c.in_ok-exports.ensures 0, c.in_ok-start.ensures 0)
+overflow_add-result-2 c = omega (
+  arith,
+  c.in_ok-types.ensures 0,
+  c.in_ok-imports.ensures 0,
+  c.in_ok-funcs.ensures 0,
+  c.in_ok-tables.ensures 0,
+  c.in_ok-mems.ensures 0,
+  c.in_ok-globals.ensures 0,
+  c.in_ok-exports.ensures 0,
+  c.in_ok-start.ensures 0,
+)
 
 pub overflow_add-result-3 : goal.overflow_add-result-3
-overflow_add-result-3 c = omega (arith, c.in_ok-types.ensures 0, c.in_ok-imports.ensures 0, c.in_ok-funcs.ensures 0, c.in_ok-tables.ensures 0, c.in_ok-mems.ensures 0, c.in_ok-globals.ensures 0, c.in_ok-exports.ensures 0, c.in_ok-start.ensures 0, c.in_ok-elems.ensures 0)
+overflow_add-result-3 c = omega (
+  arith,
+  c.in_ok-types.ensures 0,
+  c.in_ok-imports.ensures 0,
+  c.in_ok-funcs.ensures 0,
+  c.in_ok-tables.ensures 0,
+  c.in_ok-mems.ensures 0,
+  c.in_ok-globals.ensures 0,
+  c.in_ok-exports.ensures 0,
+  c.in_ok-start.ensures 0,
+  c.in_ok-elems.ensures 0,
+)
 
 pub overflow_add-result-4 : goal.overflow_add-result-4
-overflow_add-result-4 c = omega (arith, c.in_ok-types.ensures 0, c.in_ok-imports.ensures 0, c.in_ok-funcs.ensures 0, c.in_ok-tables.ensures 0, c.in_ok-mems.ensures 0, c.in_ok-globals.ensures 0, c.in_ok-exports.ensures 0, c.in_ok-start.ensures 0, c.in_ok-elems.ensures 0, c.in_ok-codes.ensures 0)
+overflow_add-result-4 c = omega (
+  arith,
+  c.in_ok-types.ensures 0,
+  c.in_ok-imports.ensures 0,
+  c.in_ok-funcs.ensures 0,
+  c.in_ok-tables.ensures 0,
+  c.in_ok-mems.ensures 0,
+  c.in_ok-globals.ensures 0,
+  c.in_ok-exports.ensures 0,
+  c.in_ok-start.ensures 0,
+  c.in_ok-elems.ensures 0,
+  c.in_ok-codes.ensures 0,
+)
 
 pub overflow_add-result-5 : goal.overflow_add-result-5
-overflow_add-result-5 c = omega (arith, c.in_ok-types.ensures 0, c.in_ok-imports.ensures 0, c.in_ok-funcs.ensures 0, c.in_ok-tables.ensures 0, c.in_ok-mems.ensures 0, c.in_ok-globals.ensures 0, c.in_ok-exports.ensures 0, c.in_ok-start.ensures 0, c.in_ok-elems.ensures 0, c.in_ok-codes.ensures 0, c.in_ok-datas.ensures 0)
+overflow_add-result-5 c = omega (
+  arith,
+  c.in_ok-types.ensures 0,
+  c.in_ok-imports.ensures 0,
+  c.in_ok-funcs.ensures 0,
+  c.in_ok-tables.ensures 0,
+  c.in_ok-mems.ensures 0,
+  c.in_ok-globals.ensures 0,
+  c.in_ok-exports.ensures 0,
+  c.in_ok-start.ensures 0,
+  c.in_ok-elems.ensures 0,
+  c.in_ok-codes.ensures 0,
+  c.in_ok-datas.ensures 0,
+)
 
 pub returns : goal.returns
 returns c =

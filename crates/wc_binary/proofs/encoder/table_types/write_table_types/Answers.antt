@@ -7,7 +7,8 @@ use Rattle.wc_binary.proofs.encoder.table_types.write_table_types.Goals as goal
 
 pub returns-in_err-write_table_type : goal.returns-in_err-write_table_type
 returns-in_err-write_table_type c =
-    let p = err_from_is_err_and c.from_residual-in_err-write_table_type.result c.from_residual-in_err-write_table_type.ensures.1 in
+    let p = err_from_is_err_and c.from_residual-in_err-write_table_type.result
+    c.from_residual-in_err-write_table_type.ensures.1 in
     rw (p.1, p.2)
     (item-fails FitsLimits c.args.tables.now c.loop-table.table-index _
     (get_or-any c.args.tables.now c.loop-table.table-index _ _ c.loop-table-test.true) c.loop-table-test.true

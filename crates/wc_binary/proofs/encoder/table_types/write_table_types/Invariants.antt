@@ -6,5 +6,6 @@ use Rattle.wc_binary.proofs.encoder.table_types.write_table_types.Given as goal
 
 abbrev pub invariant-loop-table : goal.invariant-loop-table
 invariant-loop-table l =
-    (l.out.items ≡ l.fn.out.items ++ (unsigned_bytes (length l.tables) ++ flat_map table_type_bytes (take l.table-index l.tables)))
+    (l.out.items ≡ l.fn.out.items ++ (unsigned_bytes (length l.tables) ++ flat_map table_type_bytes
+    (take l.table-index l.tables)))
     × AllByRecursion FitsLimits (take l.table-index l.tables)

@@ -23,5 +23,6 @@ returns-clause-ok c =
     let room : length (drafted (unpacked x)).around < nesting_limit = rw c.self.view_is (omega arith) in
     rw (← c.self.view_is)
     (begin-pushed x c.self.inside.parts.items c.self.inside.after_else c.self.inside.needs c.self.invariant c.args.kind
-    c.args.block_type c.put_begin.ensures.fits c.put_begin.new.bytes.items (c.self.inside.parts.items ++ part_of c.args.kind ∷ [])
+    c.args.block_type c.put_begin.ensures.fits c.put_begin.new.bytes.items
+    (c.self.inside.parts.items ++ part_of c.args.kind ∷ [])
     c.in_ok-put_begin.ensures.ok room refl).drafted

@@ -18,7 +18,8 @@ invariant_of-self-2 c =
       depth-is part_in _ _ c.self.invariant.building,
       first_part_open _ can,
     ) in
-    (else-pushed x c.self.inside.parts.items c.self.inside.after_else c.self.inside.needs c.self.invariant c.push.new.self.items
+    (else-pushed x c.self.inside.parts.items c.self.inside.after_else c.self.inside.needs c.self.invariant
+    c.push.new.self.items
     (c.len-at.result - 1) c.in_ok-push.ensures.items can last).started
 
 pub returns-clause-ok : goal.returns-clause-ok
@@ -33,5 +34,6 @@ returns-clause-ok c =
       first_part_open _ can,
     ) in
     rw (← c.self.view_is)
-    (else-pushed x c.self.inside.parts.items c.self.inside.after_else c.self.inside.needs c.self.invariant c.push.new.self.items
+    (else-pushed x c.self.inside.parts.items c.self.inside.after_else c.self.inside.needs c.self.invariant
+    c.push.new.self.items
     (c.len-at.result - 1) c.in_ok-push.ensures.items can last).drafted

@@ -25,7 +25,8 @@ invariant_of-self-2 c =
       ap (λ (d : Draft Instr BlockType). length d.around) c.self.view_is,
     ) in
     rw c.pop.ensures.rest
-    (end-pushed x c.self.inside.parts.items c.self.inside.after_else c.self.inside.needs c.self.invariant c.put_end.new.bytes.items
+    (end-pushed x c.self.inside.parts.items c.self.inside.after_else c.self.inside.needs c.self.invariant
+    c.put_end.new.bytes.items
     (c.self.inside.parts.len - 1) c.in_ok-put_end.ensures.ok open_ last).started
 
 pub returns-clause-ok : goal.returns-clause-ok
@@ -39,5 +40,6 @@ returns-clause-ok c =
       ap (λ (d : Draft Instr BlockType). length d.around) c.self.view_is,
     ) in
     rw (← c.self.view_is)
-    (end-pushed x c.self.inside.parts.items c.self.inside.after_else c.self.inside.needs c.self.invariant c.put_end.new.bytes.items
+    (end-pushed x c.self.inside.parts.items c.self.inside.after_else c.self.inside.needs c.self.invariant
+    c.put_end.new.bytes.items
     (c.self.inside.parts.len - 1) c.in_ok-put_end.ensures.ok open_ last).drafted

@@ -28,15 +28,18 @@ loop-label-preserved c =
 pub returns-clause-ok : goal.returns-clause-ok
 returns-clause-ok c =
     let i = c.loop-label.invariant in
-    let all = none-left c.loop-label.yielded c.loop-label.label-iterator c.args.labels i.left c.in-None.ensures.steps.0 in
+    let all = none-left c.loop-label.yielded c.loop-label.label-iterator c.args.labels i.left c.in-None.ensures.steps.0
+    in
     table-put c.put_all.result c.args.bytes.now.items c.put_all.new.bytes.items c.as_slice.result.now
     c.as_slice-2.result.now c.loop-label.yielded c.args.labels c.args.default c.put_all.ensures.ok
-    (c.as_slice.ensures.value ∙ i.written) all (c.as_slice-2.ensures ∙ c.shortest_u-default.ensures.bytes ∙ ap unsigned_bytes c.from.ensures)
+    (c.as_slice.ensures.value ∙ i.written) all (c.as_slice-2.ensures ∙ c.shortest_u-default.ensures.bytes
+    ∙ ap unsigned_bytes c.from.ensures)
 
 pub returns-clause-fits : goal.returns-clause-fits
 returns-clause-fits c =
     let i = c.loop-label.invariant in
-    let all = none-left c.loop-label.yielded c.loop-label.label-iterator c.args.labels i.left c.in-None.ensures.steps.0 in
+    let all = none-left c.loop-label.yielded c.loop-label.label-iterator c.args.labels i.left c.in-None.ensures.steps.0
+    in
     let few : length c.args.labels < 2 ^ 32 = search rules in
     let default : Fits32 c.args.default = search rules in
     on-ok c.put_all.result ((few, rw all at i.fits), default)

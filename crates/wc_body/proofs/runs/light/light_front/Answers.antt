@@ -9,7 +9,8 @@ use Rattle.wc_body.proofs.runs.light.light_front.Goals as goal
 pub returns-then-light-eq2-clause-some : goal.returns-then-light-eq2-clause-some
 returns-then-light-eq2-clause-some c =
     let light = c.light_of-light.result.now in
-    let kind : IsKind c.light_of-light.result.now = rw c.light_of-light.ensures (light-kind (get_or c.args.bytes.now 0 0)) in
+    let kind : IsKind c.light_of-light.result.now =
+    rw c.light_of-light.ensures (light-kind (get_or c.args.bytes.now 0 0)) in
     let two : light.length ≡ 2 = c.if-light-eq2.true in
     let within = rw c.from.ensures at c.if-enclosing-from.false in
     let needs = pair-needs light _ _ _ c.args.needs.now kind c.if-second-light.false two c.note_pair.ensures in
@@ -21,7 +22,8 @@ returns-then-light-eq2-clause-some c =
 pub returns-then-light-eq1-clause-some : goal.returns-then-light-eq1-clause-some
 returns-then-light-eq1-clause-some c =
     let light = c.light_of-light.result.now in
-    let kind : IsKind c.light_of-light.result.now = rw c.light_of-light.ensures (light-kind (get_or c.args.bytes.now 0 0)) in
+    let kind : IsKind c.light_of-light.result.now =
+    rw c.light_of-light.ensures (light-kind (get_or c.args.bytes.now 0 0)) in
     let one : light.length ≡ 1 = c.if-light-eq1.true in
     let needs = bare-needs light (get_or c.args.bytes.now 1 0) (with_noted c.args.noted.now c.args.needs.now) kind
     c.if-second-light.false one in
@@ -33,7 +35,8 @@ returns-then-light-eq1-clause-some c =
 pub far_access-requires-clause-far : goal.far_access-requires-clause-far
 far_access-requires-clause-far c =
     let light = c.light_of-light.result.now in
-    let kind : IsKind c.light_of-light.result.now = rw c.light_of-light.ensures (light-kind (get_or c.args.bytes.now 0 0)) in
+    let kind : IsKind c.light_of-light.result.now =
+    rw c.light_of-light.ensures (light-kind (get_or c.args.bytes.now 0 0)) in
     let h = access-needs light (get_or c.args.bytes.now 1 0) (with_noted c.args.noted.now c.args.needs.now) kind
     c.if-second-light.false c.if-light.true in
     let third = light-third (get_or c.args.bytes.now 0 0) (rw c.light_of-light.ensures at h.0) in
@@ -43,7 +46,8 @@ far_access-requires-clause-far c =
 pub far_access-requires-clause-access : goal.far_access-requires-clause-access
 far_access-requires-clause-access c =
     let light = c.light_of-light.result.now in
-    let kind : IsKind c.light_of-light.result.now = rw c.light_of-light.ensures (light-kind (get_or c.args.bytes.now 0 0)) in
+    let kind : IsKind c.light_of-light.result.now =
+    rw c.light_of-light.ensures (light-kind (get_or c.args.bytes.now 0 0)) in
     let h = access-needs light (get_or c.args.bytes.now 1 0) (with_noted c.args.noted.now c.args.needs.now) kind
     c.if-second-light.false c.if-light.true in
     rw c.light_of-light.ensures at h.0
@@ -51,7 +55,8 @@ far_access-requires-clause-access c =
 pub returns-then-light-clause-some : goal.returns-then-light-clause-some
 returns-then-light-clause-some c =
     let light = c.light_of-light.result.now in
-    let kind : IsKind c.light_of-light.result.now = rw c.light_of-light.ensures (light-kind (get_or c.args.bytes.now 0 0)) in
+    let kind : IsKind c.light_of-light.result.now =
+    rw c.light_of-light.ensures (light-kind (get_or c.args.bytes.now 0 0)) in
     let h = access-needs light (get_or c.args.bytes.now 1 0) (with_noted c.args.noted.now c.args.needs.now) kind
     c.if-second-light.false c.if-light.true in
     let noted = light-noted c.args.bytes.now c.args.enclosing _ _ light c.if-bytes-lt3.false c.light_of-light.ensures
@@ -62,7 +67,8 @@ returns-then-light-clause-some c =
 pub returns-clause-some : goal.returns-clause-some
 returns-clause-some c =
     let light = c.light_of-light.result.now in
-    let kind : IsKind c.light_of-light.result.now = rw c.light_of-light.ensures (light-kind (get_or c.args.bytes.now 0 0)) in
+    let kind : IsKind c.light_of-light.result.now =
+    rw c.light_of-light.ensures (light-kind (get_or c.args.bytes.now 0 0)) in
     let none = outer-length light (get_or c.args.bytes.now 1 0) kind c.if-second-light.false c.if-light-eq2.false
     c.if-light-eq1.false c.if-light.false in
     let outer = light-outer (get_or c.args.bytes.now 0 0) (rw c.light_of-light.ensures at none) in

@@ -8,4 +8,5 @@ use Rattle.wc_syntax.proofs.reading.Reading.new.Goals as goal
 pub returns : goal.returns
 returns c =
     let d = c.args.limit in
-    subst (λ (w : List Frame). IsRead d [] [] (standing d place.Done frame.Start (reverse w))) (sym c.new.ensures.items) nothing_read
+    subst (λ (w : List Frame). IsRead d [] [] (standing d place.Done frame.Start (reverse w))) (sym c.new.ensures.items)
+    nothing_read

@@ -13,6 +13,7 @@ returns-then-not-is_deep-clause-read c h limit at ks es r e =
     usual-by limit at ks es _ _ _ c.args.kind (Some role.HeldPlain) (Into c.in-Some.place frame.Held) refl
     (held-at _ c.args.kind c.in-Some.place (sym c.behind_name.ensures ∙ c.in-Some.is)
     (subst (λ (x : Standing). is_opened x.place ≡ true) c.self.view_is (sym c.is_opened.ensures ∙ c.if-is_opened.true))
-    (subst (λ (x : Standing). takes_folded x.frame ≡ true) c.self.view_is (sym c.takes_folded.ensures ∙ c.if-takes_folded.true))
+    (subst (λ (x : Standing). takes_folded x.frame ≡ true) c.self.view_is (sym c.takes_folded.ensures
+    ∙ c.if-takes_folded.true))
     (sym c.is_deep.ensures ∙ c.if-not-is_deep.true))
     c.in_ok-go.ensures.ok r e

@@ -11,6 +11,7 @@ use Rattle.wc_syntax.proofs.reading.Reading.take_held_end.Goals as goal
 pub returns-then-is_held-clause-read : goal.returns-then-is_held-clause-read
 returns-then-is_held-clause-read c h limit at ks es r e =
     usual-by limit at ks es _ _ _ kind.Close (Some role.HeldEnd) (Out place.Done) refl
-    (held-end-at _ (subst (λ (x : Standing). is_free x.place ≡ true) c.self.view_is (sym c.is_free.ensures ∙ c.if-is_free.true))
+    (held-end-at _ (subst (λ (x : Standing). is_free x.place ≡ true) c.self.view_is (sym c.is_free.ensures
+    ∙ c.if-is_free.true))
     (subst (λ (x : Standing). is_held x.frame ≡ true) c.self.view_is (sym c.is_held.ensures ∙ c.if-is_held.true)))
     c.leave.ensures r e

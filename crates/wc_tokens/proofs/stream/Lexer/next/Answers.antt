@@ -24,7 +24,9 @@ returns-in-Token c =
     let n = c.in-Token.ensures in
     let stands = StandsIn-token c.in-Token.kind c.self.invariant n.0 n.1 in
     rw (← c.self.view_is)
-    (Gives-token c.in-Token.kind c.span_of-span.result.text.now c.span_of-span.result.start c.span_of-span.result.stop n.0 n.1 (c.span_of-span.ensures.text c.in-Token.kind stands) c.span_of-span.ensures.start c.span_of-span.ensures.stop)
+    (Gives-token c.in-Token.kind c.span_of-span.result.text.now c.span_of-span.result.start c.span_of-span.result.stop
+    n.0 n.1 (c.span_of-span.ensures.text c.in-Token.kind stands) c.span_of-span.ensures.start
+    c.span_of-span.ensures.stop)
 
 pub returns-in-Stuck : goal.returns-in-Stuck
 returns-in-Stuck c =

@@ -6,4 +6,5 @@ use Rattle.wc_binary.proofs.decoder.externals.ExportsFromSource.read.Goals as go
 pub returns : goal.returns
 unfolding vector
 returns g c =
-    then-gives u32 (λ n. times n export) _ _ _ c.in_ok-count.count c.in_ok-count.ensures c.exports.result c.exports.ensures
+    then-gives u32 (λ n. times n export) _ _ _ c.in_ok-count.count c.in_ok-count.ensures c.exports.result
+    c.exports.ensures

@@ -6,4 +6,5 @@ use Rattle.wc_binary.proofs.decoder.externals.ImportsFromSource.read.Goals as go
 pub returns : goal.returns
 unfolding vector
 returns g c =
-    then-gives u32 (λ n. times n import) _ _ _ c.in_ok-count.count c.in_ok-count.ensures c.imports.result c.imports.ensures
+    then-gives u32 (λ n. times n import) _ _ _ c.in_ok-count.count c.in_ok-count.ensures c.imports.result
+    c.imports.ensures

@@ -47,12 +47,16 @@ returns g c = (
 pub returns-in-Some : goal.returns-in-Some
 returns-in-Some g c =
     let ahead = c.in-Some.ensures.ahead in
-    let all : c.pass.result ≡ c.in_ok-count.count = rw c.pass.ensures.amount (omega (arith, c.in-Some.ensures.at_hand)) in
+    let all : c.pass.result ≡ c.in_ok-count.count =
+    rw c.pass.ensures.amount (omega (arith, c.in-Some.ensures.at_hand)) in
     let taken = ahead-taken _ _ _ _ _ all ahead c.pass.ensures.passed in
     let raw = times-taken _ _ _ _ ahead.0 taken in (
       GoesOn-trans _ _ _ c.in_ok-count.ensures.0 taken.0,
       λ w.
           let count = c.in_ok-count.ensures.1 w in
-          let read_bytes = raw.1 count.0 in
-          (read_bytes.0, name-good _ c.in_ok-count.count _ _ _ _ _ c.in-Some.name count.1 read_bytes.1 c.in-Some.ensures.utf8),
+          let read_bytes = raw.1 count.0 in (
+            read_bytes.0,
+            name-good _ c.in_ok-count.count _ _ _ _ _ c.in-Some.name count.1 read_bytes.1
+                c.in-Some.ensures.utf8,
+          ),
     )

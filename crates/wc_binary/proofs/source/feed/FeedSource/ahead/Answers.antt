@@ -7,5 +7,6 @@ returns-clause-ahead g c =
     let f = c.args.self.now in
     let whole : f.end ≤ length f.buffer = search rules in
     let has : c.args.count ≤ f.end - f.at = search rules in
-    let next = pending-ahead f.buffer f.at f.end c.args.count c.in_ok-bytes.bytes.now f.ordered whole has (search rules) in
+    let next = pending-ahead f.buffer f.at f.end c.args.count c.in_ok-bytes.bytes.now f.ordered whole has (search rules)
+    in
     (next.0, λ w. next.1 _, c.are_bytes.ensures)

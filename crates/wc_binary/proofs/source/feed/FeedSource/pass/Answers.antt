@@ -10,7 +10,13 @@ returns-clause-passed g c =
     let most : n ≤ c.args.most = omega (arith, c.min-count.ensures) in
     let same : f.at + n - f.at ≡ n = omega arith in
     let whole : f.end ≤ length f.buffer = search rules in (
-      record { forward = omega (arith, le, f.ordered, f.counted); failed = refl; spent = refl; asked = λ e. refl; lender = refl },
+      record {
+        forward = omega (arith, le, f.ordered, f.counted);
+        failed = refl;
+        spent = refl;
+        asked = λ e. refl;
+        lender = refl;
+      },
       most,
       omega (arith, le, f.ordered, f.counted),
       λ w.

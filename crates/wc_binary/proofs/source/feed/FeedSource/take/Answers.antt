@@ -15,7 +15,13 @@ returns-clause-taken g c =
       c.in_ok-extend_from_slice.ensures.items,
       rw split.0 most,
       (
-        record { forward = omega (arith, le, f.ordered, f.counted); failed = refl; spent = refl; asked = λ e. refl; lender = refl },
+        record {
+          forward = omega (arith, le, f.ordered, f.counted);
+          failed = refl;
+          spent = refl;
+          asked = λ e. refl;
+          lender = refl;
+        },
         rw split.0 (omega (arith, le, f.ordered, f.counted)),
         λ w. (w, split.1 _),
         c.are_bytes.ensures,

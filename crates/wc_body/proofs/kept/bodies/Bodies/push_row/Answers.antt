@@ -57,10 +57,29 @@ invariant_of-self-2 c =
     let r = reserved c in
     elim c.match-short.branch [
       | in-Some w ↦
-          rw (c.joined-self-inside.ensures, w.self-inside-is, w.push_reserved.ensures.items, c.in_ok-extend_from_slice.ensures.items, r.bytes, r.places, r.others, r.needs)
+          rw (
+            c.joined-self-inside.ensures,
+            w.self-inside-is,
+            w.push_reserved.ensures.items,
+            c.in_ok-extend_from_slice.ensures.items,
+            r.bytes,
+            r.places,
+            r.others,
+            r.needs,
+          )
           (added-short c w.in-Some.short (rw w.in-Some.is at c.of-short.ensures)).kept
       | in-None w ↦
-          rw (c.joined-self-inside.ensures, w.self-inside-is, w.push_reserved-in-None.ensures.items, w.push_reserved-in-None-2.ensures.items, c.in_ok-extend_from_slice.ensures.items, r.bytes, r.places, r.others, r.needs)
+          rw (
+            c.joined-self-inside.ensures,
+            w.self-inside-is,
+            w.push_reserved-in-None.ensures.items,
+            w.push_reserved-in-None-2.ensures.items,
+            c.in_ok-extend_from_slice.ensures.items,
+            r.bytes,
+            r.places,
+            r.others,
+            r.needs,
+          )
           (added-other c w.elsewhere.result w.elsewhere.ensures).kept
     ]
 
@@ -69,9 +88,26 @@ returns-clause-ok c =
     let r = reserved c in
     elim c.match-short.branch [
       | in-Some w ↦
-          rw (← c.self.view_is, w.self-inside-is, w.push_reserved.ensures.items, c.in_ok-extend_from_slice.ensures.items, r.bytes, r.places, r.others)
+          rw (
+            ← c.self.view_is,
+            w.self-inside-is,
+            w.push_reserved.ensures.items,
+            c.in_ok-extend_from_slice.ensures.items,
+            r.bytes,
+            r.places,
+            r.others,
+          )
           (added-short c w.in-Some.short (rw w.in-Some.is at c.of-short.ensures)).seen
       | in-None w ↦
-          rw (← c.self.view_is, w.self-inside-is, w.push_reserved-in-None.ensures.items, w.push_reserved-in-None-2.ensures.items, c.in_ok-extend_from_slice.ensures.items, r.bytes, r.places, r.others)
+          rw (
+            ← c.self.view_is,
+            w.self-inside-is,
+            w.push_reserved-in-None.ensures.items,
+            w.push_reserved-in-None-2.ensures.items,
+            c.in_ok-extend_from_slice.ensures.items,
+            r.bytes,
+            r.places,
+            r.others,
+          )
           (added-other c w.elsewhere.result w.elsewhere.ensures).seen
     ]

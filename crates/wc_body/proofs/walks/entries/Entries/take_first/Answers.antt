@@ -6,7 +6,8 @@ use Rattle.wc_body.proofs.walks.entries.Entries.take_first.Goals as goal
 pub returns-in_err-entry-clause-none : goal.returns-in_err-entry-clause-none
 returns-in_err-entry-clause-none c =
     let none = sym c.self.view_is
-    ∙ ap marks (front-none c.self.inside.bytes.now c.self.invariant (sym (rw c.in_err-entry.was at c.entry_at.ensures))) in
+    ∙ ap marks (front-none c.self.inside.bytes.now c.self.invariant (sym (rw c.in_err-entry.was at c.entry_at.ensures)))
+    in
     λ h. (none, none)
 
 pub invariant_of-self : goal.invariant_of-self
