@@ -1,7 +1,6 @@
 //! Instructions that bytes begin with, whose integer may be spelled longer than it is kept.
 
 ghost use Rattle.std.specs.Prelude.{◌≡◌, ◌<◌, ◌≤◌, ◌∷◌, get_or, length, IfSome, IsNone};
-ghost use Rattle.wc_leb128.specs.Standard.Integers.{U, IsAtFront};
 ghost use Rattle.wc_ops.specs.Standard.Opcodes.{row};
 ghost use Rattle.wc_ops.specs.declared.op.Op.TheVariants as ops;
 ghost use Rattle.wc_body.specs.Drafting.FreeEntries.{AddsOne, AddsFree};
@@ -10,39 +9,8 @@ ghost use Rattle.wc_body.specs.Drafting.FrontEntries.{AddsFront};
 use crate::builder::BodyBuilder;
 use crate::bytes::number::{i32_at, i64_at};
 use crate::instr::Instr;
+use wc_leb128::u32_front;
 use wc_ops::IndexOp;
-
-/// The unsigned integer of 32 bits that these bytes begin with (Core 1.0, 5.2.2), and what follows it.
-#[inline(always)]
-fn u32_front(bytes: &[u8]) -> Option<(u32, &[u8])>
-    ensures { IfSome result (λ found. IsAtFront (U 32) bytes.now found.0 found.1.now) }
-{
-    let (first, rest) = bytes.split_first()?;
-    if *first < 128 {
-        return Some((u32::from(*first), rest));
-    }
-    let low = u32::from(*first - 128);
-    let (second, rest) = rest.split_first()?;
-    if *second < 128 {
-        return Some((low + 0x80 * u32::from(*second), rest));
-    }
-    let low = low + 0x80 * u32::from(*second - 128);
-    let (third, rest) = rest.split_first()?;
-    if *third < 128 {
-        return Some((low + 0x4000 * u32::from(*third), rest));
-    }
-    let low = low + 0x4000 * u32::from(*third - 128);
-    let (fourth, rest) = rest.split_first()?;
-    if *fourth < 128 {
-        return Some((low + 0x20_0000 * u32::from(*fourth), rest));
-    }
-    let low = low + 0x20_0000 * u32::from(*fourth - 128);
-    let (fifth, rest) = rest.split_first()?;
-    if *fifth >= 16 {
-        return None;
-    }
-    Some((low + 0x1000_0000 * u32::from(*fifth), rest))
-}
 
 /// Whether these bytes begin with an index or a constant that has five bytes or more.
 // Linkers leave such integers, where they put one in place of another.
