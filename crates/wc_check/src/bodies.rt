@@ -5,7 +5,7 @@ ghost use Rattle.wc_body.specs.Standard.Entries.{mark};
 ghost use Rattle.wc_body.specs.Standard.Needed.{needs_of};
 ghost use Rattle.wc_ast.specs.declared.limits.GlobalType.{GlobalType};
 ghost use Rattle.wc_check.specs.Judging.Enough.{HasRoom, HasCommon, HasOwnRooms, HasOwn, AreSettable, run_starts};
-ghost use Rattle.wc_check.specs.Judging.Enough.{AreMarkedSettable, IsKnown};
+ghost use Rattle.wc_check.specs.Judging.Enough.{AreMarkedSettable, IsKnown, first_asked};
 ghost use Rattle.wc_check.specs.Standard.InstructionRules.{broken_in_body};
 ghost use Rattle.wc_check.specs.Judging.Marks.{judged_mark};
 ghost use Rattle.wc_check.specs.Judging.Verdicts.{verdict};
@@ -161,6 +161,14 @@ fn has_own_rooms(context: &Context, locals: usize, own: OwnNeeds) -> bool
     has_room(context.globals.len(), own.set_globals) && has_room(locals, own.locals)
 }
 
+/// The lowest global to be asked of, where this is the lowest that is set, and it is known or not of those below 64 that
+/// none that is set is constant.
+fn first_asked(low_settable: bool, lowest: u32) -> u32
+    ensures { result ≡ first_asked low_settable lowest }
+{
+    if low_settable { lowest.max(64) } else { lowest }
+}
+
 /// Whether there are these in a function of so many locals, and no global that is set is constant, as far as it can be
 /// told without looking at each entry: where several globals are set, all between them must be mutable, but for those
 /// below 64 where it is known that none that is set is constant. Of each global it is told where the run of mutable
@@ -175,9 +183,15 @@ fn has_own(
     requires { starts.now ≡ run_starts 0 0 context.now.globals }
     ensures { result ≡ true → HasOwn context.now low_settable locals own }
 {
-    let lowest = own.lowest_set_global;
-    let first = if low_settable { lowest.max(64) } else { lowest };
-    has_own_rooms(context, locals, own) && has_run(starts, first, own.set_globals)
+    if !has_own_rooms(context, locals, own) {
+        return false;
+    }
+    // Most bodies set none.
+    if own.set_globals == 0 {
+        return true;
+    }
+    let first = first_asked(low_settable, own.lowest_set_global);
+    has_run(starts, first, own.set_globals)
 }
 
 /// The body of the function of this index, which has so many locals, parameters counted. Of each global it is told
