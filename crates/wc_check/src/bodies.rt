@@ -161,8 +161,8 @@ fn has_own_rooms(context: &Context, locals: usize, own: OwnNeeds) -> bool
     has_room(context.globals.len(), own.set_globals) && has_room(locals, own.locals)
 }
 
-/// The lowest global to be asked of, where this is the lowest that is set, and it is known or not of those below 64 that
-/// none that is set is constant.
+/// The lowest global to be asked of, where this is the lowest that is set, and it is known or not of those below 64
+/// that none that is set is constant.
 fn first_asked(low_settable: bool, lowest: u32) -> u32
     ensures { result ≡ first_asked low_settable lowest }
 {
