@@ -1,6 +1,7 @@
 //! Whole bodies by the bytes that they are kept by.
 
-ghost use Rattle.std.specs.Prelude.{◌≡◌, ◌++◌, ◌∷◌, ℕ, [], IfSome, IsNone};
+ghost use Rattle.std.specs.Prelude.{◌≡◌, ◌++◌, ◌∷◌, ℕ, [], true, IfSome, IsNone};
+ghost use Rattle.wc_body.specs.Standard.Needed.{nothing};
 ghost use Rattle.wc_body.specs.Drafting.AtFront.{Notes, NotesInstr};
 ghost use Rattle.wc_body.specs.Drafting.PackedBody.{IsBody};
 
@@ -19,7 +20,10 @@ pub(crate) fn body_spelled(alloc: Global, bytes: &[u8]) -> Option<(&[u8], Needs)
     if *last != 0x0b {
         return None;
     }
-    let needs = instructions_spelled(alloc, row)?;
+    let mut needs = Needs::nothing();
+    if !instructions_spelled(alloc, row, &mut needs) {
+        return None;
+    }
     Some((row, needs))
 }
 
@@ -66,18 +70,22 @@ fn spelled_front<'a>(bytes: &'a [u8], needs: &mut Needs, parts: &Vec<Part>) -> O
     }
 }
 
-/// What the instructions need that these are the canonical bytes of, where these are usual ones and none is a block.
+/// Notes what the instructions need that these are the canonical bytes of, and answers whether these are usual ones and
+/// none is a block.
 // A call, so that its loop has registers of its own.
 #[inline(never)]
-fn instructions_spelled(alloc: Global, bytes: &[u8]) -> Option<Needs>
-    ensures { IfSome result (IsBody bytes.now) }
+fn instructions_spelled(alloc: Global, bytes: &[u8], needs: &mut Needs) -> bool
+    requires { needs.old ≡ nothing }
+    ensures { result ≡ true → IsBody bytes.now needs.new }
 {
-    let mut needs = Needs::nothing();
     // None is open.
     let parts = Vec::new(alloc);
     let mut rest = bytes;
     while !rest.is_empty() {
-        rest = spelled_front(rest, &mut needs, &parts)?;
+        let Some(behind) = spelled_front(rest, needs, &parts) else {
+            return false;
+        };
+        rest = behind;
     }
-    Some(needs)
+    true
 }

@@ -6,13 +6,13 @@ use Rattle.wc_body.proofs.Drafts.Finished.{fronted-body}
 use Rattle.wc_body.proofs.runs.spelled.instructions_spelled.Goals as goal
 
 pub loop-rest-init : goal.loop-rest-init
-loop-rest-init c = rw c.nothing-needs.ensures (fronted-none _ _ _ _ _ started-none refl)
+loop-rest-init c = rw c.requires (fronted-none _ _ _ _ _ started-none refl)
 
 pub loop-rest-preserved : goal.loop-rest-preserved
 loop-rest-preserved c =
-    fronted-more _ _ _ _ _ _ _ _ _ c.loop-rest.invariant (rw c.new-parts.ensures.items at c.in_ok-rest.ensures)
+    fronted-more _ _ _ _ _ _ _ _ _ c.loop-rest.invariant (rw c.new-parts.ensures.items at c.in-Some.ensures)
 
 pub returns : goal.returns
-returns c =
+returns c told =
     let none : length c.loop-rest.rest.now ≡ 0 = grind (arith, nat_tests) in
     fronted-body _ _ _ _ c.loop-rest.invariant none refl
