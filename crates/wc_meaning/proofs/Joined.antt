@@ -33,7 +33,7 @@ use Rattle.wc_meaning.specs.Standard.Denoted.{context_of, denoted_in, declaratio
 use Rattle.wc_meaning.specs.Standard.Denoted.{reference_faults, first_fault, FirstFault, Means}
 use Rattle.wc_meaning.specs.Stored.Placed.{FieldPlaced, ArePlaced}
 use Rattle.wc_meaning.proofs.Lists.{both, flat-mapped, flat-where}
-use Rattle.wc_meaning.proofs.Code.Repeated.{inner-stored}
+use Rattle.wc_meaning.proofs.Codes.Repeated.{inner-stored}
 use Rattle.wc_meaning.proofs.Spaced.{space-faults-stored}
 use Rattle.wc_meaning.proofs.Ordered.{late-stored, second-stored}
 use Rattle.wc_meaning.proofs.Types.Typed.{types-same}

@@ -5,5 +5,5 @@ mod Ordered
 mod Listed
 pub mod Joined
 pub mod Single
-pub mod Code
+pub mod Codes
 mod Types

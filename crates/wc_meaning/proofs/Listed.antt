@@ -55,7 +55,7 @@ use Rattle.wc_meaning.specs.Stored.Placed.{FieldPlaced, ArePlaced}
 use Rattle.wc_meaning.proofs.Lists.{both, mapped-same, flat-mapped}
 use Rattle.wc_meaning.proofs.Spaced.{declares-stored, space-texts}
 use Rattle.wc_meaning.proofs.Types.Judged.{use-indexed}
-use Rattle.wc_meaning.proofs.Code.Functions.{func-same, func-judged, constant-same, constant-judged}
+use Rattle.wc_meaning.proofs.Codes.Functions.{func-same, func-judged, constant-same, constant-judged}
 
 -- ---- what is declared before a field
 

@@ -15,7 +15,7 @@ use Rattle.wc_resolve_code.specs.declared.why.NameWhy.{NameWhy}
 use Rattle.wc_resolve.specs.Standard.Denoted.{Names as Denote, FirstFault as FirstStored}
 use Rattle.wc_meaning.specs.Stored.Placed.{ArePlaced}
 use Rattle.wc_meaning.proofs.Joined.{stored-means, stored-fault}
-use Rattle.wc_meaning.proofs.Code.Placing.{text-placed}
+use Rattle.wc_meaning.proofs.Codes.Placing.{text-placed}
 use Rattle.wc_read_text.specs.Standard.Texts.{Txt}
 use Rattle.wc_read_text.specs.Standard.Faults.{byte_of, IsNameFault}
 

@@ -13,7 +13,7 @@ use Rattle.wc_surface.specs.Standard.Written.Fields.{import_field, func_field, m
 use Rattle.wc_meaning.specs.Standard.Contexts.{fault}
 use Rattle.wc_meaning.specs.Standard.Inner.{beyond}
 use Rattle.wc_meaning.specs.Standard.Denoted.{FirstFault}
-use Rattle.wc_meaning.proofs.Code.Finding.{at-end}
+use Rattle.wc_meaning.proofs.Codes.Finding.{at-end}
 use Rattle.wc_meaning.proofs.Examples.Parts.{a_at, b_at, param, local, type_use, no_use, plain, func, import_at}
 use Rattle.wc_meaning.proofs.Examples.Parts.{named_plain}
 

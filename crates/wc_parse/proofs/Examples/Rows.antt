@@ -1,4 +1,4 @@
 -- Whole texts.
-mod Code
+mod Instructions
 mod Parts
 mod Lexed

@@ -35,7 +35,7 @@ use Rattle.wc_meaning.proofs.Lists.{both, mapped-same}
 use Rattle.wc_meaning.proofs.Spaced.{texts-same}
 use Rattle.wc_meaning.proofs.Types.Typed.{types-same}
 use Rattle.wc_meaning.proofs.Types.Judged.{use-indexed}
-use Rattle.wc_meaning.proofs.Code.Bodies.{all-same, all-judged}
+use Rattle.wc_meaning.proofs.Codes.Bodies.{all-same, all-judged}
 
 -- ---- the identifiers of parameters
 

@@ -14,7 +14,7 @@ use Rattle.wc_parse.specs.Standard.Productions.{SaysFields}
 use Rattle.wc_parse.proofs.Pairs.{each-length}
 use Rattle.wc_parse.proofs.Saying.Written.{all-spoken}
 use Rattle.wc_meaning.specs.Stored.Placed.{IsPlaced, FieldPlaced, ArePlaced}
-use Rattle.wc_meaning.proofs.Code.Finding.{says-placed}
+use Rattle.wc_meaning.proofs.Codes.Finding.{says-placed}
 
 function-placed : {us : List Said} {f : Function} → IsFunction us f → (token : ℕ) (d : Declared) (lo hi : ℕ)
     → Follow lo us hi → hi ≤ 2 ^ 32 → FieldPlaced (func_field token d f)

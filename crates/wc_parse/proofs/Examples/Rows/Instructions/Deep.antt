@@ -22,7 +22,7 @@ use Rattle.wc_parse.proofs.Examples.Rows.Lexed.Tokens.{Placed, near, near_as, ne
 use Rattle.wc_parse.proofs.Examples.Rows.Lexed.Tokens.{said_from}
 use Rattle.wc_parse.proofs.Examples.Rows.Lexed.Reading.{Reads, may_precede, are_tokens, are_ascii, is_whole, reads}
 use Rattle.wc_parse.proofs.Examples.Rows.Lexed.Words.{lp, rp, func_word, block_word, end_word, kept}
-use Rattle.wc_parse.proofs.Examples.Rows.Code.Repeated.{times, above, single, alone}
+use Rattle.wc_parse.proofs.Examples.Rows.Instructions.Repeated.{times, above, single, alone}
 use Rattle.wc_parse.proofs.Examples.Rows.Parts.Absent.{undeclared, plainly, no_type_use, bare_head}
 use Rattle.wc_parse.proofs.Examples.Rows.Lexed.Grammar.{skip, keep, absent, no_use, no_head, no_export, fields, a_func}
 use Rattle.wc_parse.proofs.Examples.Rows.Lexed.Grammar.{a_region}

@@ -21,7 +21,7 @@ use Rattle.wc_parse_field.specs.Standard.Productions.Fields.{IsFunction, IsField
 use Rattle.wc_parse.proofs.Examples.Rows.Lexed.Tokens.{Placed, near, near_as, text_of, kinds_of, events_from, said_from}
 use Rattle.wc_parse.proofs.Examples.Rows.Lexed.Reading.{Reads, may_precede, are_tokens, are_ascii, is_whole, reads}
 use Rattle.wc_parse.proofs.Examples.Rows.Lexed.Words.{lp, rp, func_word, block_word, kept}
-use Rattle.wc_parse.proofs.Examples.Rows.Code.Repeated.{times, above, single, alone}
+use Rattle.wc_parse.proofs.Examples.Rows.Instructions.Repeated.{times, above, single, alone}
 use Rattle.wc_parse.proofs.Examples.Rows.Parts.Absent.{undeclared, plainly, no_type_use, bare_head}
 use Rattle.wc_parse.proofs.Examples.Rows.Lexed.Grammar.{skip, keep, no_use, no_head, no_export, fields, a_func}
 use Rattle.wc_parse.proofs.Examples.Rows.Lexed.Grammar.{a_folded, folded_region}
