@@ -348,6 +348,12 @@ def nested(integers, size):
     return functions(integers, [func_type(integers, [], [])], repeated(pool, size))
 
 
+def externals(integers, imports, exports):
+    """The sections of a module of these imports and exports, and of one type."""
+    return (integers.section(1, integers.vector([func_type(integers, [], [])]))
+            + integers.section(2, integers.vector(imports)) + integers.section(7, integers.vector(exports)))
+
+
 def names(integers, size):
     u = integers.unsigned
     chooser = random.Random(54321)
@@ -363,8 +369,7 @@ def names(integers, size):
         count += 1
     custom = integers.section(0, integers.name(words[0]) + b"".join(w.encode() for w in words) * 2)
     behind = custom * max(1, int((size - total) / len(custom)))
-    return (integers.section(1, integers.vector([func_type(integers, [], [])]))
-            + integers.section(2, integers.vector(imports)) + integers.section(7, integers.vector(exports)) + behind)
+    return externals(integers, imports, exports) + behind
 
 
 def many(integers, size):
@@ -378,8 +383,7 @@ def many(integers, size):
         exports.append(integers.name(f"{path}_{count}") + b"\x00" + u(count))
         total += len(imports[-1]) + len(exports[-1])
         count += 1
-    return (integers.section(1, integers.vector([func_type(integers, [], [])]))
-            + integers.section(2, integers.vector(imports)) + integers.section(7, integers.vector(exports)))
+    return externals(integers, imports, exports)
 
 
 def mangled(integers, size):
@@ -401,8 +405,7 @@ def mangled(integers, size):
         exports.append(integers.name(f"{symbol()[:110]}.{count}") + b"\x00" + u(count))
         total += len(imports[-1]) + len(exports[-1])
         count += 1
-    return (integers.section(1, integers.vector([func_type(integers, [], [])]))
-            + integers.section(2, integers.vector(imports)) + integers.section(7, integers.vector(exports)))
+    return externals(integers, imports, exports)
 
 
 def data(integers, size):
