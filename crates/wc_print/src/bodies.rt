@@ -7,12 +7,14 @@ ghost use Rattle.wc_ops.specs.Standard.Opcodes.{memory};
 ghost use Rattle.wc_print.specs.Standard.Printed.{Printed, number, after, below, printed};
 ghost use Rattle.wc_print.specs.Standard.Printable.{IsSpelled};
 ghost use Rattle.wc_print.specs.Standard.Going.{Puts};
-ghost use Rattle.wc_print.specs.Standard.Lines.{block_items, number_items, offset_items, bytes_of, align_items};
+ghost use Rattle.wc_print.specs.Standard.Lines.{block_items, number_items, offset_items, align_items};
 ghost use Rattle.wc_print.specs.Standard.Lines.{mark_items, told, expr_items};
 ghost use Rattle.wc_print.specs.Writing.Places.{item_at};
 
+use crate::integers::write_memory;
 use crate::lines::{Row, head_line, op_line};
-use crate::numbers::{put_integer, put_natural, put_number};
+use crate::numbers::{put_integer, put_number};
+use crate::pages::PAGE;
 use crate::sink::Sink;
 use crate::types::{put_result, put_type_use};
 use wc_ast::{BlockType, Constant, Entry, Instr, Kind, Labels, MemArg, MemOp, Op};
@@ -62,47 +64,14 @@ fn put_labels<S: Sink>(out: &mut S, default: u32, labels: Labels<'_>)
     put_number(out, default);
 }
 
-#[inline(always)]
-fn put_offset<S: Sink>(out: &mut S, offset: u32)
-    ensures { Puts S.Has (offset_items offset) out.old out.new }
-{
-    if offset == 0 {
-        return;
-    }
-    out.put(b" offset=");
-    put_natural(out, offset);
-}
-
-/// An alignment in bytes.
-fn align_bytes(align: u32) -> u32
-    ensures { result ≡ bytes_of align }
-{
-    match align {
-        0 => 1,
-        1 => 2,
-        2 => 4,
-        _ => 8,
-    }
-}
-
-#[inline(always)]
-fn put_align<S: Sink>(out: &mut S, op: MemOp, align: u32)
-    ensures { Puts S.Has (align_items (memory op).alignment align) out.old out.new }
-{
-    if align == op.natural_alignment() {
-        return;
-    }
-    out.put(b" align=");
-    put_natural(out, align_bytes(align));
-}
-
-#[inline(always)]
+/// What follows the name of a load or a store.
 fn put_memory<S: Sink>(out: &mut S, op: MemOp, arg: MemArg)
     ensures { let items = offset_items arg.offset ++ align_items (memory op).alignment arg.align in
         Puts S.Has items out.old out.new }
 {
-    put_offset(out, arg.offset);
-    put_align(out, op, arg.align);
+    let mut page = [0; PAGE];
+    let end = write_memory(&mut page, 0, op, arg);
+    out.put(&page[..end]);
 }
 
 #[inline(always)]

@@ -1,9 +1,10 @@
-//! Digits of numbers of few, written where there is room for them.
+//! Digits of numbers, written where there is room for them.
 
-ghost use Rattle.std.specs.Prelude.{◌≡◌, ◌≤◌, ◌<◌, ◌+◌, ◌∷◌, [], ◌++◌, length, take};
+ghost use Rattle.std.specs.Prelude.{◌≡◌, ℕ, ◌≤◌, ◌<◌, ◌+◌, ◌/◌, List, ◌∷◌, [], ◌++◌, length, take};
 ghost use Rattle.std.specs.Fmt.{decimal};
-ghost use Rattle.wc_print.specs.Standard.Printed.{number, after};
+ghost use Rattle.wc_print.specs.Standard.Printed.{number, integer, after};
 ghost use Rattle.wc_print.specs.Standard.Printable.{Put};
+ghost use Rattle.wc_print.specs.Writing.Places.{sign};
 
 /// The first index that isn't short: one of more than six digits.
 pub const LIMIT: u32 = 1_000_000;
@@ -32,6 +33,20 @@ pub fn write_few_digits(room: &mut [u8], at: usize, n: u32) -> usize
     at + 3
 }
 
+/// Writes the last three digits of a number behind those before them, from a place on, and says where they end.
+#[inline(always)]
+fn write_three_more(room: &mut [u8], at: usize, n: u64) -> usize
+    requires { at + 3 ≤ length room.old }
+    ensures end { result ≡ at + 3 }
+    ensures bytes { (front : List ℕ) → 1000 ≤ n → take at room.old ≡ front ++ decimal (n / 1000)
+        → take result room.new ≡ front ++ decimal n }
+{
+    room[at] = b'0' + (n / 100 % 10) as u8;
+    room[at + 1] = b'0' + (n / 10 % 10) as u8;
+    room[at + 2] = b'0' + (n % 10) as u8;
+    at + 3
+}
+
 /// Writes the digits of a number of at most six, from a place on, and says where they end.
 #[inline(always)]
 pub fn write_digits(room: &mut [u8], at: usize, n: u32) -> usize
@@ -44,10 +59,74 @@ pub fn write_digits(room: &mut [u8], at: usize, n: u32) -> usize
         return write_few_digits(room, at, n);
     }
     let end = write_few_digits(room, at, n / 1000);
-    room[end] = b'0' + (n / 100 % 10) as u8;
-    room[end + 1] = b'0' + (n / 10 % 10) as u8;
-    room[end + 2] = b'0' + (n % 10) as u8;
-    end + 3
+    write_three_more(room, end, u64::from(n))
+}
+
+/// Writes the digits of a number of at most twelve, from a place on, and says where they end.
+#[inline(always)]
+fn write_many_digits(room: &mut [u8], at: usize, n: u64) -> usize
+    requires room { at + 12 ≤ length room.old }
+    requires few { n < 1000000000000 }
+    ensures within { result ≤ at + 12 }
+    ensures bytes { take result room.new ≡ take at room.old ++ decimal n }
+{
+    if n < 1_000_000 {
+        return write_digits(room, at, n as u32);
+    }
+    let end = write_digits(room, at, (n / 1_000_000) as u32);
+    let next = write_three_more(room, end, n / 1000);
+    write_three_more(room, next, n)
+}
+
+/// Writes the digits of a number, from a place on, and says where they end.
+#[inline(always)]
+pub fn write_natural(room: &mut [u8], at: usize, n: u64) -> usize
+    requires { at + 21 ≤ length room.old }
+    ensures within { result ≤ at + 21 }
+    ensures bytes { take result room.new ≡ take at room.old ++ decimal n }
+{
+    if n < 1_000_000_000_000 {
+        return write_many_digits(room, at, n);
+    }
+    let end = write_many_digits(room, at, n / 1_000_000_000);
+    let next = write_three_more(room, end, n / 1_000_000);
+    let last = write_three_more(room, next, n / 1000);
+    write_three_more(room, last, n)
+}
+
+/// Writes the sign of a number, if it has one, and says where it ends. The byte is written of each.
+// No branch depends on the sign, since it couldn't be foretold.
+#[inline(always)]
+fn write_sign(room: &mut [u8], at: usize, n: i64) -> usize
+    requires { at + 1 ≤ length room.old }
+    ensures end { result ≤ at + 1 }
+    ensures bytes { take result room.new ≡ take at room.old ++ sign n }
+{
+    room[at] = b'-';
+    at + usize::from(n < 0)
+}
+
+/// Writes a number, behind a space.
+#[inline(always)]
+pub fn write_number(room: &mut [u8], at: usize, n: u32) -> usize
+    requires { at + 22 ≤ length room.old }
+    ensures end { result ≤ at + 22 }
+    ensures put { Put (after (number n) ∷ []) (take at room.old) (take result room.new) }
+{
+    room[at] = b' ';
+    write_natural(room, at + 1, u64::from(n))
+}
+
+/// Writes a signed number, behind a space.
+#[inline(never)]
+pub fn write_integer(room: &mut [u8], at: usize, n: i64) -> usize
+    requires { at + 23 ≤ length room.old }
+    ensures end { result ≤ at + 23 }
+    ensures put { Put (after (integer n) ∷ []) (take at room.old) (take result room.new) }
+{
+    room[at] = b' ';
+    let begin = write_sign(room, at + 1, n);
+    write_natural(room, begin, n.unsigned_abs())
 }
 
 /// Writes an index that is short, behind a space.

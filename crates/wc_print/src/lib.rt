@@ -8,6 +8,7 @@ mod escapes;
 mod externals;
 mod field;
 mod heads;
+mod integers;
 mod laws;
 mod lines;
 mod memory;

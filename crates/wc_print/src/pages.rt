@@ -3,29 +3,28 @@
 
 ghost use Rattle.std.specs.Prelude.{◌≡◌, ◌≤◌, ◌<◌, ◌+◌, ◌∷◌, [], ◌++◌, Some, length, take, slice_index};
 ghost use Rattle.std.specs.List.{flat_map};
-ghost use Rattle.wc_ops.specs.Standard.Opcodes.{memory};
 ghost use Rattle.wc_body.specs.declared.entry.Entry.{Entry};
 ghost use Rattle.wc_body.specs.Standard.Entries.{mark};
 ghost use Rattle.wc_body.specs.Standard.Walks.Brief.{brief_entry};
-ghost use Rattle.wc_print.specs.Standard.Printed.{below, closing, word};
+ghost use Rattle.wc_print.specs.Standard.Printed.{below, closing};
 ghost use Rattle.wc_print.specs.Standard.Printable.{Put};
 ghost use Rattle.wc_print.specs.Standard.Going.{Puts, Behind};
-ghost use Rattle.wc_print.specs.Standard.Lines.{told, offset_items, body_items};
+ghost use Rattle.wc_print.specs.Standard.Lines.{told, body_items};
 ghost use Rattle.wc_print.specs.Writing.Places.{line_items, LeavesLines};
 ghost use Rattle.wc_print.specs.Writing.Briefly.{told_text};
 
 use crate::bodies::{Place, put_entry};
-use crate::digits::write_few_digits;
-use crate::lines::{Row, line_of, op_line};
+use crate::integers::{write_access, write_constant, write_indexed};
+use crate::lines::{Row, line_of};
 use crate::operands::{Text, operand_text};
 use crate::sink::Sink;
-use wc_ast::{BodyRef, Brief, Entries, Entry, Instr, MemOp, Op};
+use wc_ast::{BodyRef, Brief, Entries, Entry, Instr, Op};
 
 /// How many bytes a page has.
 pub const PAGE: usize = 512;
 
 /// The most bytes of a line that is written on a page, with what fills its rows.
-const LINE: usize = 48;
+const LINE: usize = 80;
 
 /// Writes what a row tells, from a place on, and says where it ends. The whole row is written.
 #[inline(always)]
@@ -55,7 +54,7 @@ fn write_text(page: &mut [u8; PAGE], at: usize, text: &'static Text) -> usize
 // No branch depends on what the entry is, since it couldn't be foretold.
 #[inline(always)]
 fn write_brief(page: &mut [u8; PAGE], at: usize, brief: Brief) -> usize
-    requires room { at + 48 ≤ 512 }
+    requires room { at + 80 ≤ 512 }
     requires low { brief.operand < 128 }
     ensures within { result ≤ 512 }
     ensures put { (entry : Entry) → brief_entry brief ≡ Some entry
@@ -66,25 +65,11 @@ fn write_brief(page: &mut [u8; PAGE], at: usize, brief: Brief) -> usize
     write_text(page, end, operand_text(line[22], brief.operand))
 }
 
-/// Writes the line of a load or a store of the natural alignment, whose offset is above those of brief entries.
-#[inline(always)]
-fn write_memory(page: &mut [u8; PAGE], at: usize, op: MemOp, offset: u8) -> usize
-    requires room { at + 48 ≤ 512 }
-    requires high { 128 ≤ offset }
-    ensures within { result ≤ 512 }
-    ensures put { Put (below 4 (word (memory op).name) ∷ offset_items offset)
-        (take at page.old) (take result page.new) }
-{
-    let end = write_row(page, at, op_line(Op::Mem(op)));
-    let behind = write_row(page, end, b" offset=               \x08");
-    write_few_digits(page, behind, u32::from(offset))
-}
-
 /// Puts what is written on the page if there is no room for another line, and says where the next one begins.
 #[inline(always)]
 fn turn<S: Sink>(out: &mut S, page: &[u8; PAGE], at: usize) -> usize
     requires { at ≤ 512 }
-    ensures room { result + 48 ≤ 512 }
+    ensures room { result + 80 ≤ 512 }
     ensures same { Puts (Behind S.Has) [] (out.old, take at page.now) (out.new, take result page.now) }
 {
     if at + LINE <= PAGE {
@@ -102,8 +87,8 @@ fn put_all_brief<S: Sink>(
     from: usize,
     entries: &mut Entries<'_>,
 ) -> usize
-    requires { from + 48 ≤ 512 }
-    ensures room { result + 48 ≤ 512 }
+    requires { from + 80 ≤ 512 }
+    ensures room { result + 80 ≤ 512 }
     ensures puts { LeavesLines (Behind S.Has) entries.new entries.old
         (out.new, take result page.new) (out.old, take from page.old) }
     ensures fewer { length entries.new ≤ length entries.old }
@@ -130,17 +115,16 @@ fn put_behind<S: Sink>(out: &mut S, page: &[u8; PAGE], at: usize, entry: Entry<'
 /// Puts the line of an entry, if it is short on the page, and says where the page's last line ends.
 #[inline(always)]
 fn put_line<S: Sink>(out: &mut S, page: &mut [u8; PAGE], at: usize, entry: Entry<'_>) -> usize
-    requires { at + 48 ≤ 512 }
+    requires { at + 80 ≤ 512 }
     ensures within { result ≤ 512 }
     ensures put { Puts (Behind S.Has) (line_items (mark entry.entry))
         (out.old, take at page.old) (out.new, take result page.new) }
 {
     match entry {
-        // With an offset below 128 such an entry is brief.
-        Entry::Plain(Instr::Mem(op, arg))
-            if arg.align == op.natural_alignment() && (128..256).contains(&arg.offset) => {
-            write_memory(page, at, op, arg.offset as u8)
-        }
+        Entry::Plain(Instr::Index(op, index)) => write_indexed(page, at, op, index),
+        Entry::Plain(Instr::Mem(op, arg)) => write_access(page, at, op, arg),
+        Entry::Plain(Instr::I32Const(n)) => write_constant(page, at, Op::I32Const, i64::from(n)),
+        Entry::Plain(Instr::I64Const(n)) => write_constant(page, at, Op::I64Const, n),
         _ => {
             put_behind(out, page, at, entry);
             0
@@ -150,7 +134,7 @@ fn put_line<S: Sink>(out: &mut S, page: &mut [u8; PAGE], at: usize, entry: Entry
 
 /// The instructions of a function, each on a line, and its end, behind what is written on the page.
 pub fn put_lines<S: Sink>(out: &mut S, page: &mut [u8; PAGE], from: usize, body: &BodyRef<'_>)
-    requires { from + 48 ≤ 512 }
+    requires { from + 80 ≤ 512 }
     ensures { Puts (Behind S.Has) (body_items body.now ++ below 2 closing ∷ [])
         (out.old, take from page.old) (out.new, []) }
 {

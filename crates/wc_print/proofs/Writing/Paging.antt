@@ -9,9 +9,9 @@ use Rattle.std.proofs.Math.Seq.{take-append-add}
 use Rattle.wc_tokens.specs.Standard.Lexemes.{is_idchar}
 use Rattle.wc_print.specs.Standard.Printed.{Printed, below, printed}
 use Rattle.wc_print.specs.Standard.Printable.{IsSpelled, Put}
-use Rattle.wc_print.specs.Standard.Lines.{offset_items}
+use Rattle.wc_print.specs.Standard.Lines.{offset_items, align_items, bytes_of}
 use Rattle.wc_print.proofs.Writing.Putting.{text}
-use Rattle.wc_print.proofs.Writing.Instructions.{unequal}
+use Rattle.wc_print.proofs.Writing.Instructions.{unequal, bytes-few}
 
 -- bytes that are written one behind another, from a place on
 sets-kept : (page vs : List ℕ) (at n : ℕ) → n ≡ at + length vs → n ≤ length page
@@ -69,7 +69,7 @@ thousands : (n : ℕ) → n / 100 / 10 ≡ n / 1000
 thousands n = omega arith
 
 -- three more digits, behind those that are written
-pub three-more : (page front : List ℕ) (at n : ℕ) → at + 3 ≤ length page → 1000 ≤ n → n < 1000000
+pub three-more : (page front : List ℕ) (at n : ℕ) → at + 3 ≤ length page → 1000 ≤ n → n < 2 ^ 64
     → take at page ≡ front ++ decimal (n / 1000)
     → take (at + 3) (set (set (set page at (48 + n / 100 % 10)) (at + 1) (48 + n / 10 % 10)) (at + 2) (48 + n % 10))
     ≡ front ++ decimal n
@@ -82,6 +82,13 @@ three-more page front at n fits ge low written =
     decimal_step n (omega (arith, ge)) (omega (arith, low)) in
     three-written page at (at + 1) (at + 2) _ _ _ (omega arith) (omega arith) fits
     ∙ rw (written, third, second, first) (simp append_assoc)
+
+-- the numbers before the last six digits, and before the last nine
+pub millions : (n : ℕ) → n / 1000 / 1000 ≡ n / 1000000
+millions n = omega arith
+
+pub billions : (n : ℕ) → n / 1000000 / 1000 ≡ n / 1000000000
+billions n = omega arith
 
 -- what is behind a space
 pub behind-space : (page new ds : List ℕ) (at end : ℕ) → at + 1 ≤ length page
@@ -121,4 +128,14 @@ offset-some n old mid new h lt e f =
     rw (unequal n 0 h) (record {
       spelled = ((refl, omega (arith, lt)), tt);
       bytes = f ∙ rw e (simp (append_assoc, append-nil));
+    })
+
+-- an alignment that isn't the natural one is printed
+pub align-some : (natural a v : ℕ) (old mid new : List ℕ) → a ≢ natural → v ≡ bytes_of a
+    → mid ≡ old ++ (32 ∷ codes "align=") → new ≡ mid ++ decimal v → Put (align_items natural a) old new
+unfolding is_idchar
+align-some natural a v old mid new h is e f =
+    rw (unequal a natural h) (record {
+      spelled = ((refl, omega (arith, bytes-few a)), tt);
+      bytes = f ∙ rw (e, is) (simp (append_assoc, append-nil));
     })

@@ -6,7 +6,7 @@ use Rattle.wc_print.proofs.pages.put_lines.Given as goal
 
 abbrev pub invariant-loop-entry : goal.invariant-loop-entry
 invariant-loop-entry g l = record {
-  room : l.at + 48 ≤ 512;
+  room : l.at + 80 ≤ 512;
   page : length l.page ≡ 512;
   puts : LeavesLines (Behind g.S.Sink.Has) l.entries (flatten l.body) (l.out, take l.at l.page)
       (l.fn.out, take l.fn.from l.fn.page);

@@ -1,0 +1,9 @@
+use Rattle.std.proofs.Common.{arith}
+use Rattle.wc_print.proofs.Writing.Paging.{millions}
+use Rattle.wc_print.proofs.digits.write_many_digits.Goals as goal
+
+pub returns-clause-bytes : goal.returns-clause-bytes
+returns-clause-bytes c =
+    c.write_three_more.ensures.bytes _ (omega arith)
+    (c.write_three_more-next.ensures.bytes _ (omega arith)
+    (rw (millions c.args.n) c.write_digits-end.ensures.bytes))
