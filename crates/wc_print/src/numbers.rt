@@ -7,7 +7,7 @@ ghost use Rattle.wc_print.specs.Standard.Going.{Puts};
 use crate::digits::{write_integer, write_number};
 use crate::sink::Sink;
 
-/// The digits of a natural number of two digits or more. They stand apart, so that the way of small numbers stays short.
+/// A natural number of two digits or more, behind a space. It stands apart, so that the way of small ones stays short.
 #[inline(never)]
 fn put_digits<S: Sink>(out: &mut S, n: u32)
     ensures { Puts S.Has (after (number n) ∷ []) out.old out.new }

@@ -11,14 +11,16 @@ returns-in-Plain-I32Const-clause-put g c =
     let fits : SFits w32 c.in-Plain-I32Const.n = search rules in
     let wide : SFits w64 c.in-Plain-I32Const.n = search rules in
     let same : c.from.result ≡ c.in-Plain-I32Const.n = c.from.ensures ∙ to_z-of_z fits in
-    let inner : c.in-Plain-I32Const.field-0 ≡ I32Const c.in-Plain-I32Const.n = rw c.in-Plain-I32Const.is at c.in-Plain-I32Const.field-0-is in
-    rw (c.in-Plain-I32Const.is, inner)
+    let it = c.in-Plain-I32Const in
+    let inner : it.field-0 ≡ I32Const it.n = rw it.is at it.field-0-is in
+    rw (it.is, inner)
     (on-page c.args.out.now (rw (to_z-of_z wide) at (rw same at c.write_constant.ensures.put refl)))
 
 pub returns-in-Plain-I64Const-clause-put : goal.returns-in-Plain-I64Const-clause-put
 unfolding is_idchar
 returns-in-Plain-I64Const-clause-put g c =
     let fits : SFits w64 c.in-Plain-I64Const.n = search rules in
-    let inner : c.in-Plain-I64Const.field-0 ≡ I64Const c.in-Plain-I64Const.n = rw c.in-Plain-I64Const.is at c.in-Plain-I64Const.field-0-is in
-    rw (c.in-Plain-I64Const.is, inner)
+    let it = c.in-Plain-I64Const in
+    let inner : it.field-0 ≡ I64Const it.n = rw it.is at it.field-0-is in
+    rw (it.is, inner)
     (on-page c.args.out.now (rw (to_z-of_z fits) at (c.write_constant-in-Plain-I64Const.ensures.put refl)))
