@@ -4,7 +4,7 @@ ghost use Rattle.std.specs.Prelude.{◌≡◌, ℕ, ◌≤◌, ◌<◌, ◌+◌,
 ghost use Rattle.std.specs.Fmt.{decimal};
 ghost use Rattle.wc_print.specs.Standard.Printed.{number, integer, after};
 ghost use Rattle.wc_print.specs.Standard.Printable.{Put};
-ghost use Rattle.wc_print.specs.Writing.Places.{sign};
+ghost use Rattle.wc_print.specs.Writing.Numbers.{sign};
 
 /// The first index that isn't short: one of more than six digits.
 pub const LIMIT: u32 = 1_000_000;

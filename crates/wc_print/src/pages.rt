@@ -112,7 +112,8 @@ fn put_behind<S: Sink>(out: &mut S, page: &[u8; PAGE], at: usize, entry: Entry<'
     put_entry(out, Place::Line, entry);
 }
 
-/// Puts the line of an entry, if it is short on the page, and says where the page's last line ends.
+/// Puts the line of an entry, and says where the page's last line ends. Those of integers are written on the page, and
+/// what has no bound, as a table of labels, or is rare goes behind it.
 #[inline(always)]
 fn put_line<S: Sink>(out: &mut S, page: &mut [u8; PAGE], at: usize, entry: Entry<'_>) -> usize
     requires { at + 80 ≤ 512 }

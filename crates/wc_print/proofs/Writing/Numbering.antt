@@ -9,7 +9,7 @@ use lib.Signed.{mag}
 use Rattle.wc_print.specs.Standard.Printed.{number, integer, after}
 use Rattle.wc_print.specs.Standard.Printable.{Put}
 use Rattle.wc_print.specs.Standard.Going.{Says, Puts}
-use Rattle.wc_print.specs.Writing.Places.{sign}
+use Rattle.wc_print.specs.Writing.Numbers.{sign}
 use Rattle.wc_print.proofs.Writing.Going.{text}
 
 behind : (old ds new : List ℕ) → new ≡ old ++ (32 ∷ ds) → new ≡ old ++ (32 ∷ (ds ++ []))

@@ -1,5 +1,5 @@
 -- Where an instruction is put.
-use Rattle.std.specs.Prelude.{ℕ, ℤ, pos, negsuc, List, [], ◌∷◌}
+use Rattle.std.specs.Prelude.{ℕ, List}
 use Rattle.std.specs.List.{flat_map}
 use Rattle.wc_body.specs.declared.instr.BlockType.{BlockType}
 use Rattle.wc_body.specs.declared.instr.Instr.{Instr}
@@ -24,8 +24,3 @@ abbrev pub LeavesLines : {F S : Type 0} → (F → S → List ℕ → Type 0) �
     → Type 0
 LeavesLines Has left all out old =
     Leaves Has (flat_map (mark_items (λ p. below 4 p)) left) (flat_map (mark_items (λ p. below 4 p)) all) out old
-
--- what stands before the digits of a signed number
-abbrev pub sign : ℤ → List ℕ
-sign (pos n) = []
-sign (negsuc n) = 45 ∷ []
