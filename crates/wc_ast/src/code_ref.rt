@@ -10,7 +10,7 @@ use std::marker::Model;
 use wc_body::{BodyRef, BodyRefs};
 
 /// The code of a function, where it stands in a row. A contract sees the code.
-#[derive(Debug, Drop)]
+#[derive(Drop)]
 pub struct CodeRef<'a> {
     locals: LocalsRef<'a>,
     body: BodyRef<'a>,
@@ -61,7 +61,7 @@ impl<'a> CodeRef<'a> {
 }
 
 /// The codes of a row that are left, in order. Taking one takes no memory.
-#[derive(Debug, Drop)]
+#[derive(Drop)]
 pub struct CodeRefs<'a> {
     spans: &'a [Span],
     groups: &'a [Group],

@@ -9,7 +9,7 @@ use std::marker::Model;
 use wc_body::{Bodies, Body, Needs, TryClone};
 
 /// What a module's code section tells of a function (Core 1.0, 5.5.13).
-#[derive(Debug, Drop)]
+#[derive(Drop)]
 pub struct FuncCode {
     /// The locals after its parameters.
     pub locals: Locals,
@@ -17,7 +17,7 @@ pub struct FuncCode {
 }
 
 /// What a row knows of the locals of one of its codes. These are at most `LOCALS_LIMIT`, so the numbers are short ones.
-#[derive(Clone, Copy, Debug)]
+#[derive(Clone, Copy)]
 pub struct Span {
     /// How many groups they have.
     pub(crate) groups: u16,
@@ -27,7 +27,7 @@ pub struct Span {
 
 /// The codes of functions, in order. A contract sees each. The groups of their locals stand in one row, and so do the
 /// bytes of their bodies, so that a great many small functions take little memory and time.
-#[derive(Debug, Drop)]
+#[derive(Drop)]
 pub struct Codes {
     // Of each code.
     spans: Vec<Span>,

@@ -16,7 +16,7 @@ pub enum ExportKind {
 }
 
 /// An export: a name, and the index of what it stands for (Core 1.0, 2.5.10).
-#[derive(Debug, Drop)]
+#[derive(Drop)]
 pub struct Export {
     pub name: Name,
     pub kind: ExportKind,

@@ -10,7 +10,7 @@ use crate::names::NameRefs;
 use std::marker::Model;
 
 /// An export (Core 1.0, 2.5.10), where it stands in a row. A contract sees the export.
-#[derive(Debug, Drop)]
+#[derive(Drop)]
 pub struct ExportRef<'a> {
     name: &'a str,
     kind: ExportKind,
@@ -55,7 +55,7 @@ impl<'a> ExportRef<'a> {
 }
 
 /// The exports of a row that are left, in order. Taking one takes no memory.
-#[derive(Debug, Drop)]
+#[derive(Drop)]
 pub struct ExportRefs<'a> {
     names: NameRefs<'a>,
     exported: &'a [Exported],

@@ -10,14 +10,14 @@ use std::marker::Model;
 use wc_body::TryClone;
 
 /// What is exported: the space, and the index in it.
-#[derive(Clone, Copy, Debug)]
+#[derive(Clone, Copy)]
 pub struct Exported {
     pub(crate) kind: ExportKind,
     pub(crate) index: u32,
 }
 
 /// Exports, in order (Core 1.0, 2.5.10). A contract sees each.
-#[derive(Debug, Drop)]
+#[derive(Drop)]
 pub struct Exports {
     names: Names,
     // Of each export.

@@ -8,7 +8,7 @@ use std::alloc::AllocError;
 use wc_body::{Body, Constant, TryClone};
 
 /// A function (Core 1.0, 2.5.3).
-#[derive(Debug, Drop)]
+#[derive(Drop)]
 pub struct Func {
     /// The index of its type.
     pub ty: u32,
@@ -28,7 +28,7 @@ impl TryClone for Func {
 }
 
 /// A global variable (Core 1.0, 2.5.6).
-#[derive(Debug, Drop)]
+#[derive(Drop)]
 pub struct Global {
     pub ty: GlobalType,
     /// Its first value.

@@ -9,7 +9,7 @@ use std::marker::Model;
 use wc_body::BodyRef;
 
 /// A function (Core 1.0, 2.5.3), where it stands in a row. A contract sees the function.
-#[derive(Debug, Drop)]
+#[derive(Drop)]
 pub struct FuncRef<'a> {
     ty: u32,
     locals: LocalsRef<'a>,
@@ -51,7 +51,7 @@ impl<'a> FuncRef<'a> {
 }
 
 /// The functions of a row that are left, in order. Taking one takes no memory.
-#[derive(Debug, Drop)]
+#[derive(Drop)]
 pub struct FuncRefs<'a> {
     types: &'a [u32],
     codes: CodeRefs<'a>,

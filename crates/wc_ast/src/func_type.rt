@@ -8,7 +8,7 @@ use wc_body::TryClone;
 use wc_ops::ValType;
 
 /// A function type (Core 2.0, 2.3.6), with any number of results.
-#[derive(Debug, Drop)]
+#[derive(Drop)]
 pub struct FuncType {
     pub params: List<ValType>,
     pub results: List<ValType>,

@@ -11,7 +11,7 @@ use std::marker::Model;
 use wc_body::{Needs, TryClone};
 
 /// Functions, in order (Core 1.0, 2.5.3). A contract sees each.
-#[derive(Debug, Drop)]
+#[derive(Drop)]
 pub struct Funcs {
     types: Vec<u32>,
     codes: Codes,

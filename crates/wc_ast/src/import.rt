@@ -18,7 +18,7 @@ pub enum Desc {
 }
 
 /// An import: the module and the name in it, and what is expected there (Core 1.0, 2.5.11).
-#[derive(Debug, Drop)]
+#[derive(Drop)]
 pub struct Import {
     pub module: Name,
     pub name: Name,

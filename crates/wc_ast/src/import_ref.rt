@@ -9,7 +9,7 @@ use crate::names::NameRefs;
 use std::marker::Model;
 
 /// An import (Core 1.0, 2.5.11), where it stands in a row. A contract sees the import.
-#[derive(Debug, Drop)]
+#[derive(Drop)]
 pub struct ImportRef<'a> {
     module: &'a str,
     name: &'a str,
@@ -55,7 +55,7 @@ impl<'a> ImportRef<'a> {
 }
 
 /// The imports of a row that are left, in order. Taking one takes no memory.
-#[derive(Debug, Drop)]
+#[derive(Drop)]
 pub struct ImportRefs<'a> {
     names: NameRefs<'a>,
     descs: &'a [Desc],

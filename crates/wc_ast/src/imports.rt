@@ -10,7 +10,7 @@ use std::marker::Model;
 use wc_body::TryClone;
 
 /// Imports, in order (Core 1.0, 2.5.11). A contract sees each.
-#[derive(Debug, Drop)]
+#[derive(Drop)]
 pub struct Imports {
     // Of each import: the name of the module, and the name in it.
     names: Names,

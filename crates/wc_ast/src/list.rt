@@ -8,7 +8,7 @@ use std::marker::Model;
 use wc_body::TryClone;
 
 /// A vector of the standard (Core 1.0, 2.1): items in order. A contract sees the items alone.
-#[derive(Debug, Drop)]
+#[derive(Drop)]
 pub struct List<T> {
     items: Vec<T>,
 }

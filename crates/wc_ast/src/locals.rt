@@ -33,7 +33,7 @@ pub struct Group {
 
 /// The declared locals of a function (Core 1.0, 2.5.3), at most `LOCALS_LIMIT`. A contract sees the type of each, in
 /// order. They are kept as groups, so memory goes with the groups.
-#[derive(Debug, Drop)]
+#[derive(Drop)]
 pub struct Locals {
     groups: Vec<Group>,
     total: u32,

@@ -9,7 +9,7 @@ use std::marker::Model;
 
 /// The declared locals of a function (Core 1.0, 2.5.3), where they stand in a row. A contract sees the type of each, in
 /// order.
-#[derive(Debug, Drop)]
+#[derive(Drop)]
 pub struct LocalsRef<'a> {
     groups: &'a [Group],
     total: u32,

@@ -14,7 +14,7 @@ use std::alloc::{self, AllocError};
 use wc_body::TryClone;
 
 /// A module (Core 1.0, 2.5). Indices count imports first, where a kind can be imported.
-#[derive(Debug, Drop)]
+#[derive(Drop)]
 pub struct Module {
     pub types: List<FuncType>,
     pub imports: Imports,

@@ -15,7 +15,7 @@ use wc_body::TryClone;
 const SHORT: usize = 32;
 
 /// The text of a name: in place, or in memory of its own.
-#[derive(Debug, Drop)]
+#[derive(Drop)]
 enum Text {
     Short(ArrayString<SHORT>),
     Long(String),
@@ -23,7 +23,7 @@ enum Text {
 
 /// A name (Core 1.0, 2.2.4 and 5.2.4). A contract sees the bytes of its UTF-8 encoding; each name is UTF-8. A short one
 /// takes no memory of its own.
-#[derive(Debug, Drop)]
+#[derive(Drop)]
 pub struct Name {
     text: Text,
 }

@@ -11,7 +11,7 @@ use wc_body::TryClone;
 
 /// Names (Core 1.0, 2.2.4 and 5.2.4), in order. A contract sees the bytes of each, which are UTF-8. They stand in one
 /// row, so that a great many names take little memory and time.
-#[derive(Debug, Drop)]
+#[derive(Drop)]
 pub struct Names {
     bytes: Vec<u8>,
     // Of each name: how many bytes it has.
@@ -97,7 +97,7 @@ fn append(bytes: &mut Vec<u8>, text: &str)
 }
 
 /// The names of a row that are left, in order. Taking one takes no memory.
-#[derive(Debug, Drop)]
+#[derive(Drop)]
 pub struct NameRefs<'a> {
     bytes: &'a [u8],
     sizes: SizeRefs<'a>,

@@ -7,7 +7,7 @@ use std::alloc::AllocError;
 use wc_body::{Constant, TryClone};
 
 /// An element segment (Core 1.0, 2.5.7).
-#[derive(Debug, Drop)]
+#[derive(Drop)]
 pub struct Elem {
     /// The index of the table.
     pub table: u32,
@@ -28,7 +28,7 @@ impl TryClone for Elem {
 }
 
 /// A data segment (Core 1.0, 2.5.8).
-#[derive(Debug, Drop)]
+#[derive(Drop)]
 pub struct Data {
     /// The index of the memory.
     pub memory: u32,

@@ -12,7 +12,7 @@ use wc_body::TryClone;
 const LARGE: u8 = 255;
 
 /// Sizes, in order. A contract sees each. A small one takes a byte.
-#[derive(Debug, Drop)]
+#[derive(Drop)]
 pub struct Sizes {
     // Of each size: itself where it is below `LARGE`, and else `LARGE`.
     marks: Vec<u8>,
@@ -122,7 +122,7 @@ fn put(marks: &mut Vec<u8>, large: &mut Vec<usize>, size: usize)
 }
 
 /// The sizes of a row that are left, in order.
-#[derive(Debug, Drop)]
+#[derive(Drop)]
 pub struct SizeRefs<'a> {
     marks: &'a [u8],
     large: &'a [usize],

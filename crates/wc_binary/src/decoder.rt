@@ -21,18 +21,18 @@ mod vector;
 ghost use Rattle.std.specs.Prelude.{◌≡◌, ◌≤◌, ◌++◌, length, IfSome, IfErr, OnOk, Some, false, ℕ};
 ghost use Rattle.std.specs.Io.KnownBytes.{IsAtEnd};
 ghost use Rattle.wc_device.specs.Standard.Device.{device_inner, failed_at, has_failed, has_ended, was_asked_again};
-ghost use Rattle.wc_device.specs.Standard.Device.{read_count};
-ghost use Rattle.wc_binary.specs.Standard.Decoding.{buffer_size, Decodes, DecodesOnly, DecodesOnlyFault, DecodesNear};
-ghost use Rattle.wc_binary.specs.Standard.Decoding.{DecodesCut, is_read_fault};
+ghost use Rattle.wc_device.specs.Standard.Device.{read_count, buffer_size};
+ghost use Rattle.wc_binary.specs.Standard.Decoding.{Decodes, DecodesOnly, DecodesOnlyFault, DecodesNear, DecodesCut};
+ghost use Rattle.wc_binary.specs.Standard.Decoding.{is_read_fault};
 
 use crate::fault::BinFault;
-use crate::source::{BUFFER_SIZE, Bytes, Feed};
+use crate::source::{Bytes, Feed};
 pub use byte::ByteTable;
 use module::whole_module;
 use std::alloc::Global;
 use std::io::Read;
 use wc_ast::Module;
-use wc_device::Device;
+use wc_device::{BUFFER_SIZE, Device};
 
 /// The module that the bytes spell (Core 1.0, 5.5.15), or else their first fault. A byte slice never fails to be read.
 pub fn decode(alloc: Global, bytes: &[u8]) -> Result<Module, BinFault>

@@ -8,7 +8,7 @@ ghost use Rattle.wc_binary.specs.Reading.Source.{Input, NextGives, TakesBehind, 
 
 use crate::fault::BinFault;
 pub use bytes::Bytes;
-pub use feed::{BUFFER_SIZE, Feed};
+pub use feed::Feed;
 use std::alloc::AllocError;
 
 /// The bytes of an input. `at_hand` tells how many of them can be taken without a read.

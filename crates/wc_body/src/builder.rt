@@ -58,7 +58,7 @@ pub(crate) enum Part {
 }
 
 /// A body that is being built. A contract sees what is open, and what each open one has so far.
-#[derive(Debug, Drop)]
+#[derive(Drop)]
 pub struct BodyBuilder {
     // Of each entry so far, its canonical bytes.
     bytes: Vec<u8>,

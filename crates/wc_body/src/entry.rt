@@ -3,7 +3,7 @@
 use crate::instr::{BlockType, Instr};
 
 /// What begins (Core 1.0, 2.4.5).
-#[derive(Clone, Copy, Debug, PartialEq, Eq)]
+#[derive(Clone, Copy, PartialEq, Eq)]
 pub enum Kind {
     Block,
     Loop,
@@ -11,7 +11,7 @@ pub enum Kind {
 }
 
 /// One entry of a body.
-#[derive(Debug, Drop)]
+#[derive(Drop)]
 pub enum Entry<'a> {
     /// An instruction in which none is nested.
     Plain(Instr<'a>),

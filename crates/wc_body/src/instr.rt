@@ -4,7 +4,7 @@ use crate::labels::Labels;
 use wc_ops::{IndexOp, MemOp, SimpleOp, ValType};
 
 /// Where a load or a store reads or writes (Core 1.0, 2.4.4).
-#[derive(Clone, Copy, Debug, PartialEq, Eq)]
+#[derive(Clone, Copy, PartialEq, Eq)]
 pub struct MemArg {
     /// The exponent of the alignment: two to this power bytes.
     pub align: u32,
@@ -13,7 +13,7 @@ pub struct MemArg {
 }
 
 /// The type of a block (Core 2.0, 2.4.8).
-#[derive(Clone, Copy, Debug, PartialEq, Eq)]
+#[derive(Clone, Copy, PartialEq, Eq)]
 pub enum BlockType {
     /// No parameters and no results.
     Empty,
@@ -24,7 +24,7 @@ pub enum BlockType {
 }
 
 /// An instruction other than `block`, `loop` and `if` (Core 1.0, 2.4).
-#[derive(Debug, Drop)]
+#[derive(Drop)]
 pub enum Instr<'a> {
     Simple(SimpleOp),
     Index(IndexOp, u32),

@@ -7,7 +7,7 @@ use crate::bytes::number::u32_at;
 use std::marker::Model;
 
 /// Where labels stand.
-#[derive(Clone, Copy, Debug)]
+#[derive(Clone, Copy)]
 pub(crate) enum Items<'a> {
     /// In a row.
     Listed(&'a [u32]),
@@ -17,7 +17,7 @@ pub(crate) enum Items<'a> {
 
 /// Label indices, in order, fewer than `2^32` (Core 1.0, 2.1.3 and 2.4.5). Going over them takes them one by one: a
 /// contract sees those that are left.
-#[derive(Debug, Drop)]
+#[derive(Drop)]
 pub struct Labels<'a> {
     items: Items<'a>,
 }

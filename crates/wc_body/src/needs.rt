@@ -10,7 +10,7 @@ use wc_ops::{IndexOp, MemOp, SimpleOp};
 /// What the instructions of a body need of the function and of the module around them, so that the rules on each of
 /// them hold (Core 1.0, 3.3). What is needed of an index space is a count: one more than the highest index, and
 /// `2^32 - 1` where that is more.
-#[derive(Clone, Copy, Debug, PartialEq, Eq)]
+#[derive(Clone, Copy, PartialEq, Eq)]
 pub struct Needs {
     /// How many types.
     pub types: u32,
@@ -38,7 +38,7 @@ pub struct Needs {
 
 /// Of what the instructions of a body need, that which a row keeps of each: what the function's locals must give, and
 /// which globals are set.
-#[derive(Clone, Copy, Debug, PartialEq, Eq)]
+#[derive(Clone, Copy, PartialEq, Eq)]
 pub struct OwnNeeds {
     /// How many locals, parameters counted.
     pub locals: u32,

@@ -5,8 +5,7 @@ ghost use Rattle.std.specs.Prelude.{IfErr, IfSome, IsErrOf, OnOk};
 ghost use Rattle.std.specs.Prelude.{[], Some, true, false};
 ghost use Rattle.std.specs.Io.KnownBytes.{Consumes, IsAtEnd};
 ghost use Rattle.wc_device.specs.Standard.Device.{device_inner, failed_at, has_failed, has_ended, was_asked_again};
-ghost use Rattle.wc_device.specs.Standard.Device.{read_count};
-ghost use Rattle.wc_binary.specs.Standard.Decoding.{buffer_size};
+ghost use Rattle.wc_device.specs.Standard.Device.{read_count, buffer_size};
 ghost use Rattle.wc_canon.specs.declared.fault.Refusal.{Refusal};
 ghost use Rattle.wc_canon.specs.declared.fault.Refusal.TheVariants as refusals;
 ghost use Rattle.wc_canon.specs.Standard.Input.{is_binary as begins_with_zero};
@@ -19,11 +18,8 @@ use std::alloc::Global;
 use std::io::Read;
 use wc_ast::Module;
 use wc_binary::decode_from;
-use wc_device::Device;
+use wc_device::{BUFFER_SIZE, Device};
 use wc_read_text::read;
-
-/// How many bytes the first read is offered.
-const PIECE: usize = 4096;
 
 /// How many bytes each further read of a text is offered.
 const TEXT_PIECE: usize = 32_768;
@@ -164,7 +160,7 @@ pub(crate) fn read_module<R: Read>(alloc: Global, r: &mut Device<R>) -> Result<F
     ensures unwritten { is_write_fault result ≡ false }
     ensures memory { ¬ (IsErrOf result (RunFault.Refused refusals.Memory)) }
 {
-    let mut buffer = [0u8; PIECE];
+    let mut buffer = [0u8; BUFFER_SIZE];
     let given = match r.read(&mut buffer) {
         Ok(n) => n,
         Err(_) => return Err(RunFault::Read { at: r.count() }),

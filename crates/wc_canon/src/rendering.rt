@@ -101,7 +101,7 @@ fn rule(why: CheckWhy) -> &'static str
 }
 
 /// A piece of a text.
-#[derive(Clone, Copy, Debug)]
+#[derive(Clone, Copy)]
 pub enum Piece<'a> {
     /// These words.
     Words(&'a str),

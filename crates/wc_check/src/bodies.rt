@@ -16,7 +16,7 @@ use crate::instructions::{block_rule, instr_rule};
 use wc_ast::{BodyRef, Entry, GlobalType, Needs, OwnNeeds};
 
 /// What an entry comes to.
-#[derive(Clone, Copy, Debug)]
+#[derive(Clone, Copy)]
 struct Judgement {
     /// The first rule that it breaks.
     why: Option<CheckWhy>,
@@ -134,7 +134,7 @@ fn are_marked_settable(globals: &[GlobalType], bits: u64) -> bool
 }
 
 /// What is known of the bodies of all functions together.
-#[derive(Clone, Copy, Debug)]
+#[derive(Clone, Copy)]
 pub(crate) struct Known {
     /// There is what they need, but for locals and for globals to set.
     has_common: bool,

@@ -8,7 +8,7 @@ use std::alloc::{self, AllocError};
 use wc_ast::{Desc, Global, GlobalType, Imports, Limits, List, Module};
 
 /// The sizes of a module's index spaces, and what its globals are (Core 1.0, 3.1.1).
-#[derive(Debug, Drop)]
+#[derive(Drop)]
 pub(crate) struct Context {
     /// How many function types there are.
     pub(crate) types: usize,
@@ -23,7 +23,7 @@ pub(crate) struct Context {
 }
 
 /// How much is imported into each index space.
-#[derive(Debug, Drop)]
+#[derive(Drop)]
 pub(crate) struct Imported {
     pub(crate) funcs: usize,
     pub(crate) tables: usize,

@@ -11,10 +11,7 @@ use crate::failure::Failure;
 use std::alloc::Global;
 use std::io::Read;
 use wc_canon::accept_from;
-use wc_device::Device;
-
-/// How many bytes a read is offered.
-const PIECE: usize = 4096;
+use wc_device::{BUFFER_SIZE, Device};
 
 /// Whether nothing was read of an input yet, not even its end, where it is there, and no call of it failed.
 pub(crate) fn is_new<R: Read>(input: &Option<Device<R>>) -> bool
@@ -67,7 +64,7 @@ pub(crate) fn read_all<'a, R: Read>(
     ensures cut { has_failed r.new ≡ true → IsBroken R.remaining (Some r.old) (Some r.new) }
     ensures again { was_asked_again r.new ≡ was_asked_again r.old }
 {
-    let mut buffer = [0u8; PIECE];
+    let mut buffer = [0u8; BUFFER_SIZE];
     loop {
         let given = match r.read(&mut buffer) {
             Ok(n) => n,

@@ -32,7 +32,7 @@ pub struct Gathered<'a> {
 }
 
 /// What has an identifier that one before it has, of each index space on its own.
-#[derive(Clone, Copy, Debug)]
+#[derive(Clone, Copy)]
 pub struct Repeats {
     pub types: Noted<NameWhy>,
     pub funcs: Noted<NameWhy>,
@@ -43,7 +43,7 @@ pub struct Repeats {
 
 /// What is wrong with declarations, of each part on its own: of two faults at one token that of the part that is told
 /// first is the first.
-#[derive(Clone, Copy, Debug)]
+#[derive(Clone, Copy)]
 pub struct Notes {
     pub repeats: Repeats,
     pub order: Order,

@@ -11,7 +11,7 @@ use wc_spaces::Noted;
 use wc_surface::{Field, FuncSeen, GlobalDesc, KeptFunc, MemoryDesc, TableDesc};
 
 /// What the order of fields asks of a field (Core 1.0, 6.6.13).
-#[derive(Clone, Copy, Debug, PartialEq, Eq)]
+#[derive(Clone, Copy, PartialEq, Eq)]
 pub enum Sort {
     /// An import, inline too, with the number of its word.
     Import(u32),
@@ -23,7 +23,7 @@ pub enum Sort {
 }
 
 /// What was seen of the order of fields, and what is wrong with it.
-#[derive(Clone, Copy, Debug)]
+#[derive(Clone, Copy)]
 pub struct Order {
     /// A definition was seen.
     pub defined: bool,

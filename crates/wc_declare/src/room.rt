@@ -7,7 +7,7 @@ use crate::spaces::declared;
 use wc_surface::Field;
 
 /// How many identifiers fields declare in each index space.
-#[derive(Clone, Copy, Debug, PartialEq, Eq)]
+#[derive(Clone, Copy, PartialEq, Eq)]
 pub(crate) struct Room {
     pub(crate) types: usize,
     pub(crate) funcs: usize,

@@ -6,6 +6,10 @@ ghost use Rattle.wc_device.specs.Standard.Device.{was_asked_again, has_ended, fl
 mod reading;
 mod writing;
 
+/// How many bytes a read is offered where the bytes before it may show that no more are needed: so at most so many are
+/// read in vain.
+pub const BUFFER_SIZE: usize = 4096;
+
 /// A reader or writer, the number of bytes that were read from it, and whether a call of it failed.
 ///
 /// Each call of a `Device` is one call of what is in it, as `Reader` and `Writer` say, or a row of such calls.

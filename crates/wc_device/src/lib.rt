@@ -5,4 +5,4 @@ mod calls;
 mod io_device;
 
 pub use calls::{Reader, Writer};
-pub use io_device::Device;
+pub use io_device::{BUFFER_SIZE, Device};

@@ -9,19 +9,18 @@ pub fn u32_front(bytes: &[u8]) -> Option<(u32, &[u8])>
         ↔ MatchOption result ⊥ (λ found. (found.0 ≡ n) × (found.1.now ≡ y)) }
 {
     let (first, rest) = bytes.split_first()?;
-    if *first < 128 {
-        return Some((u32::from(*first), rest));
-    }
     u32_behind(*first, rest)
 }
 
-/// The same of one of two bytes or more, the first of which was taken.
+/// The same of one whose first byte was taken.
 #[inline(always)]
 pub fn u32_behind(first: u8, bytes: &[u8]) -> Option<(u32, &[u8])>
-    requires { 128 ≤ first }
     ensures { (n : ℕ) (y : List ℕ) → IsAtFront (U 32) (first ∷ bytes.now) n y
         ↔ MatchOption result ⊥ (λ found. (found.0 ≡ n) × (found.1.now ≡ y)) }
 {
+    if first < 128 {
+        return Some((u32::from(first), bytes));
+    }
     let low = u32::from(first - 128);
     let (second, rest) = bytes.split_first()?;
     if *second < 128 {

@@ -14,7 +14,7 @@ use wc_symbols::StringValue;
 use wc_syntax::{Kind, Role};
 
 /// A text that is being said (Core 1.0, 6.6.13). `take_by` says what each kept token adds.
-#[derive(Debug, Drop)]
+#[derive(Drop)]
 pub struct TextDraft<'a> {
     pub(crate) fields: List<Field<'a>>,
     pub(crate) field: FieldDraft<'a>,

@@ -4,7 +4,7 @@ use wc_ops::{IndexOp, MemOp};
 use wc_surface::Id;
 
 /// What may still follow the last name, and what of it was said.
-#[derive(Debug, Drop)]
+#[derive(Drop)]
 pub enum Awaiting<'a> {
     /// Nothing.
     Nothing,

@@ -18,7 +18,7 @@ use wc_surface::{CodeBuilder, Id, Operand, TextBody, TextCode, TypeUse, User};
 use wc_syntax::Role;
 
 /// The instructions of a body that are being said (Core 1.0, 6.5). `take` says what each kept token adds.
-#[derive(Debug, Drop)]
+#[derive(Drop)]
 pub struct BodyDraft<'a> {
     // The instructions so far, folded ones behind their operands.
     pub(crate) code: CodeBuilder,

@@ -10,7 +10,7 @@ use wc_ast::List;
 use wc_surface::{Head, Id, Rare};
 
 /// The heads of a body so far. A contract sees them as a list.
-#[derive(Debug, Drop)]
+#[derive(Drop)]
 pub struct Heads<'a> {
     items: Vec<Head<'a>>,
 }

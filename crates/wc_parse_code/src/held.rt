@@ -3,7 +3,7 @@
 use wc_surface::TextInstr;
 
 /// An instruction that is written in front of its operands, and belongs behind them (Core 1.0, 6.5.7).
-#[derive(Clone, Copy, Debug)]
+#[derive(Clone, Copy)]
 pub enum Held {
     /// An instruction in which none is nested.
     Plain(TextInstr),

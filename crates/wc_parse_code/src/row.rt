@@ -7,7 +7,7 @@ use std::marker::Model;
 use wc_ast::List;
 
 /// A list that is being filled from its front. A contract sees the items so far.
-#[derive(Debug, Drop)]
+#[derive(Drop)]
 pub struct Row<T> {
     items: Vec<T>,
 }

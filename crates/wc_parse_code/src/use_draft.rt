@@ -14,7 +14,7 @@ use wc_syntax::Role;
 
 /// A type use that is being said (Core 1.0, 6.6.3), or the parameters and results of a type (6.4.3). `take_use` says
 /// what each kept token adds.
-#[derive(Debug, Drop)]
+#[derive(Drop)]
 pub struct UseDraft<'a> {
     user: User,
     token: u32,

@@ -10,7 +10,7 @@ use wc_surface::{Id, Index, Operand};
 use wc_symbols::{Symbol, Value};
 
 /// A kept token. A contract sees its number, its kind and its value, and its text as bytes.
-#[derive(Debug, Drop)]
+#[derive(Drop)]
 pub struct Word<'a> {
     /// Its number among all tokens of the text.
     pub token: u32,

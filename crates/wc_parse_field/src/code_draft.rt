@@ -11,7 +11,7 @@ use wc_surface::{TextBody, TextCode};
 use wc_syntax::Role;
 
 /// Whether an instruction has begun, and the instructions so far (Core 1.0, 6.5).
-#[derive(Debug, Drop)]
+#[derive(Drop)]
 pub struct CodeDraft<'a> {
     pub(crate) begun: bool,
     pub(crate) body: BodyDraft<'a>,

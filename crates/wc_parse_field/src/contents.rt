@@ -14,7 +14,7 @@ use wc_syntax::Role;
 
 /// What a segment is of and holds, also one inside a table or a memory; and what an export or a start is of (Core 1.0,
 /// 6.6.9 to 6.6.12).
-#[derive(Debug, Drop)]
+#[derive(Drop)]
 pub struct Contents<'a> {
     // Whether elements or bytes stand inside a table or a memory.
     pub(crate) inside: bool,

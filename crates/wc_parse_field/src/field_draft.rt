@@ -19,7 +19,7 @@ use wc_symbols::StringValue;
 use wc_syntax::{Kind, Role};
 
 /// A field that is being said (Core 1.0, 6.6.2 to 6.6.12). `take_word` and `take_string` say what each kept token adds.
-#[derive(Debug, Drop)]
+#[derive(Drop)]
 pub struct FieldDraft<'a> {
     // The kind and the number of its word.
     pub(crate) kind: Kind,

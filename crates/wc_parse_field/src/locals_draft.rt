@@ -11,7 +11,7 @@ use wc_symbols::Value;
 use wc_syntax::Role;
 
 /// The locals so far, and the identifier of the one that follows (Core 1.0, 6.6.5).
-#[derive(Debug, Drop)]
+#[derive(Drop)]
 pub struct LocalsDraft<'a> {
     pub(crate) id: Option<Id<'a>>,
     pub(crate) locals: TextLocals<'a>,

@@ -12,7 +12,7 @@ use wc_surface::{Id, ImportNames, TextName};
 use wc_syntax::{Kind, Role};
 
 /// The identifier of a field, and the names under which it is exported or imported (Core 1.0, 6.6.4 to 6.6.9).
-#[derive(Debug, Drop)]
+#[derive(Drop)]
 pub struct Names<'a> {
     pub(crate) id: Option<Id<'a>>,
     // The names of inline exports.

@@ -11,7 +11,7 @@ use wc_surface::{Field, ImportDesc};
 
 /// How many functions, tables, memories and globals are declared before a field (Core 1.0, 6.6.1): the next one has
 /// that number for its index.
-#[derive(Clone, Copy, Debug, PartialEq, Eq)]
+#[derive(Clone, Copy, PartialEq, Eq)]
 pub struct Counts {
     pub funcs: u32,
     pub tables: u32,

@@ -33,7 +33,7 @@ pub struct Lists {
 
 /// What is wrong with the names of each list on its own: of two faults at one token that of the list that is told first
 /// is the first.
-#[derive(Clone, Copy, Debug)]
+#[derive(Clone, Copy)]
 pub struct Notes {
     pub globals: Noted<NameWhy>,
     pub exports: Noted<NameWhy>,

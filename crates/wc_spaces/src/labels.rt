@@ -9,7 +9,7 @@ use crate::places::Places;
 use std::alloc::{AllocError, Global};
 
 /// A block that is open: its label, and the height of the one that the label hides.
-#[derive(Clone, Copy, Debug)]
+#[derive(Clone, Copy)]
 pub(crate) struct Open<'a> {
     pub label: Option<&'a [u8]>,
     pub hidden: Option<u32>,

@@ -13,7 +13,7 @@ pub struct Fault<W> {
 }
 
 /// Of the faults that were told so far the one of the least token, or none. Of two at one token it is the first told.
-#[derive(Clone, Copy, Debug)]
+#[derive(Clone, Copy)]
 pub struct Noted<W> {
     pub first: Option<Fault<W>>,
 }

@@ -9,7 +9,7 @@ use std::marker::Model;
 use wc_body::Kind;
 
 /// One entry of the instructions of a text.
-#[derive(Clone, Copy, Debug, PartialEq, Eq)]
+#[derive(Clone, Copy, PartialEq, Eq)]
 pub enum TextEntry {
     /// An instruction in which none is nested.
     Plain(TextInstr),
@@ -23,7 +23,7 @@ pub enum TextEntry {
 }
 
 /// The entries of instructions: one stands in place, others in memory for these alone.
-#[derive(Debug, Drop)]
+#[derive(Drop)]
 enum Entries {
     One(TextEntry),
     Many(Vec<TextEntry>),
@@ -32,7 +32,7 @@ enum Entries {
 /// Instructions of a text, folded ones behind their operands (Core 1.0, 6.5.7), at most `NESTING_LIMIT` nested in one
 /// another. A contract sees nested code, with the place of its head at each block. An instruction alone takes no
 /// memory.
-#[derive(Debug, Drop)]
+#[derive(Drop)]
 pub struct TextCode {
     row: Entries,
 }

@@ -10,14 +10,14 @@ use std::marker::Model;
 use wc_body::{BuildFault, Kind, NESTING_LIMIT};
 
 /// Which part an open block, loop or if is in: the first part of an if, or any other.
-#[derive(Clone, Copy, Debug, PartialEq, Eq)]
+#[derive(Clone, Copy, PartialEq, Eq)]
 enum Part {
     Other,
     Then,
 }
 
 /// Instructions of a text that are being built. A contract sees what is open, and what each open one has so far.
-#[derive(Debug, Drop)]
+#[derive(Drop)]
 pub struct CodeBuilder {
     row: Vec<TextEntry>,
     // Of each that is open, outermost first.

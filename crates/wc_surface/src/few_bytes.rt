@@ -8,7 +8,7 @@ use std::marker::Model;
 const FEW: usize = 14;
 
 /// At most 14 bytes, in place. A contract sees the bytes that were added.
-#[derive(Debug, Drop)]
+#[derive(Drop)]
 pub(crate) struct FewBytes {
     len: u8,
     bytes: [u8; FEW],

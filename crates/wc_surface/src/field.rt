@@ -13,7 +13,7 @@ use crate::type_use::{ParamName, TypeUse};
 use wc_ast::{ExportKind, GlobalType, Limits, List};
 
 /// A field (Core 1.0, 6.6.13).
-#[derive(Debug, Drop)]
+#[derive(Drop)]
 pub enum Field<'a> {
     FuncType(TypeField<'a>),
     Import(Apart<ImportField<'a>>),
@@ -28,7 +28,7 @@ pub enum Field<'a> {
 }
 
 /// A type (Core 1.0, 6.6.2).
-#[derive(Debug, Drop)]
+#[derive(Drop)]
 pub struct TypeField<'a> {
     pub id: Option<Id<'a>>,
     pub signature: Signature,
@@ -37,7 +37,7 @@ pub struct TypeField<'a> {
 }
 
 /// What an import asks for.
-#[derive(Debug, Drop)]
+#[derive(Drop)]
 pub struct ImportNames<'a> {
     /// The number of the word `import`.
     pub token: u32,
@@ -48,7 +48,7 @@ pub struct ImportNames<'a> {
 }
 
 /// An import (Core 1.0, 6.6.4).
-#[derive(Debug, Drop)]
+#[derive(Drop)]
 pub struct ImportField<'a> {
     pub names: ImportNames<'a>,
     pub id: Option<Id<'a>>,
@@ -56,7 +56,7 @@ pub struct ImportField<'a> {
 }
 
 /// What an import brings (Core 1.0, 6.6.4).
-#[derive(Debug, Drop)]
+#[derive(Drop)]
 pub enum ImportDesc<'a> {
     Func(TypeUse<'a>),
     Table(Limits),
@@ -65,7 +65,7 @@ pub enum ImportDesc<'a> {
 }
 
 /// A function (Core 1.0, 6.6.5).
-#[derive(Debug, Drop)]
+#[derive(Drop)]
 pub struct FuncField<'a> {
     pub id: Option<Id<'a>>,
     /// The names under which it is exported.
@@ -75,7 +75,7 @@ pub struct FuncField<'a> {
 }
 
 /// How a function is given.
-#[derive(Debug, Drop)]
+#[derive(Drop)]
 pub enum FuncDesc<'a> {
     Import(ImportNames<'a>),
     Code {
@@ -85,7 +85,7 @@ pub enum FuncDesc<'a> {
 }
 
 /// A table (Core 1.0, 6.6.6).
-#[derive(Debug, Drop)]
+#[derive(Drop)]
 pub struct TableField<'a> {
     pub id: Option<Id<'a>>,
     /// The names under which it is exported.
@@ -94,7 +94,7 @@ pub struct TableField<'a> {
 }
 
 /// How a table is given.
-#[derive(Debug, Drop)]
+#[derive(Drop)]
 pub enum TableDesc<'a> {
     Import(Apart<ImportNames<'a>>, Limits),
     Limits(Limits),
@@ -103,7 +103,7 @@ pub enum TableDesc<'a> {
 }
 
 /// A memory (Core 1.0, 6.6.7).
-#[derive(Debug, Drop)]
+#[derive(Drop)]
 pub struct MemoryField<'a> {
     pub id: Option<Id<'a>>,
     /// The names under which it is exported.
@@ -112,7 +112,7 @@ pub struct MemoryField<'a> {
 }
 
 /// How a memory is given.
-#[derive(Debug, Drop)]
+#[derive(Drop)]
 pub enum MemoryDesc<'a> {
     Import(Apart<ImportNames<'a>>, Limits),
     Limits(Limits),
@@ -121,7 +121,7 @@ pub enum MemoryDesc<'a> {
 }
 
 /// A global (Core 1.0, 6.6.8).
-#[derive(Debug, Drop)]
+#[derive(Drop)]
 pub struct GlobalField<'a> {
     pub id: Rare<Id<'a>>,
     /// The names under which it is exported.
@@ -131,7 +131,7 @@ pub struct GlobalField<'a> {
 }
 
 /// How a global is given.
-#[derive(Debug, Drop)]
+#[derive(Drop)]
 pub enum GlobalDesc<'a> {
     Import(Apart<ImportNames<'a>>),
     /// Its first value.
@@ -139,7 +139,7 @@ pub enum GlobalDesc<'a> {
 }
 
 /// An export (Core 1.0, 6.6.9).
-#[derive(Debug, Drop)]
+#[derive(Drop)]
 pub struct ExportField<'a> {
     pub name: TextName<'a>,
     pub kind: ExportKind,
@@ -147,7 +147,7 @@ pub struct ExportField<'a> {
 }
 
 /// The start function (Core 1.0, 6.6.10).
-#[derive(Debug, Drop)]
+#[derive(Drop)]
 pub struct StartField<'a> {
     /// The number of the word `start`.
     pub token: u32,

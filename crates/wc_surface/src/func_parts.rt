@@ -15,7 +15,7 @@ use wc_ast::List;
 
 /// The parts that few functions have: an identifier, inline exports, locals, a type behind `type` that is an
 /// identifier, identifiers of parameters, and the names of an import.
-#[derive(Debug, Drop)]
+#[derive(Drop)]
 pub struct FuncParts<'a> {
     pub(crate) id: Option<Id<'a>>,
     pub(crate) exports: List<TextName<'a>>,
@@ -26,7 +26,7 @@ pub struct FuncParts<'a> {
 }
 
 /// The last three of these, which the fewest functions have.
-#[derive(Debug, Drop)]
+#[derive(Drop)]
 pub struct FuncMore<'a> {
     pub(crate) index: Option<Index<'a>>,
     pub(crate) names: List<ParamName<'a>>,
@@ -34,7 +34,7 @@ pub struct FuncMore<'a> {
 }
 
 /// All of them, where a function has several, or one that isn't kept alone.
-#[derive(Debug, Drop)]
+#[derive(Drop)]
 pub struct FuncRest<'a> {
     pub(crate) id: Option<Id<'a>>,
     pub(crate) exports: List<TextName<'a>>,
@@ -44,7 +44,7 @@ pub struct FuncRest<'a> {
 
 /// These parts in memory for what there is of them: an identifier, a named type or an import alone takes no memory for
 /// the others.
-#[derive(Debug, Drop)]
+#[derive(Drop)]
 pub enum KeptParts<'a> {
     Nothing,
     Id(Apart<Id<'a>>),

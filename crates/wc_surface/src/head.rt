@@ -9,7 +9,7 @@ use wc_ast::List;
 use wc_ops::ValType;
 
 /// The type that is written at a block, a loop or an if (Core 2.0, 6.5.2).
-#[derive(Clone, Copy, Debug, PartialEq, Eq)]
+#[derive(Clone, Copy, PartialEq, Eq)]
 pub enum HeadType {
     /// No parameters, no more than one result, and no index.
     Short(Option<ValType>),
@@ -18,7 +18,7 @@ pub enum HeadType {
 }
 
 /// What is written at a block, a loop or an if, and where it turns and ends (Core 1.0, 6.5.2).
-#[derive(Debug, Drop)]
+#[derive(Drop)]
 pub struct Head<'a> {
     /// The number of the word `block`, `loop` or `if`. It rises along the heads of a body.
     pub token: u32,
@@ -34,7 +34,7 @@ pub struct Head<'a> {
 
 /// The instructions of a function, of a first value or of an offset (Core 1.0, 6.5.8), and the lists that they name by
 /// places.
-#[derive(Debug, Drop)]
+#[derive(Drop)]
 pub struct TextBody<'a> {
     /// The instructions.
     pub code: TextCode,

@@ -6,7 +6,7 @@ ghost use Rattle.wc_surface.specs.Standard.Identifiers.{identifier};
 use std::marker::Model;
 
 /// An identifier (Core 1.0, 6.3.5). A contract sees the number of its token and its bytes, the `$` among them.
-#[derive(Debug, Drop)]
+#[derive(Drop)]
 pub struct Id<'a> {
     number: u32,
     name: &'a str,
@@ -61,7 +61,7 @@ impl<'a> Id<'a> {
 }
 
 /// An index (Core 1.0, 6.6.1): a number, or the identifier of what it is of.
-#[derive(Debug, Drop)]
+#[derive(Drop)]
 pub enum Index<'a> {
     /// A number, at the token of this number.
     Number { token: u32, value: u32 },

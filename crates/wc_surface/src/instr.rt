@@ -3,7 +3,7 @@
 use wc_ops::{IndexOp, MemOp, SimpleOp};
 
 /// What an instruction names (Core 1.0, 6.6.1).
-#[derive(Clone, Copy, Debug, PartialEq, Eq)]
+#[derive(Clone, Copy, PartialEq, Eq)]
 pub enum Operand {
     /// An index.
     Number(u32),
@@ -13,7 +13,7 @@ pub enum Operand {
 
 /// An instruction other than `block`, `loop` and `if` (Core 1.0, 6.5). What is written behind it and has no fixed size
 /// stands in the lists of its body.
-#[derive(Clone, Copy, Debug, PartialEq, Eq)]
+#[derive(Clone, Copy, PartialEq, Eq)]
 pub enum TextInstr {
     Simple(SimpleOp),
     Index(IndexOp, Operand),

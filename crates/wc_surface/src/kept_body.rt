@@ -15,7 +15,7 @@ use std::marker::Model;
 use wc_ast::List;
 
 /// The lists that instructions name by places. Many bodies have none of them.
-#[derive(Debug, Drop)]
+#[derive(Drop)]
 pub struct BodyLists<'a> {
     pub(crate) heads: List<Head<'a>>,
     pub(crate) uses: List<TypeUse<'a>>,
@@ -24,7 +24,7 @@ pub struct BodyLists<'a> {
 }
 
 /// These lists in memory for what there is of them: heads or identifiers alone take no memory for the others.
-#[derive(Debug, Drop)]
+#[derive(Drop)]
 pub enum KeptLists<'a> {
     Nothing,
     Heads(Apart<List<Head<'a>>>),
@@ -34,7 +34,7 @@ pub enum KeptLists<'a> {
 
 /// The instructions of a function, of a first value or of an offset (Core 1.0, 6.5.8). A contract sees the body. What
 /// it doesn't have takes no memory.
-#[derive(Debug, Drop)]
+#[derive(Drop)]
 pub struct KeptBody<'a> {
     code: TextCode,
     lists: KeptLists<'a>,

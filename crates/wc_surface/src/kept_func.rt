@@ -21,7 +21,7 @@ use std::marker::Model;
 use wc_ast::List;
 
 /// What stands with the word of a function: its number, and the type behind `type` where that is a number.
-#[derive(Clone, Copy, Debug, PartialEq, Eq)]
+#[derive(Clone, Copy, PartialEq, Eq)]
 pub struct FuncWord {
     pub(crate) user: User,
     pub(crate) numbered: bool,
@@ -55,7 +55,7 @@ impl FuncWord {
 }
 
 /// A function (Core 1.0, 6.6.5). A contract sees its parts. What it doesn't have takes no memory.
-#[derive(Debug, Drop)]
+#[derive(Drop)]
 pub struct KeptFunc<'a> {
     word: FuncWord,
     signature: Signature,
@@ -79,7 +79,7 @@ impl<'a> Model for KeptFunc<'a> {
 }
 
 /// How a function is given, where it is seen.
-#[derive(Debug, Drop)]
+#[derive(Drop)]
 pub enum FuncSeen<'b, 'a> {
     Import(&'b ImportNames<'a>),
     Code {

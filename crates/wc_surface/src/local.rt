@@ -12,7 +12,7 @@ use std::marker::Model;
 use wc_ops::ValType;
 
 /// A declared local (Core 1.0, 6.6.5).
-#[derive(Debug, Drop)]
+#[derive(Drop)]
 pub struct Local<'a> {
     /// Its identifier.
     pub id: Option<Id<'a>>,
@@ -23,7 +23,7 @@ pub struct Local<'a> {
 }
 
 /// Locals of one type whose types stand one behind the other.
-#[derive(Debug, Drop)]
+#[derive(Drop)]
 pub struct LocalGroup<'a> {
     /// The identifier of each. Where there is one, there is one local.
     pub id: Option<Id<'a>>,
@@ -37,7 +37,7 @@ pub struct LocalGroup<'a> {
 
 /// The declared locals of a function. A contract sees each of them, in order. Those without an identifier are kept as
 /// groups.
-#[derive(Debug, Drop)]
+#[derive(Drop)]
 pub struct TextLocals<'a> {
     row: Vec<LocalGroup<'a>>,
 }
@@ -93,7 +93,7 @@ impl<'a> TextLocals<'a> {
 }
 
 /// The declared locals of a function, where they are kept. A contract sees each of them, in order.
-#[derive(Debug, Drop)]
+#[derive(Drop)]
 pub struct LocalsRef<'a> {
     row: &'a [LocalGroup<'a>],
 }

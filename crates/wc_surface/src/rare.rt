@@ -7,7 +7,7 @@ use std::marker::Model;
 use wc_ast::List;
 
 /// A value that stands in memory of its own. A contract sees the value.
-#[derive(Debug, Drop)]
+#[derive(Drop)]
 pub struct Apart<T> {
     place: Box<T>,
 }
@@ -41,7 +41,7 @@ impl<T> Apart<T> {
 
 /// A value that seldom is there: it stands in memory of its own, and where there is none, it takes no memory. A
 /// contract sees the value, if any.
-#[derive(Debug, Drop)]
+#[derive(Drop)]
 pub struct Rare<T> {
     place: Option<Box<T>>,
 }
@@ -99,7 +99,7 @@ impl<T: Drop> Rare<T> {
 
 /// A list that seldom has items: it stands in memory of its own, and where it has none, it takes no memory. A contract
 /// sees the items.
-#[derive(Debug, Drop)]
+#[derive(Drop)]
 pub struct RareList<T> {
     list: Rare<List<T>>,
 }

@@ -6,7 +6,7 @@ use crate::rare::Rare;
 use wc_ast::List;
 
 /// An element segment (Core 1.0, 6.6.11).
-#[derive(Debug, Drop)]
+#[derive(Drop)]
 pub struct ElemField<'a> {
     /// Its table, where one is named.
     pub table: Rare<Index<'a>>,
@@ -15,7 +15,7 @@ pub struct ElemField<'a> {
 }
 
 /// A data segment (Core 1.0, 6.6.12).
-#[derive(Debug, Drop)]
+#[derive(Drop)]
 pub struct DataField<'a> {
     /// Its memory, where one is named.
     pub memory: Rare<Index<'a>>,

@@ -11,7 +11,7 @@ use std::marker::Model;
 use wc_ops::ValType;
 
 /// The bytes of a key: in place, or in memory of their own.
-#[derive(Debug, Drop)]
+#[derive(Drop)]
 enum KeyBytes {
     Few(FewBytes),
     Many(Apart<Vec<u8>>),
@@ -19,7 +19,7 @@ enum KeyBytes {
 
 /// Parameters and results as they are written (Core 1.0, 6.4.3). A contract sees the function type. It is kept as its
 /// key, one row of bytes. One of up to 14 bytes takes no memory of its own.
-#[derive(Debug, Drop)]
+#[derive(Drop)]
 pub struct Signature {
     bytes: KeyBytes,
 }

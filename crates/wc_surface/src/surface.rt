@@ -8,7 +8,7 @@ use wc_ast::List;
 
 /// The fields of a text, in its order (Core 1.0, 6.6.13). There are fewer than `2^32` fields, type uses, parameters and
 /// declared locals in all, and fewer than `2^32` elements or bytes inside each table or memory.
-#[derive(Debug, Drop)]
+#[derive(Drop)]
 pub struct Surface<'a> {
     list: List<Field<'a>>,
 }

@@ -6,7 +6,7 @@ ghost use Rattle.std.specs.String.{string_bytes};
 use std::marker::Model;
 
 /// The text of a name: a piece of the whole text, or memory of its own.
-#[derive(Debug, Drop)]
+#[derive(Drop)]
 enum NameText<'a> {
     Piece(&'a str),
     Own(String),
@@ -14,7 +14,7 @@ enum NameText<'a> {
 
 /// A name (Core 1.0, 6.3.4). A contract sees the bytes of its UTF-8 encoding. One without escapes takes no memory of
 /// its own.
-#[derive(Debug, Drop)]
+#[derive(Drop)]
 pub struct TextName<'a> {
     text: NameText<'a>,
 }

@@ -5,14 +5,14 @@ use crate::signature::Signature;
 use wc_ast::List;
 
 /// The identifier of a parameter, and which parameter it is of.
-#[derive(Debug, Drop)]
+#[derive(Drop)]
 pub struct ParamName<'a> {
     pub place: u32,
     pub id: Id<'a>,
 }
 
 /// What a type use is of: it may have no token of its own.
-#[derive(Clone, Copy, Debug, PartialEq, Eq)]
+#[derive(Clone, Copy, PartialEq, Eq)]
 pub enum User {
     /// A function field, or an import of a function.
     Func,
@@ -23,7 +23,7 @@ pub enum User {
 }
 
 /// A type use (Core 1.0, 6.6.3).
-#[derive(Debug, Drop)]
+#[derive(Drop)]
 pub struct TypeUse<'a> {
     /// What it is of.
     pub user: User,

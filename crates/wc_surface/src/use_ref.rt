@@ -9,7 +9,7 @@ use crate::type_use::{ParamName, TypeUse, User};
 use std::marker::Model;
 
 /// A type use (Core 1.0, 6.6.3), where it is kept. A contract sees the type use.
-#[derive(Debug, Drop)]
+#[derive(Drop)]
 pub struct UseRef<'a> {
     pub(crate) user: User,
     pub(crate) token: u32,

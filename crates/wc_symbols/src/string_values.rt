@@ -12,7 +12,7 @@ use wc_tokens::{Token, string_bytes};
 
 /// What a string stands for: a piece of the text where nothing is escaped, else text of its own, or bytes that are no
 /// UTF-8.
-#[derive(Debug, Drop)]
+#[derive(Drop)]
 pub enum StringValue<'a> {
     Plain(&'a str),
     Own(String),

@@ -14,7 +14,7 @@ use crate::why::SynWhy;
 use std::alloc::Global;
 
 /// A kept token: what it is to the text's value, its number, and its kind.
-#[derive(Clone, Copy, Debug, PartialEq, Eq)]
+#[derive(Clone, Copy, PartialEq, Eq)]
 pub struct Kept {
     pub role: Role,
     pub at: usize,

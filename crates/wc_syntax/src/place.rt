@@ -3,7 +3,7 @@
 use crate::role::Role;
 
 /// What may still come in front of the rest of the innermost frame. An `Open..` stands behind an opening parenthesis.
-#[derive(Clone, Copy, Debug, PartialEq, Eq)]
+#[derive(Clone, Copy, PartialEq, Eq)]
 pub enum Place {
     /// Nothing: the frame's rest comes.
     Done,
@@ -76,7 +76,7 @@ pub enum Place {
 }
 
 /// What is open, and what of it is left.
-#[derive(Clone, Copy, Debug, PartialEq, Eq)]
+#[derive(Clone, Copy, PartialEq, Eq)]
 pub enum Frame {
     /// The text's begin, its fields, and those inside of `(module`, and what is behind that.
     Start,
@@ -124,7 +124,7 @@ pub enum Frame {
 }
 
 /// Where a token leads.
-#[derive(Clone, Copy, Debug, PartialEq, Eq)]
+#[derive(Clone, Copy, PartialEq, Eq)]
 pub enum Move {
     /// In the same frame.
     On(Place),
@@ -139,7 +139,7 @@ pub enum Move {
 }
 
 /// What a token does: whether it is kept, and where it leads.
-#[derive(Clone, Copy, Debug, PartialEq, Eq)]
+#[derive(Clone, Copy, PartialEq, Eq)]
 pub struct Action {
     pub keep: Option<Role>,
     pub go: Move,

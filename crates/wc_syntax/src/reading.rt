@@ -23,7 +23,7 @@ use std::marker::Model;
 
 /// A text that is being read from left to right. A contract sees where the reader stands; `IsRead` says behind which
 /// tokens that is, and which of them are kept.
-#[derive(Debug, Drop)]
+#[derive(Drop)]
 pub struct Reading {
     limit: usize,
     place: Place,

@@ -11,7 +11,7 @@ use crate::table::{names_instr, step};
 use crate::why::SynWhy;
 
 /// A reason, and the kind of token whose standing there gives it; `None` for the name of any instruction.
-#[derive(Clone, Copy, Debug)]
+#[derive(Clone, Copy)]
 struct Instead {
     why: SynWhy,
     other: Option<Kind>,

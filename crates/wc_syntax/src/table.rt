@@ -13,7 +13,7 @@ use frames::{frame_step, open_step};
 pub use places::place_step;
 
 /// What is asked after the place's own row.
-#[derive(Clone, Copy, Debug, PartialEq, Eq)]
+#[derive(Clone, Copy, PartialEq, Eq)]
 pub enum Rest {
     Nothing,
     InFrame,

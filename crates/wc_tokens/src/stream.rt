@@ -16,7 +16,7 @@ use std::marker::Model;
 const LONGEST: usize = 4_294_967_295;
 
 /// A text that is read token by token (Core 1.0, 6.2 and 6.3). A contract sees what is left of it. It takes no memory.
-#[derive(Debug, Drop)]
+#[derive(Drop)]
 pub struct Lexer<'a> {
     text: &'a str,
     rest: &'a [u8],

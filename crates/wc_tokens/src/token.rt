@@ -16,7 +16,7 @@ pub enum TokenKind {
 }
 
 /// A token of a text.
-#[derive(Clone, Copy, Debug)]
+#[derive(Clone, Copy)]
 pub struct Token<'a> {
     /// Its kind.
     pub kind: TokenKind,

@@ -7,7 +7,7 @@ use crate::token::Token;
 use std::marker::Model;
 
 /// The tokens of a text, in their order. Each has the form of its kind, and the length of its span.
-#[derive(Debug, Drop)]
+#[derive(Drop)]
 pub struct Tokens<'a> {
     items: Vec<Token<'a>>,
 }

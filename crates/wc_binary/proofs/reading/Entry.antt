@@ -8,7 +8,8 @@ use Rattle.wc_ast.specs.declared.module.Module.{Module}
 use Rattle.wc_binary.specs.declared.fault.BinFault.{BinFault}
 use Rattle.wc_binary.specs.declared.fault.BinFault.TheVariants.{Bad, Read, Memory}
 use Rattle.wc_binary.specs.Reading.Source.{Input, IsEnded}
-use Rattle.wc_binary.specs.Standard.Decoding.{Decodes, DecodesNear, DecodesCut, buffer_size}
+use Rattle.wc_device.specs.Standard.Device.{buffer_size}
+use Rattle.wc_binary.specs.Standard.Decoding.{Decodes, DecodesNear, DecodesCut}
 use Rattle.wc_binary.specs.Reading.Modules.{ModuleGives}
 
 -- ---- what a source gives of these bytes

@@ -27,11 +27,6 @@ use Rattle.wc_binary.proofs.spelling.Judging.{HasBytes}
 use Rattle.wc_binary.proofs.spelling.Phrases.{of, writes-as, u32-writes, byte-writes, only-writes, then-writes}
 use Rattle.wc_binary.proofs.spelling.Phrases.{seen-writes, made-writes, vector-writes}
 
--- a value type has one byte
-value_type-byte : (v : ValType) → value_type_bytes v ≡ value_type_byte v ∷ []
-value_type-byte I32 = refl
-value_type-byte I64 = refl
-
 -- what isn't refused was there
 found : {A E : Type 0} (o : Option A) (why : E) (v : A) → ok_or o why ≡ Ok v → o ≡ Some v
 found None why v h = absurd cc
@@ -41,7 +36,7 @@ found (Some u) why v h = let e : u ≡ v = cc in cc
 pub value_type-only : (x : ℕ) (v : ValType) → value_type_of x ≡ Ok v → x ∷ [] ≡ value_type_bytes v
 value_type-only x v h =
     let known = found (value_type_of_byte x) (no_type x) v h in
-    ap (λ (y : ℕ). y ∷ []) (sym ((type-byte x v).0 known)) ∙ sym (value_type-byte v)
+    ap (λ (y : ℕ). y ∷ []) (sym ((type-byte x v).0 known))
 
 pub value_type-writes : HasBytes (of value_type) Anything value_type_bytes
 unfolding value_type

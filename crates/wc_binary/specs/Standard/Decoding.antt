@@ -3,6 +3,7 @@ use Rattle.std.specs.Prelude.{◌≡◌, ◌⊎◌, ℕ, ◌+◌, ◌≤◌, Boo
 use Rattle.std.specs.Prelude.{take, Result, Ok, Err, MatchResult, ⊤}
 use Rattle.wc_binary.specs.declared.fault.BinWhy.{BinWhy}
 use Rattle.wc_binary.specs.declared.fault.BinWhy.TheVariants.{End, Counts}
+use Rattle.wc_device.specs.Standard.Device.{buffer_size}
 use Rattle.wc_ast.specs.declared.module.Module.{Module}
 use Rattle.wc_binary.specs.declared.fault.BinFault.{BinFault}
 use Rattle.wc_binary.specs.declared.fault.BinFault.TheVariants.{Bad, Read, Memory}
@@ -30,10 +31,6 @@ DecodesOnly x r = (m : Module) → Bin x m → MatchResult r (λ n. n ≡ m) (λ
 abbrev pub DecodesOnlyFault : List ℕ → Result Module BinFault → Type 0
 DecodesOnlyFault x r =
     (at : ℕ) (why : BinWhy) → FirstFault x at why → MatchResult r (λ n. ⊥) (λ e. IsHindered e ⊎ (e ≡ Bad at why))
-
--- how many bytes may be read beyond those that are taken
-abbrev pub buffer_size : ℕ
-buffer_size = 4096
 
 -- a fault was told after at most so many bytes more than those behind which it showed, and a module after all bytes
 abbrev pub DecodesNear : ℕ → List ℕ → Result Module BinFault → Type 0

@@ -12,9 +12,10 @@ use crate::decoder::from_source::FromSource;
 use crate::decoder::integer::u32;
 use crate::decoder::locals::locals_from;
 use crate::fault::{BinFault, BinWhy, bad};
-use crate::source::{BUFFER_SIZE, Source};
+use crate::source::Source;
 use std::alloc::{AllocError, Global};
 use wc_ast::{Body, BodyBuilder, Codes, FuncCode, Locals};
+use wc_device::BUFFER_SIZE;
 
 /// What stands behind the size of a code, in the memory of one that is wanted no longer.
 #[tactic(auto, unfolding(crate::specs::Standard::Contents::func))]

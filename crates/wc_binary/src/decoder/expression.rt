@@ -19,11 +19,12 @@ use crate::decoder::immediates::{
 };
 use crate::decoder::pace::Pace;
 use crate::fault::{BinFault, BinWhy, bad};
-use crate::source::{BUFFER_SIZE, Source};
+use crate::source::Source;
 use std::alloc::Global;
 use wc_ast::{
     Body, BodyBuilder, BuildFault, Constant, Entry, IndexOp, Kind, List, NESTING_LIMIT, Op, OpByte,
 };
+use wc_device::BUFFER_SIZE;
 
 /// What begins a block, a loop or an if, whose opcode stands at this place and was read.
 #[inline(always)]

@@ -13,9 +13,10 @@ use crate::decoder::front::{name_front, u32_front};
 use crate::decoder::integer::u32;
 use crate::decoder::types::{global_type, table_type};
 use crate::fault::{BinFault, BinWhy};
-use crate::source::{BUFFER_SIZE, Source};
+use crate::source::Source;
 use std::alloc::{AllocError, Global};
 use wc_ast::{Desc, ExportKind, Exports, Imports, Limits, Name};
+use wc_device::BUFFER_SIZE;
 
 impl ByteTable for ExportKind {
     ghost table = { kind_of };

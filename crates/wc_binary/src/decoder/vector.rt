@@ -11,6 +11,7 @@ use crate::fault::BinFault;
 use crate::source::Source;
 use std::alloc::Global;
 use wc_ast::List;
+use wc_device::BUFFER_SIZE;
 
 /// So many values. The list grows with the values that were read, and not by the count.
 pub fn times<V: FromSource + Drop, S: Source>(
@@ -35,7 +36,7 @@ pub fn bytes<S: Source>(alloc: Global, count: u32, source: &mut S) -> Result<Lis
     ensures counted { IfOk result (λ bytes. length bytes ≡ count) }
 {
     let count = count as usize;
-    let mut bytes = Vec::with_capacity(alloc, count.min(4096))?;
+    let mut bytes = Vec::with_capacity(alloc, count.min(BUFFER_SIZE))?;
     while bytes.len() < count {
         let byte = any_byte(source)?;
         bytes.push(byte)?;

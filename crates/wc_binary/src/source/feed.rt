@@ -1,18 +1,14 @@
 //! The bytes of a reader, by a buffer.
 
 ghost use Rattle.std.specs.Prelude.{◌≤◌, ◌-◌};
-ghost use Rattle.wc_device.specs.Standard.Device.{read_count};
-ghost use Rattle.wc_binary.specs.Standard.Decoding.{buffer_size};
+ghost use Rattle.wc_device.specs.Standard.Device.{read_count, buffer_size};
 
 use crate::byte_range::are_bytes;
 use crate::fault::BinFault;
 use crate::source::Source;
 use std::alloc::AllocError;
 use std::io::Read;
-use wc_device::Device;
-
-/// How many bytes a read gives at most. A fault is told after at most so many more were read.
-pub const BUFFER_SIZE: usize = 4096;
+use wc_device::{BUFFER_SIZE, Device};
 
 /// A reader and its bytes that were read and not yet taken, which lie in the buffer from `at` up to `end`. The buffer
 /// is filled by one read, and only once all its bytes were taken: so a fault in bytes that were read comes before the

@@ -2,6 +2,7 @@
 use Rattle.std.specs.Prelude.{ℕ, zero, suc, ◌+◌, ◌-◌, ◌*◌, ◌^◌, ◌==◌, nat_lt, ◌&&◌, ℤ, pos, negsuc, ◌+ℤ◌, ◌-ℤ◌}
 use Rattle.std.specs.Prelude.{◌*ℤ◌, List, [], ◌∷◌, Option, Some, None, option_map, if◌then◌else◌}
 use Rattle.std.specs.Borrow.{Bor}
+use Rattle.wc_ops.specs.Standard.ValueTypes.{value_type_byte}
 use Rattle.wc_ops.specs.declared.val_type.ValType.TheVariants.{I32, I64}
 use Rattle.wc_ops.specs.declared.op.Op.{Op}
 use Rattle.wc_ops.specs.declared.op.Op.TheVariants as ops
@@ -136,8 +137,8 @@ abbrev pub block_type_front : List ℕ → Option (BlockType × List ℕ)
 block_type_front [] = None
 block_type_front (b ∷ x) =
     if b == 0x40 then found block_types.Empty x
-    else (if b == 0x7F then found (block_types.Value I32) x
-    else (if b == 0x7E then found (block_types.Value I64) x
+    else (if b == value_type_byte I32 then found (block_types.Value I32) x
+    else (if b == value_type_byte I64 then found (block_types.Value I64) x
     else type_index_front (b ∷ x)))
 
 -- a block type behind what begins a block, a loop or an if

@@ -3,16 +3,15 @@ use Rattle.std.specs.Prelude.{ℕ, ◌<◌, ◌^◌, List, [], ◌∷◌, ◌++�
 use Rattle.std.specs.List.{AllByRecursion, flat_map}
 use Rattle.wc_leb128.specs.Writing.Bytes.{unsigned_bytes}
 use Rattle.wc_ops.specs.declared.val_type.ValType.{ValType}
-use Rattle.wc_ops.specs.declared.val_type.ValType.TheVariants.{I32, I64}
+use Rattle.wc_ops.specs.Standard.ValueTypes.{value_type_byte}
 
 -- a count, and the items
 abbrev pub vector_bytes : {A : Type 0} → (A → List ℕ) → List A → List ℕ
 vector_bytes w vs = unsigned_bytes (length vs) ++ flat_map w vs
 
--- the byte of a value type
+-- a value type: its byte
 abbrev pub value_type_bytes : ValType → List ℕ
-value_type_bytes I32 = 0x7F ∷ []
-value_type_bytes I64 = 0x7E ∷ []
+value_type_bytes t = value_type_byte t ∷ []
 
 -- ---- each number and each count is below 2 ^ 32
 

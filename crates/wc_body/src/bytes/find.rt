@@ -109,9 +109,10 @@ fn block_type_at(bytes: &[u8]) -> Option<(BlockType, &[u8])>
     let (first, rest) = bytes.split_first()?;
     match *first {
         0x40 => Some((BlockType::Empty, rest)),
-        0x7f => Some((BlockType::Value(ValType::I32), rest)),
-        0x7e => Some((BlockType::Value(ValType::I64), rest)),
-        _ => type_index_at(bytes),
+        byte => match ValType::of_byte(byte) {
+            Some(ty) => Some((BlockType::Value(ty), rest)),
+            None => type_index_at(bytes),
+        },
     }
 }
 

@@ -14,7 +14,7 @@ use crate::instr::{BlockType, Instr, MemArg};
 use crate::labels::Labels;
 use std::alloc::AllocError;
 use wc_leb128::{shortest_s, shortest_u};
-use wc_ops::{IndexOp, MemOp, SimpleOp, ValType};
+use wc_ops::{IndexOp, MemOp, SimpleOp};
 
 /// Puts two bytes.
 #[inline(always)]
@@ -227,8 +227,7 @@ pub(crate) fn put_begin(
     let byte = opening_byte(kind);
     match block_type {
         BlockType::Empty => put_two(bytes, byte, 0x40),
-        BlockType::Value(ValType::I32) => put_two(bytes, byte, 0x7f),
-        BlockType::Value(ValType::I64) => put_two(bytes, byte, 0x7e),
+        BlockType::Value(ty) => put_two(bytes, byte, ty.byte()),
         BlockType::Index(index) => put_signed(bytes, byte, i64::from(index)),
     }
 }

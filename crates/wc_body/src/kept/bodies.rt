@@ -13,7 +13,7 @@ use std::marker::Model;
 
 /// Bodies, in order. A contract sees each. Their canonical bytes stand in one row, so that a great many small bodies
 /// take little memory and time.
-#[derive(Debug, Drop)]
+#[derive(Drop)]
 pub struct Bodies {
     bytes: Vec<u8>,
     // Of each body, in short where that has room.

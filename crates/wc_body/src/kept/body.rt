@@ -19,7 +19,7 @@ const SPARE_LIMIT: usize = 16;
 
 /// An expression (Core 1.0, 2.4.6). A contract sees the instructions nested in one another, at most `NESTING_LIMIT`
 /// deep. They are kept as one row of entries, each by its canonical bytes, so no call on a body calls itself.
-#[derive(Debug, Drop)]
+#[derive(Drop)]
 pub struct Body {
     bytes: Vec<u8>,
     needs: Needs,

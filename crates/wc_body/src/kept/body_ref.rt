@@ -10,7 +10,7 @@ use crate::walks::entries::Entries;
 use std::marker::Model;
 
 /// An expression (Core 1.0, 2.4.6) that stands elsewhere. A contract sees the instructions nested in one another.
-#[derive(Debug, Drop)]
+#[derive(Drop)]
 pub struct BodyRef<'a> {
     bytes: &'a [u8],
     own: OwnNeeds,
@@ -78,7 +78,7 @@ impl<'a> BodyRef<'a> {
 }
 
 /// The bodies of a row that are left, in order. Taking one takes no memory.
-#[derive(Debug, Drop)]
+#[derive(Drop)]
 pub struct BodyRefs<'a> {
     places: &'a [ShortPlace],
     // Of those that the short places don't tell.

@@ -10,7 +10,7 @@ use std::marker::Model;
 
 /// An expression that gives a first value or an offset (Core 1.0, 2.4.6 and 3.3.7). A contract sees the instructions,
 /// as those of a body. What they need of what is around them isn't kept: that is told by looking at them.
-#[derive(Debug, Drop)]
+#[derive(Drop)]
 pub struct Constant {
     bytes: Vec<u8>,
 }

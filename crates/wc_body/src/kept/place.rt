@@ -6,7 +6,7 @@ ghost use Rattle.wc_body.specs.Drafting.Places.{told};
 use crate::needs::OwnNeeds;
 
 /// What a row knows of one of its bodies.
-#[derive(Clone, Copy, Debug)]
+#[derive(Clone, Copy)]
 pub struct Place {
     /// How many bytes it has.
     pub(crate) size: usize,
@@ -14,7 +14,7 @@ pub struct Place {
 }
 
 /// The same in four bytes, where the body is small and sets no global; or a mark that it stands elsewhere.
-#[derive(Clone, Copy, Debug)]
+#[derive(Clone, Copy)]
 pub struct ShortPlace {
     /// How many bytes it has, or `u16::MAX`, which is the mark.
     size: u16,

@@ -12,7 +12,7 @@ use crate::builder::{Part, first_part_of};
 use crate::entry::Kind;
 use crate::kept::body::NESTING_LIMIT;
 use crate::needs::Needs;
-use wc_ops::{IndexOp, MemOp, Op, OpByte, SimpleOp};
+use wc_ops::{IndexOp, MemOp, Op, OpByte, SimpleOp, ValType};
 
 /// The unsigned integer that the bytes begin with, where it has one byte or two, and no more than it needs; and what
 /// follows it.
@@ -125,9 +125,7 @@ fn is_whole_type(byte: u8) -> bool
 {
     match byte {
         0x40 => true,
-        0x7f => true,
-        0x7e => true,
-        _ => false,
+        byte => ValType::of_byte(byte).is_some(),
     }
 }
 

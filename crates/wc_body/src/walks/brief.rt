@@ -7,7 +7,7 @@ ghost use Rattle.wc_body.specs.Reading.Briefly.{BeginsWith, shape_at};
 
 /// An entry by its opcode and the integer behind it: an index, the byte of a constant, or an offset. It is zero where
 /// there is none.
-#[derive(Clone, Copy, Debug, PartialEq, Eq)]
+#[derive(Clone, Copy, PartialEq, Eq)]
 pub struct Brief {
     pub opcode: u8,
     pub operand: u8,

@@ -12,7 +12,7 @@ use crate::walks::short_front::short_at;
 use std::marker::Model;
 
 /// The entries of a body that are left, in order. A contract sees their marks. Taking one takes no memory.
-#[derive(Debug, Drop)]
+#[derive(Drop)]
 pub struct Entries<'a> {
     bytes: &'a [u8],
 }

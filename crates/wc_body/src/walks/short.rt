@@ -3,7 +3,7 @@
 use wc_ops::{IndexOp, SimpleOp};
 
 /// An instruction that its opcode and at most one byte more say (Core 1.0, 5.4).
-#[derive(Clone, Copy, Debug, PartialEq, Eq)]
+#[derive(Clone, Copy, PartialEq, Eq)]
 pub enum Short {
     Simple(SimpleOp),
     Index(IndexOp, u8),

@@ -3,7 +3,7 @@ use Rattle.std.specs.Prelude.{◌≡◌, ℕ, ◌+◌, ◌≤◌, List, length, 
 use Rattle.std.specs.Prelude.{IfSome, Result, Ok, Err, ⊤}
 use Rattle.std.specs.Io.KnownBytes.{Keeps, Appends}
 use Rattle.wc_device.specs.declared.io_device.Device.{Device}
-use Rattle.wc_device.specs.Standard.Device.{device_inner, FlushedOnce, FlushedBehindAll}
+use Rattle.wc_device.specs.Standard.Device.{device_inner, FlushedOnce, FlushedBehindAll, buffer_size}
 use Rattle.wc_tokens.specs.Standard.Lexemes.{longest}
 use Rattle.wc_binary.specs.Standard.Phrase.{halt}
 use Rattle.wc_binary.specs.Standard.Module.{StopB}
@@ -100,10 +100,11 @@ IsQuiet old new (Err (Read at)) = Keeps old new
 IsQuiet old new (Err (Write n)) = ⊤
 IsQuiet old new (Err Memory) = Keeps old new
 
--- at most 4,096 bytes were read past those behind which the fault of the binary x showed, which for a module that is
+-- at most so many bytes were read past those behind which the fault of the binary x showed, which for a module that is
 -- refused are all bytes; of a text all bytes were read
 abbrev pub RefusesNear : ℕ → RunFault → List ℕ → Type 0
-RefusesNear count (Refused (Binary at why)) x = (taken : ℕ) × StopB x (halt at why taken) × (count ≤ taken + 4096)
+RefusesNear count (Refused (Binary at why)) x =
+    (taken : ℕ) × StopB x (halt at why taken) × (count ≤ taken + buffer_size)
 RefusesNear count (Refused (Lex at why)) x = count ≡ length x
 RefusesNear count (Refused (Syntax token at why)) x = count ≡ length x
 RefusesNear count (Refused (Names token at why)) x = count ≡ length x

@@ -2,6 +2,11 @@
 use Rattle.std.specs.Prelude.{◌≡◌, ◌⊎◌, ℕ, ◌+◌, ◌-◌, ◌^◌, ◌%◌, ◌<◌, min, Bool, true, false}
 use Rattle.std.specs.Prelude.{Option, Some, None, is_some}
 use Rattle.wc_device.specs.declared.io_device.Device.{Device}
+use Rattle.wc_device.specs.declared.io_device.TheConstants.{BUFFER_SIZE}
+
+-- how many bytes may be read beyond those that are needed
+abbrev pub buffer_size : ℕ
+buffer_size = BUFFER_SIZE
 
 -- the reader or writer in it
 abbrev pub device_inner : {T : Type 0} → Device T → T
