@@ -21,6 +21,3 @@ pub use shortest::{shortest_s, shortest_u};
 pub use signed::Signed;
 pub use step::Step;
 pub use unsigned::Unsigned;
-
-#[cfg(test)]
-mod tests;

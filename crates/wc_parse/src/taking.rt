@@ -209,37 +209,9 @@ fn take_close<'a>(
     take_end_of_part(alloc, reading, draft, at, token, symbol)
 }
 
-/// A string, by the whole table of the grammar: whether it is a name is seen from what it stands for.
+/// A string: whether it is a name is seen from what it stands for.
+// Strings are few, so they stay out of the loop over tokens.
 #[inline(never)]
-fn take_string_by_table<'a>(
-    alloc: Global,
-    reading: &mut Reading,
-    draft: &mut TextDraft<'a>,
-    at: usize,
-    token: Token<'a>,
-) -> Result<(), SynFault>
-    requires few { at < 2 ^ 32 }
-    requires form { HasForm token.kind token.text.now }
-    requires kind { token.kind ≡ tokens.Str }
-    ensures said { OnOk result (SaysMore (lexeme_of token.entry) at reading.old draft.old reading.new draft.new) }
-    ensures fault { IfErr result (Refuses (lexeme_of token.entry) at reading.old draft.old) }
-{
-    let value = string_value(alloc, &token)?;
-    let string = symbol_of_string(&value);
-    let Some(role) = reading.take(at, string.kind)? else {
-        return Ok(());
-    };
-    let word = Word {
-        token: at as u32,
-        symbol: string,
-        text: token.text,
-    };
-    draft.take(alloc, role, &word, value)?;
-    Ok(())
-}
-
-/// A string.
-#[inline(always)]
 fn take_string<'a>(
     alloc: Global,
     reading: &mut Reading,
@@ -253,7 +225,18 @@ fn take_string<'a>(
     ensures said { OnOk result (SaysMore (lexeme_of token.now) at reading.old draft.old reading.new draft.new) }
     ensures fault { IfErr result (Refuses (lexeme_of token.now) at reading.old draft.old) }
 {
-    take_string_by_table(alloc, reading, draft, at, *token)
+    let value = string_value(alloc, token)?;
+    let string = symbol_of_string(&value);
+    let Some(role) = role_of(reading, at, string.kind)? else {
+        return Ok(());
+    };
+    let word = Word {
+        token: at as u32,
+        symbol: string,
+        text: token.text,
+    };
+    draft.take(alloc, role, &word, value)?;
+    Ok(())
 }
 
 /// An identifier.

@@ -141,7 +141,7 @@ impl<'a> FieldDraft<'a> {
     {
         match self.kind {
             Kind::TypeWord => Ok(Field::FuncType(self.take_type()?)),
-            Kind::ImportWord => Ok(Field::Import(Apart::new(alloc, self.take_import(alloc)?)?)),
+            Kind::ImportWord => Ok(Field::Import(self.take_apart_import(alloc)?)),
             Kind::FuncWord => Ok(Field::Func(self.take_kept_func(alloc)?)),
             Kind::TableWord => Ok(Field::Table(self.take_table(alloc)?)),
             Kind::MemoryWord => Ok(Field::Memory(self.take_memory(alloc)?)),
@@ -166,6 +166,14 @@ impl<'a> FieldDraft<'a> {
             signature,
             names,
         })
+    }
+
+    // An import is large, so the places that it passes through stay out of the way of other fields.
+    #[inline(never)]
+    fn take_apart_import(&mut self, alloc: Global) -> Result<Apart<ImportField<'a>>, AllocError>
+        ensures { IfOk result (λ f. f ≡ import_field self.old) }
+    {
+        Apart::new(alloc, self.take_import(alloc)?)
     }
 
     fn take_import(&mut self, alloc: Global) -> Result<ImportField<'a>, AllocError>

@@ -20,6 +20,7 @@ impl<T> Model for Apart<T> {
 
 impl<T: Drop> Apart<T> {
     /// This value. The error is want of memory.
+    #[inline(always)]
     pub fn new(alloc: Global, value: T) -> Result<Apart<T>, AllocError>
         ensures { IfOk result (λ apart. apart ≡ value) }
     {

@@ -1,9 +1,7 @@
-//! The tests of what no clause and no row of `wc_rows` says, over public items: readers and writers that fail, memory
-//! that is given back, sizes, and the lines of the program.
+//! The tests of what no clause and no row of `wc_rows` says, over public items: readers and writers that fail, and the
+//! lines of the program. Those of single layers are in `wc_layer_tests`.
 #![tactic(auto)]
 
-#[cfg(test)]
-mod ast;
 #[cfg(test)]
 mod binary;
 #[cfg(test)]
@@ -12,11 +10,3 @@ mod canon;
 mod cli;
 #[cfg(test)]
 mod devices;
-#[cfg(test)]
-mod many;
-#[cfg(test)]
-mod reading;
-#[cfg(test)]
-mod spaces;
-#[cfg(test)]
-mod surface;

@@ -7,7 +7,7 @@ ghost use Rattle.wc_tokens.specs.Reading.Elements.{first_element};
 
 use crate::bytes::behind;
 use crate::digits::{digit_of, digits};
-use crate::simple::{after_simple, plain_chunks};
+use crate::simple::{after_simple, plain_run};
 
 /// What an element of a string stands for.
 #[derive(Clone, Copy)]
@@ -111,7 +111,7 @@ pub fn after_elements(text: &[u8]) -> &[u8]
     ensures { EndsElements text.now result.now }
 {
     // Most strings are of plain bytes alone.
-    let mut rest = after_simple(&text[plain_chunks(text)..]);
+    let mut rest = &text[plain_run(text)..];
     while let Some(element) = read_element(rest) {
         rest = after_simple(element.rest);
     }

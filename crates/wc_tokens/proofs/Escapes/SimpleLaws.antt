@@ -140,19 +140,20 @@ Element-plain c value told lt =
     rw p.1 (plain c p.0)
 
 -- the first bytes are plain, and so are these many more
-pub plain-more : (text : List ℕ) (at : ℕ) → at + 16 ≤ length text → ((k : ℕ) → k < at → IsPlain (get_or text k 0))
-    → ((k : ℕ) → k < length (between at (at + 16) text) → IsPlain (get_or (between at (at + 16) text) k 0))
-    → (at + 16 ≤ length text) × ((k : ℕ) → k < at + 16 → IsPlain (get_or text k 0))
-plain-more text at fits before here = (
+pub plain-more : (text : List ℕ) (at size : ℕ) → at + size ≤ length text
+    → ((k : ℕ) → k < at → IsPlain (get_or text k 0))
+    → ((k : ℕ) → k < length (between at (at + size) text) → IsPlain (get_or (between at (at + size) text) k 0))
+    → (at + size ≤ length text) × ((k : ℕ) → k < at + size → IsPlain (get_or text k 0))
+plain-more text at size fits before here = (
   fits,
   λ k lt. elim (cases_lt k at) [
     | inl below ↦ before k below
     | inr above ↦
         let e : at + (k - at) ≡ k = omega (arith, above) in
-        let within : k - at < length (between at (at + 16) text) =
-        omega (arith, length-between text at (at + 16) fits, above, lt) in
-        let same : get_or (between at (at + 16) text) (k - at) 0 ≡ get_or text k 0 =
-        rw e at (get_or-between text at (at + 16) (k - at) 0 (omega (arith, above, lt))) in
+        let within : k - at < length (between at (at + size) text) =
+        omega (arith, length-between text at (at + size) fits, above, lt) in
+        let same : get_or (between at (at + size) text) (k - at) 0 ≡ get_or text k 0 =
+        rw e at (get_or-between text at (at + size) (k - at) 0 (omega (arith, above, lt))) in
         rw same at (here (k - at) within)
   ],
 )

@@ -1,7 +1,11 @@
+//! Integers of the binary format, byte by byte and at once.
+
 ghost use Rattle.std.specs.Prelude.{◌<◌, ◌≤◌};
 
-use crate::{Signed, Step, Unsigned, shortest_s, shortest_u, signed_at, u32_front, unsigned_at};
 use std::process::Abort;
+use wc_leb128::{
+    Signed, Step, Unsigned, shortest_s, shortest_u, signed_at, u32_front, unsigned_at,
+};
 
 /// Bytes, and the answer to the last of them.
 type Table<T> = &'static [(&'static [u8], Step<T>)];
