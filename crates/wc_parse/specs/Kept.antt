@@ -3,3 +3,4 @@ pub mod Texts
 pub mod Folds
 pub mod SaidSoFar
 pub mod Refusing
+pub mod Passing

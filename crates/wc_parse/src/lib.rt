@@ -2,6 +2,7 @@
 #![tactic(auto)]
 
 mod ending;
+mod externals;
 mod fault;
 mod fields;
 mod laws;
@@ -9,6 +10,7 @@ mod refusal;
 mod stream;
 mod taking;
 mod text_draft;
+mod wholes;
 mod words;
 
 pub use fault::SynFault;

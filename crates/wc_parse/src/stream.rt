@@ -13,6 +13,7 @@ use crate::fault::SynFault;
 use crate::refusal::TextRefusal;
 use crate::taking::take_token;
 use crate::text_draft::TextDraft;
+use crate::wholes::take_wholes;
 use std::alloc::Global;
 use wc_body::NESTING_LIMIT;
 use wc_surface::Surface;
@@ -55,7 +56,18 @@ fn fields_or_refusal<'a>(alloc: Global, text: &'a [u8]) -> Result<Surface<'a>, T
     let mut at: usize = 0;
     while let Some(token) = lexer.next()? {
         match take_token(alloc, &mut reading, &mut draft, at, &token) {
-            Ok(()) => at += 1,
+            Ok(false) => at += 1,
+            Ok(true) => {
+                // What is left is copied for that, so that the loop needs no place for it in memory.
+                let mut ahead = lexer.ahead();
+                match take_wholes(alloc, &mut ahead, &reading, &mut draft, at + 1) {
+                    Ok(behind) => {
+                        lexer = ahead;
+                        at = behind;
+                    }
+                    Err(_) => return Err(TextRefusal::Memory),
+                }
+            }
             Err(fault) => return Err(refused(lexer, fault)),
         }
     }

@@ -5,7 +5,7 @@
 //! whole table of the grammar.
 
 ghost use Rattle.std.specs.Prelude.{◌≡◌, ◌≢◌, ◌<◌, ◌^◌, ◌++◌, ◌∷◌, [], ℕ, List, length};
-ghost use Rattle.std.specs.Prelude.{IfOk, IfErr, OnOk, OnErr};
+ghost use Rattle.std.specs.Prelude.{IfOk, IfErr, OnOk, OnErr, true};
 ghost use Rattle.wc_tokens.specs.Standard.Lexemes.{HasForm};
 ghost use Rattle.wc_tokens.specs.Standard.Tokens.{lexeme_of};
 ghost use Rattle.wc_tokens.specs.declared.token.TokenKind.TheVariants as tokens;
@@ -13,9 +13,11 @@ ghost use Rattle.wc_syntax.specs.Standard.Deriving.{Event};
 ghost use Rattle.wc_syntax.specs.Standard.Parsing.{IsRefusal};
 ghost use Rattle.wc_syntax.specs.Standard.Reading.{IsRead, kept_as};
 ghost use Rattle.wc_syntax.specs.declared.kind.Kind.{Kind as GrammarKind};
+ghost use Rattle.wc_syntax.specs.declared.kind.Kind.TheVariants.{OtherWord};
 ghost use Rattle.wc_symbols.specs.Standard.Symbols.{bare};
 ghost use Rattle.wc_symbols.specs.Standard.Tokens.{TokenIs};
 ghost use Rattle.wc_parse_code.specs.Standard.Tokens.{kept_token};
+ghost use Rattle.wc_parse_field.specs.Drafting.Fields.{started};
 ghost use Rattle.wc_parse.specs.Kept.Texts.{with_word, take_by};
 ghost use Rattle.wc_parse.specs.Kept.SaidSoFar.{SaysMore, Refuses};
 
@@ -159,7 +161,7 @@ fn take_open<'a>(
     take_any(alloc, reading, draft, at, token, symbol)
 }
 
-/// A closing parenthesis that ends a part of a field, or a field.
+/// A closing parenthesis that ends a part of a field, or a field; and whether it is known to end a field.
 #[inline(always)]
 fn take_end_of_part<'a>(
     alloc: Global,
@@ -168,25 +170,27 @@ fn take_end_of_part<'a>(
     at: usize,
     token: &Token<'a>,
     symbol: Symbol,
-) -> Result<(), SynFault>
+) -> Result<bool, SynFault>
     requires few { at < 2 ^ 32 }
     requires form { HasForm token.now.kind token.now.text.now }
     requires kind { token.now.kind ≡ tokens.Close }
     requires symbol { TokenIs token.now.kind token.now.text.now symbol }
     ensures said { OnOk result (SaysMore (lexeme_of token.now) at reading.old draft.old reading.new draft.new) }
+    ensures ended { IfOk result (λ ended. ended ≡ true → draft.new.field ≡ started OtherWord 0) }
     ensures fault { IfErr result (Refuses (lexeme_of token.now) at reading.old draft.old) }
 {
     if reading.take_part_end() {
-        return Ok(());
+        return Ok(false);
     }
     if reading.take_field_end() {
         take_kept(alloc, draft, Role::FieldEnd, at, symbol, token.text)?;
-        return Ok(());
+        return Ok(true);
     }
-    take_any(alloc, reading, draft, at, token, symbol)
+    take_any(alloc, reading, draft, at, token, symbol)?;
+    Ok(false)
 }
 
-/// A closing parenthesis.
+/// A closing parenthesis, and whether it is known to end a field.
 #[inline(always)]
 fn take_close<'a>(
     alloc: Global,
@@ -194,17 +198,18 @@ fn take_close<'a>(
     draft: &mut TextDraft<'a>,
     at: usize,
     token: &Token<'a>,
-) -> Result<(), SynFault>
+) -> Result<bool, SynFault>
     requires few { at < 2 ^ 32 }
     requires form { HasForm token.now.kind token.now.text.now }
     requires kind { token.now.kind ≡ tokens.Close }
     ensures said { OnOk result (SaysMore (lexeme_of token.now) at reading.old draft.old reading.new draft.new) }
+    ensures ended { IfOk result (λ ended. ended ≡ true → draft.new.field ≡ started OtherWord 0) }
     ensures fault { IfErr result (Refuses (lexeme_of token.now) at reading.old draft.old) }
 {
     let symbol = bare(Kind::Close);
     if reading.take_held_end() {
         keep(draft, Role::HeldEnd, at, symbol, token.text)?;
-        return Ok(());
+        return Ok(false);
     }
     take_end_of_part(alloc, reading, draft, at, token, symbol)
 }
@@ -262,7 +267,7 @@ fn take_id<'a>(
     take_any(alloc, reading, draft, at, token, symbol)
 }
 
-/// A token.
+/// A token, and whether it is known to end a field. Then the draft is that of no field.
 #[inline(always)]
 pub(crate) fn take_token<'a>(
     alloc: Global,
@@ -270,17 +275,19 @@ pub(crate) fn take_token<'a>(
     draft: &mut TextDraft<'a>,
     at: usize,
     token: &Token<'a>,
-) -> Result<(), SynFault>
+) -> Result<bool, SynFault>
     requires few { at < 2 ^ 32 }
     requires form { HasForm token.now.kind token.now.text.now }
     ensures said { OnOk result (SaysMore (lexeme_of token.now) at reading.old draft.old reading.new draft.new) }
+    ensures ended { IfOk result (λ ended. ended ≡ true → draft.new.field ≡ started OtherWord 0) }
     ensures fault { IfErr result (Refuses (lexeme_of token.now) at reading.old draft.old) }
 {
     match token.kind {
-        TokenKind::Open => take_open(alloc, reading, draft, at, token),
-        TokenKind::Close => take_close(alloc, reading, draft, at, token),
-        TokenKind::Id => take_id(alloc, reading, draft, at, token),
-        TokenKind::Word => take_word(alloc, reading, draft, at, token),
-        TokenKind::Str => take_string(alloc, reading, draft, at, token),
+        TokenKind::Open => take_open(alloc, reading, draft, at, token)?,
+        TokenKind::Close => return take_close(alloc, reading, draft, at, token),
+        TokenKind::Id => take_id(alloc, reading, draft, at, token)?,
+        TokenKind::Word => take_word(alloc, reading, draft, at, token)?,
+        TokenKind::Str => take_string(alloc, reading, draft, at, token)?,
     }
+    Ok(false)
 }

@@ -66,6 +66,20 @@ impl<'a> TextDraft<'a> {
 
 impl<'a> TextDraft<'a> {
     ghost use Rattle.wc_parse.specs.Kept.Texts.{with_field};
+    ghost use Rattle.wc_parse.specs.Kept.Passing.{with_whole};
+
+    /// The last field so far.
+    pub(crate) fn last(&self) -> Option<&Field<'a>> {
+        self.fields.as_slice().last()
+    }
+
+    /// One more field, which was read whole. The error is want of memory.
+    pub(crate) fn push(&mut self, field: Field<'a>) -> Result<(), AllocError>
+        ensures { OnOk result (self.new ≡ with_whole field.entry self.old) }
+    {
+        self.fields.push(field)?;
+        Ok(())
+    }
 
     /// The fields so far. It takes no memory.
     // They are taken out, and the rest is let go whole.
@@ -81,7 +95,6 @@ impl<'a> TextDraft<'a> {
         ensures { OnOk result (self.new ≡ with_field self.old) }
     {
         let field = self.field.said(alloc)?;
-        self.fields.push(field)?;
-        Ok(())
+        self.push(field)
     }
 }

@@ -2,3 +2,4 @@
 pub mod Fields
 pub mod Finished
 pub mod Following
+pub mod Wholes

@@ -10,6 +10,8 @@ mod locals_draft;
 mod name;
 mod names;
 mod parts;
+mod whole;
 
 pub use field_draft::FieldDraft;
 pub use laws::{always_some_fields, one_list_of_fields};
+pub use whole::{export_of, func_import_of};

@@ -7,7 +7,8 @@ ghost use Rattle.wc_tokens.specs.Reading.Elements.{first_element};
 
 use crate::bytes::behind;
 use crate::digits::{digit_of, digits};
-use crate::simple::{after_simple, plain_run};
+use crate::plain::plain_run;
+use crate::simple::after_simple;
 
 /// What an element of a string stands for.
 #[derive(Clone, Copy)]

@@ -12,9 +12,6 @@ use crate::values::{hexadecimal_digit, plain_byte};
 /// How many bytes are looked at together.
 const CHUNK: usize = 16;
 
-/// How many of a chunk are looked at together where not all of it is plain.
-const HALF: usize = 8;
-
 /// The most bytes that a run stands for.
 pub const ROOM: usize = 256;
 
@@ -23,7 +20,7 @@ const STARTS: usize = 258;
 
 /// A byte that stands for itself.
 #[inline(always)]
-fn is_plain(byte: u8) -> bool
+pub fn is_plain(byte: u8) -> bool
     ensures { IsTrue result → IsPlain byte }
 {
     32 <= byte && byte != 127 && byte != b'"' && byte != b'\\'
@@ -160,33 +157,6 @@ pub fn plain_chunks(text: &[u8]) -> usize
     let mut at = 0;
     while text.len() - at >= CHUNK && all_plain(&text[at..at + CHUNK]) {
         at += CHUNK;
-    }
-    at
-}
-
-/// The same, found in chunks and then in half of one.
-#[inline(always)]
-fn plain_halves(text: &[u8]) -> usize
-    ensures within { result ≤ length text.now }
-    ensures plain { (k : ℕ) → k < result → IsPlain (slice_index text.now k) }
-{
-    let at = plain_chunks(text);
-    if text.len() - at >= HALF && all_plain(&text[at..at + HALF]) {
-        return at + HALF;
-    }
-    at
-}
-
-/// How many bytes at the front stand for themselves, up to the first that doesn't.
-// Most names end in their first or second chunk.
-#[inline(always)]
-pub fn plain_run(text: &[u8]) -> usize
-    ensures within { result ≤ length text.now }
-    ensures plain { (k : ℕ) → k < result → IsPlain (slice_index text.now k) }
-{
-    let mut at = plain_halves(text);
-    while at < text.len() && is_plain(text[at]) {
-        at += 1;
     }
     at
 }

@@ -1,14 +1,15 @@
 //! A text token by token.
 
-ghost use Rattle.std.specs.Prelude.{◌≡◌, ◌≤◌, ℕ, IfOk, IfErr, IsUtf8, length};
+ghost use Rattle.std.specs.Prelude.{◌≡◌, ◌≤◌, ℕ, None, IfOk, IfErr, IfSome, IsUtf8, length};
 ghost use Rattle.wc_tokens.specs.Standard.Lexemes.{place, longest};
 ghost use Rattle.wc_tokens.specs.Standard.Faults.{FirstFault};
-ghost use Rattle.wc_tokens.specs.Standard.Streams.{unread, IsRead, IsJudged};
+ghost use Rattle.wc_tokens.specs.Standard.Streams.{unread, GivesPlain, IsRead, IsJudged};
 ghost use Rattle.wc_tokens.specs.Reading.Stops.{StandsIn};
 ghost use Rattle.wc_tokens.specs.declared.token.TokenKind.{TokenKind as Kind};
 
 use crate::fault::{LexWhy, Stop};
 use crate::next::{Next, next_of};
+use crate::plain::plain_string;
 use crate::token::Token;
 use std::marker::Model;
 
@@ -99,6 +100,17 @@ impl<'a> Lexer<'a> {
         }
     }
 
+    /// The same place in the same text, to read on from without leaving this one.
+    #[inline(always)]
+    pub fn ahead(&self) -> Lexer<'a>
+        ensures { result ≡ self.now }
+    {
+        Lexer {
+            text: self.text,
+            rest: self.rest,
+        }
+    }
+
     /// The next token, as long as possible, with its span in the whole text; or `None` where only gaps are left. The
     /// error is the first fault: where no whole gap or token begins, as [`LexWhy`] says. Behind the end and a fault it
     /// answers the same again.
@@ -120,6 +132,21 @@ impl<'a> Lexer<'a> {
             Next::End => Ok(None),
             Next::Stuck(at, why) => Err(stop_of(self.text, at, why)),
         }
+    }
+
+    /// What stands between the quotes of the next token, where that is a string in which nothing is escaped, and only
+    /// blanks stand before it. Else nothing is read.
+    #[inline(always)]
+    pub fn next_plain(&mut self) -> Option<&'a str>
+        ensures read { IfSome result (λ part. GivesPlain self.old part.now self.new) }
+        ensures none { result ≡ None → self.new ≡ self.old }
+    {
+        let string = plain_string(self.rest)?;
+        let span = span_of(self.text, string.here, string.rest);
+        let last = span.text.len().saturating_sub(1);
+        let part = span.text.get(1..last)?;
+        self.rest = string.rest;
+        Some(part)
     }
 
     /// Whether all that is left are gaps and tokens; the error is its first fault.

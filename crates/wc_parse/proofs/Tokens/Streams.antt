@@ -84,7 +84,7 @@ refused-told {text} {ts} (fault.Bad token why) (Syntax at reason) short utf8 rea
 })
 refused-told (fault.Bad token why) Memory short utf8 reading h e = absurd e
 
-token-found : {text : List ℕ} {at : ℕ} {u v : Unread} {s : Standing} {d : TextDraft} (t : Lexeme)
+pub token-found : {text : List ℕ} {at : ℕ} {u v : Unread} {s : Standing} {d : TextDraft} (t : Lexeme)
     → IsStream text at u s d → Gives u t v → IsFound text at t v s d
 token-found {text} {at} {u} {v} {s} {d} t w g =
     let n = IsReading-token t w.reading g in

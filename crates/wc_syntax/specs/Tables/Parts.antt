@@ -91,3 +91,9 @@ abbrev pub is_type_index : Place → Kind → Bool
 is_type_index place.UseIndex kind.Natural32 = true
 is_type_index place.UseIndex kind.Id = true
 is_type_index _ _ = false
+
+-- a field may begin, behind others
+abbrev pub is_between : Place → Frame → Bool
+is_between place.Done frame.Fields = true
+is_between place.Done frame.Module = true
+is_between _ _ = false

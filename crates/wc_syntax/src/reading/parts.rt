@@ -6,7 +6,7 @@ ghost use Rattle.wc_syntax.specs.Standard.Deriving.{Event};
 ghost use Rattle.wc_syntax.specs.Standard.Reading.{IsRead, kept_as};
 ghost use Rattle.wc_syntax.specs.Tables.Table.{is_in_frame, rest_of};
 ghost use Rattle.wc_syntax.specs.Tables.Parts.{ends_field, behind_part, begun_part, opens_func, first_part};
-ghost use Rattle.wc_syntax.specs.Tables.Parts.{opens_field, type_role, behind_type, is_type_index};
+ghost use Rattle.wc_syntax.specs.Tables.Parts.{opens_field, type_role, behind_type, is_type_index, is_between};
 ghost use Rattle.wc_syntax.specs.declared.kind.Kind.{Kind as TokenKind};
 ghost use Rattle.wc_syntax.specs.declared.kind.Kind.TheVariants as kinds;
 ghost use Rattle.wc_syntax.specs.declared.role.Role.TheVariants as roles;
@@ -147,6 +147,19 @@ fn is_type_index(place: Place, kind: Kind) -> bool
     ensures { result ≡ is_type_index place kind }
 {
     matches!((place, kind), (Place::UseIndex, Kind::Natural32 | Kind::Id))
+}
+
+impl Reading {
+    /// Whether it stands between fields: behind one, in a text or in its `(module`, where one more may begin.
+    #[inline(always)]
+    pub fn is_between(&self) -> bool
+        ensures { result ≡ is_between self.now.place self.now.frame }
+    {
+        matches!(
+            (self.place, self.frame),
+            (Place::Done, Frame::Fields | Frame::Module)
+        )
+    }
 }
 
 /// Each of these reads one more token where it has its most usual place, and tells whether it does. Else the reader

@@ -6,6 +6,7 @@ use Rattle.wc_tokens.specs.declared.heads.Head.{Head}
 use Rattle.wc_tokens.specs.declared.heads.Head.TheVariants as heads
 use Rattle.wc_tokens.specs.Standard.Gaps.{is_blank, EndsLine, Gap, Gaps}
 use Rattle.wc_tokens.specs.Standard.Lexemes.{IsIdchar, BeginsNoIdchar, IsToken}
+use Rattle.wc_tokens.specs.Standard.Strings.{Elements}
 use Rattle.wc_tokens.specs.Standard.Faults.{Stuck}
 
 -- a byte that is no blank, with what follows it
@@ -41,3 +42,9 @@ abbrev pub IsHead : List ℕ → Head → Type 0
 IsHead text (heads.Gap rest) = Gap text rest.now
 IsHead text (heads.Token kind rest) = (part : List ℕ) × (text ≡ part ++ rest.now) × IsToken kind part rest.now
 IsHead text (heads.Stuck rest why) = Stuck text rest.now why
+
+-- The text begins with a string in which nothing is escaped: plain bytes between two quotes.
+pub record BeginsPlain (text rest : List ℕ) : Type 0 where
+  pub body : List ℕ
+  pub text_is : text ≡ (34 ∷ (body ++ 34 ∷ [])) ++ rest
+  pub elements : Elements body body

@@ -1,8 +1,12 @@
 -- Bytes that begin a simple element of a string.
-use Rattle.std.specs.Prelude.{◌≡◌, ℕ, zero, suc, ◌+◌, ◌<◌, ◌==◌, ◌&&◌, not, ◌⊎◌, if◌then◌else◌}
+use Rattle.std.specs.Prelude.{◌≡◌, ℕ, zero, suc, ◌+◌, ◌<◌, nat_lt, ◌==◌, Bool, ◌&&◌, ◌||◌, not, ◌⊎◌, if◌then◌else◌}
 use Rattle.std.specs.Prelude.{List, [], ◌∷◌, take, slice_index}
 use Rattle.wc_tokens.specs.Standard.Digits.{IsDigit}
 use Rattle.wc_tokens.specs.Standard.Strings.{IsPlain, Element}
+
+-- the byte doesn't stand for itself
+abbrev pub is_special : ℕ → Bool
+is_special c = nat_lt c 32 || (c == 127) || (c == 34) || (c == 92)
 
 -- the byte stands for itself, or it is a backslash before two digits
 abbrev pub IsSimple : ℕ → ℕ → ℕ → Type 0

@@ -3,7 +3,9 @@ use Rattle.std.specs.Prelude.{◌≡◌, ℕ, List, [], ◌++◌, length, Option
 use Rattle.wc_tokens.specs.declared.fault.Stop.{Stop}
 use Rattle.wc_tokens.specs.declared.token.Token.{Token}
 use Rattle.wc_tokens.specs.declared.token.TokenKind.{TokenKind}
+use Rattle.wc_tokens.specs.declared.token.TokenKind.TheVariants.{Str}
 use Rattle.wc_tokens.specs.Standard.Gaps.{Gaps}
+use Rattle.wc_tokens.specs.Standard.Strings.{IsString}
 use Rattle.wc_tokens.specs.Standard.Lexemes.{IsToken, Lexeme, Lexed, spanned}
 use Rattle.wc_tokens.specs.Standard.Faults.{Stops}
 use Rattle.wc_tokens.specs.Standard.Tokens.{lexeme_of}
@@ -25,6 +27,13 @@ pub record Gives (old : Unread) (t : Lexeme) (new : Unread) : Type 0 where
   pub token : IsToken kind text new.rest
   pub spans : t ≡ spanned old.size kind text new.rest
   pub same_text : new.size ≡ old.size
+
+-- `GivesPlain old part new`: the same of a string in which nothing is escaped, and what stands between its quotes
+pub record GivesPlain (old : Unread) (part : List ℕ) (new : Unread) : Type 0 where
+  pub lexeme : Lexeme
+  pub gives : Gives old lexeme new
+  pub kind : lexeme.kind ≡ Str
+  pub string : IsString lexeme.text part
 
 -- The next token is read, or none is left, or a fault stands there. In these two cases as much is left as before.
 abbrev pub IsRead : Unread → Unread → Result (Option Token) Stop → Type 0

@@ -1,4 +1,4 @@
-use Rattle.std.proofs.Common.{sym, subst, ◌∙◌, OnOk}
+use Rattle.std.proofs.Common.{sym, subst, ◌∙◌}
 use Rattle.wc_tokens.specs.Standard.Tokens.{lexeme_of}
 use Rattle.wc_body.specs.Standard.Nested.{nesting_limit}
 use Rattle.wc_syntax.specs.Standard.Reading.{Standing, IsRead}
@@ -26,7 +26,7 @@ returns-then-take_field_end-clause-said c = λ ts rest w e.
 pub returns-clause-said : goal.returns-clause-said
 returns-clause-said c =
     subst
-    (λ (s : Standing). OnOk c.take_any.result
-    (SaysMore (lexeme_of c.args.token.now) c.args.at s c.args.draft.now c.take_any.new.reading c.take_any.new.draft))
+    (λ (s : Standing).
+    SaysMore (lexeme_of c.args.token.now) c.args.at s c.args.draft.now c.take_any.new.reading c.take_any.new.draft)
     (c.take_field_end.ensures.stays c.if-take_field_end.false
-    ∙ c.take_part_end.ensures.stays c.if-take_part_end.false) c.take_any.ensures.said
+    ∙ c.take_part_end.ensures.stays c.if-take_part_end.false) c.in_ok-take_any.ensures.said
