@@ -57,17 +57,10 @@ fn fields_or_refusal<'a>(alloc: Global, text: &'a [u8]) -> Result<Surface<'a>, T
     while let Some(token) = lexer.next()? {
         match take_token(alloc, &mut reading, &mut draft, at, &token) {
             Ok(false) => at += 1,
-            Ok(true) => {
-                // What is left is copied for that, so that the loop needs no place for it in memory.
-                let mut ahead = lexer.ahead();
-                match take_wholes(alloc, &mut ahead, &reading, &mut draft, at + 1) {
-                    Ok(behind) => {
-                        lexer = ahead;
-                        at = behind;
-                    }
-                    Err(_) => return Err(TextRefusal::Memory),
-                }
-            }
+            Ok(true) => match take_wholes(alloc, &mut lexer, &reading, &mut draft, at + 1) {
+                Ok(behind) => at = behind,
+                Err(_) => return Err(TextRefusal::Memory),
+            },
             Err(fault) => return Err(refused(lexer, fault)),
         }
     }

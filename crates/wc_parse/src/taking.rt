@@ -215,8 +215,38 @@ fn take_close<'a>(
 }
 
 /// A string: whether it is a name is seen from what it stands for.
-// Strings are few, so they stay out of the loop over tokens.
+// Strings are few, so they stay out of the loop over tokens. The token is a copy, so that the loop has none in memory.
 #[inline(never)]
+fn take_any_string<'a>(
+    alloc: Global,
+    reading: &mut Reading,
+    draft: &mut TextDraft<'a>,
+    at: usize,
+    token: Token<'a>,
+) -> Result<(), SynFault>
+    requires few { at < 2 ^ 32 }
+    requires form { HasForm token.kind token.text.now }
+    requires kind { token.kind ≡ tokens.Str }
+    ensures said { OnOk result (SaysMore (lexeme_of token.entry) at reading.old draft.old reading.new draft.new) }
+    ensures fault { IfErr result (Refuses (lexeme_of token.entry) at reading.old draft.old) }
+{
+    let value = string_value(alloc, &token)?;
+    let string = symbol_of_string(&value);
+    let Some(role) = role_of(reading, at, string.kind)? else {
+        return Ok(());
+    };
+    let word = Word {
+        token: at as u32,
+        symbol: string,
+        text: token.text,
+    };
+    draft.take(alloc, role, &word, value)?;
+    Ok(())
+}
+
+/// A string.
+// The call stands in a function of its own, so that no other token pays for the place of its result.
+#[inline(always)]
 fn take_string<'a>(
     alloc: Global,
     reading: &mut Reading,
@@ -230,18 +260,7 @@ fn take_string<'a>(
     ensures said { OnOk result (SaysMore (lexeme_of token.now) at reading.old draft.old reading.new draft.new) }
     ensures fault { IfErr result (Refuses (lexeme_of token.now) at reading.old draft.old) }
 {
-    let value = string_value(alloc, token)?;
-    let string = symbol_of_string(&value);
-    let Some(role) = role_of(reading, at, string.kind)? else {
-        return Ok(());
-    };
-    let word = Word {
-        token: at as u32,
-        symbol: string,
-        text: token.text,
-    };
-    draft.take(alloc, role, &word, value)?;
-    Ok(())
+    take_any_string(alloc, reading, draft, at, *token)
 }
 
 /// An identifier.

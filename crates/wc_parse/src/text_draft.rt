@@ -69,6 +69,7 @@ impl<'a> TextDraft<'a> {
     ghost use Rattle.wc_parse.specs.Kept.Passing.{with_whole};
 
     /// The last field so far.
+    #[inline(always)]
     pub(crate) fn last(&self) -> Option<&Field<'a>> {
         self.fields.as_slice().last()
     }

@@ -23,6 +23,12 @@ fn names_type(import: &ImportField<'_>) -> bool {
     }
 }
 
+/// Whether the last field is of a kind that is read whole.
+#[inline(always)]
+fn may_repeat(draft: &TextDraft<'_>) -> bool {
+    matches!(draft.last(), Some(Field::Export(_) | Field::Import(_)))
+}
+
 /// The field that comes, from the token of this number on, where it is one like the last one. The error is want of
 /// memory.
 // Exports mostly stand behind exports, and imports behind imports; so nothing else is asked for twice.
@@ -46,9 +52,8 @@ fn whole_like<'a>(
 
 /// Reads fields like the last one, whole, as many as come behind a field that ended before the token of this number,
 /// and answers the number of the token that comes then. The error is want of memory.
-// It is apart from the loop over tokens, since most fields are functions.
 #[inline(never)]
-pub(crate) fn take_wholes<'a>(
+fn take_repeated<'a>(
     alloc: Global,
     lexer: &mut Lexer<'a>,
     reading: &Reading,
@@ -69,4 +74,28 @@ pub(crate) fn take_wholes<'a>(
         count += whole.count;
     }
     Ok(count)
+}
+
+/// Reads fields like the last one, whole, as many as come behind a field that ended before the token of this number,
+/// and answers the number of the token that comes then. The error is want of memory.
+// Most fields are functions, behind which that costs no call. And what is left of the text is copied for it, so that
+// the loop over tokens needs no place for it in memory.
+#[inline(always)]
+pub(crate) fn take_wholes<'a>(
+    alloc: Global,
+    lexer: &mut Lexer<'a>,
+    reading: &Reading,
+    draft: &mut TextDraft<'a>,
+    at: usize,
+) -> Result<usize, AllocError>
+    requires { draft.now.field ≡ started OtherWord 0 }
+    ensures { IfOk result (λ after. Passes lexer.old at reading.now draft.old lexer.new after draft.new) }
+{
+    if !may_repeat(draft) {
+        return Ok(at);
+    }
+    let mut ahead = lexer.ahead();
+    let after = take_repeated(alloc, &mut ahead, reading, draft, at)?;
+    lexer.follow(&ahead);
+    Ok(after)
 }

@@ -284,27 +284,28 @@ fn take_bare<'a>(
 }
 
 /// A word that is none of the most usual ones.
-// It is a call, so that `take_token` stays small enough for the compiler to put that in place.
+// It is a call, so that `take_token` stays small enough for the compiler to put that in place. The token is a copy, so
+// that the loop over tokens has none in memory.
 #[inline(never)]
 fn take_rare<'a>(
     alloc: Global,
     reading: &mut Reading,
     draft: &mut TextDraft<'a>,
     at: usize,
-    token: &Token<'a>,
+    token: Token<'a>,
 ) -> Result<(), SynFault>
     requires few { at < 2 ^ 32 }
-    requires form { HasForm token.now.kind token.now.text.now }
-    requires kind { token.now.kind ≡ tokens.Word }
-    ensures said { OnOk result (SaysMore (lexeme_of token.now) at reading.old draft.old reading.new draft.new) }
-    ensures fault { IfErr result (Refuses (lexeme_of token.now) at reading.old draft.old) }
+    requires form { HasForm token.kind token.text.now }
+    requires kind { token.kind ≡ tokens.Word }
+    ensures said { OnOk result (SaysMore (lexeme_of token.entry) at reading.old draft.old reading.new draft.new) }
+    ensures fault { IfErr result (Refuses (lexeme_of token.entry) at reading.old draft.old) }
 {
-    let symbol = symbol_of(token);
+    let symbol = symbol_of(&token);
     match symbol.value {
-        Value::Number(_) => take_signed(alloc, reading, draft, at, token, symbol),
-        Value::Offset(_) => take_offset(alloc, reading, draft, at, token, symbol),
-        Value::Exponent(_) => take_align(alloc, reading, draft, at, token, symbol),
-        _ => take_bare(alloc, reading, draft, at, token, symbol),
+        Value::Number(_) => take_signed(alloc, reading, draft, at, &token, symbol),
+        Value::Offset(_) => take_offset(alloc, reading, draft, at, &token, symbol),
+        Value::Exponent(_) => take_align(alloc, reading, draft, at, &token, symbol),
+        _ => take_bare(alloc, reading, draft, at, &token, symbol),
     }
 }
 
@@ -356,7 +357,7 @@ fn take_other<'a>(
         let symbol = symbol_of_keyword(kind);
         return take_bare(alloc, reading, draft, at, token, symbol);
     }
-    take_rare(alloc, reading, draft, at, token)
+    take_rare(alloc, reading, draft, at, *token)
 }
 
 /// A word.

@@ -3,7 +3,7 @@
 ghost use Rattle.std.specs.Prelude.{◌≡◌, ◌≤◌, ℕ, None, IfOk, IfErr, IfSome, IsUtf8, length};
 ghost use Rattle.wc_tokens.specs.Standard.Lexemes.{place, longest};
 ghost use Rattle.wc_tokens.specs.Standard.Faults.{FirstFault};
-ghost use Rattle.wc_tokens.specs.Standard.Streams.{unread, GivesPlain, IsRead, IsJudged};
+ghost use Rattle.wc_tokens.specs.Standard.Streams.{unread, followed, GivesPlain, IsRead, IsJudged};
 ghost use Rattle.wc_tokens.specs.Reading.Stops.{StandsIn};
 ghost use Rattle.wc_tokens.specs.declared.token.TokenKind.{TokenKind as Kind};
 
@@ -45,19 +45,19 @@ struct Span<'a> {
 }
 
 /// The span of the token that stands in a text before the rest.
+// It is cut off what is left, so that a loop over tokens needs no more of the text than its length.
 #[inline(always)]
-fn span_of<'a>(text: &'a str, here: &[u8], rest: &[u8]) -> Span<'a>
+fn span_of<'a>(text: &str, here: &'a [u8], rest: &[u8]) -> Span<'a>
     requires { (kind : Kind) × StandsIn text.now kind here.now rest.now }
     ensures text { (kind : Kind) (stands : StandsIn text.now kind here.now rest.now) → result.text.now ≡ stands.part }
     ensures start { result.start ≡ place (length text.now) here.now }
     ensures stop { result.stop ≡ place (length text.now) rest.now }
 {
-    let start = text.len() - here.len();
-    let stop = text.len() - rest.len();
+    let part = &here[..here.len() - rest.len()];
     Span {
-        text: &text[start..stop],
-        start,
-        stop,
+        text: unsafe { str::from_utf8_unchecked(part) },
+        start: text.len() - here.len(),
+        stop: text.len() - rest.len(),
     }
 }
 
@@ -109,6 +109,16 @@ impl<'a> Lexer<'a> {
             text: self.text,
             rest: self.rest,
         }
+    }
+
+    /// Goes on where as many bytes are left as behind `ahead`; where no more are left here, it stays.
+    // Its text stays the same one, so that a loop over tokens doesn't read that anew from `ahead`.
+    #[inline(always)]
+    pub fn follow(&mut self, ahead: &Lexer<'_>)
+        ensures { self.new ≡ followed self.old ahead.now }
+    {
+        let passed = self.rest.len().saturating_sub(ahead.rest.len());
+        self.rest = &self.rest[passed..];
     }
 
     /// The next token, as long as possible, with its span in the whole text; or `None` where only gaps are left. The

@@ -22,7 +22,7 @@ use Rattle.wc_surface.specs.Standard.Identifiers.{Identifier, identifier}
 use Rattle.wc_parse_field.specs.Drafting.Fields.{started, unnamed, name_of}
 use Rattle.wc_parse_field.specs.Drafting.Wholes.{exported, func_imported}
 use Rattle.wc_parse.specs.declared.text_draft.TextDraft.{TextDraft}
-use Rattle.wc_parse.specs.Kept.Passing.{Seen, seen, named, Begins, IsNamed, IsIndex, number, ident}
+use Rattle.wc_parse.specs.Kept.Passing.{Seen, seen, named, Begins, IsNamed, IsIndex, number, symbolic}
 use Rattle.wc_parse.specs.Kept.Passing.{is_lendable, IsLent, IsAsked, IsTyped, none, more}
 use Rattle.wc_parse.specs.Kept.Passing.{IsSeen, Runs, ended, goes, with_whole, SaysWhole}
 
@@ -40,12 +40,12 @@ lends l around _ h = absurd cc
 targets : (l : ℕ) (around : List Frame) (t : TokenKind) (k : Kind) → IsIndex t k
     → action_at (standing l place.ExportIndex frame.Field around) k ≡ keeping role.Target (On place.ExportEnd)
 targets l around _ _ number = refl
-targets l around _ _ ident = refl
+targets l around _ _ symbolic = refl
 
 types : (l : ℕ) (around : List Frame) (t : TokenKind) (k : Kind) → IsIndex t k
     → action_at (standing l place.UseIndex frame.Described around) k ≡ keeping role.TypeIndex (On place.UseEnd)
 types l around _ _ number = refl
-types l around _ _ ident = refl
+types l around _ _ symbolic = refl
 
 -- no field so far
 abbrev draft : List Field → TextDraft

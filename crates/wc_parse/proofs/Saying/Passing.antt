@@ -1,10 +1,13 @@
 -- Tokens that were read one after another, and what they add.
 use Rattle.std.proofs.Common.{◌≡◌, ℕ, ◌+◌, ◌≤◌, List, [], ◌∷◌, ◌++◌, length, drop, Option, Some, None}
 use Rattle.std.proofs.Common.{refl, sym, ap, subst}
-use Rattle.std.proofs.Common.{length-append, true, arith}
+use Rattle.std.proofs.Common.{length-append, true, arith, ◌-◌, ◌∙◌}
+use Rattle.std.proofs.Math.Seq.{drop-append_seam}
 use Rattle.wc_tokens.specs.Standard.Lexemes.{Lexeme}
-use Rattle.wc_tokens.specs.Standard.Streams.{Unread}
-use Rattle.wc_tokens.proofs.Lexing.StreamLaws.{Gives-shorter}
+use Rattle.wc_tokens.specs.Standard.Streams.{Unread, followed}
+use Rattle.wc_tokens.specs.Reading.Stops.{EndsWith}
+use Rattle.wc_tokens.proofs.Lexing.RunLaws.{EndsWith-more}
+use Rattle.wc_tokens.proofs.Lexing.StreamLaws.{Gives-shorter, Gives-ends}
 use Rattle.wc_body.specs.Standard.Nested.{nesting_limit}
 use Rattle.wc_syntax.specs.declared.kind.Kind.TheVariants.{OtherWord}
 use Rattle.wc_syntax.specs.declared.role.Role.{Role}
@@ -65,6 +68,32 @@ seen-shorter (more seen rest) =
     let first = Gives-shorter seen.gives in
     let others = seen-shorter rest in
     omega (arith, first, others)
+
+-- what is left is the end of what was left
+record IsEnd (u v : Unread) : Type 0 where
+  same_text : v.size ≡ u.size
+  ends : EndsWith u.rest v.rest
+
+seen-end : {u v : Unread} {xs : List Seen} → AreSeen u xs v → IsEnd u v
+seen-end none = record { same_text = refl; ends = ([], refl) }
+seen-end {u} {v} (more {v = b} seen rest) =
+    let others = seen-end rest in
+    record {
+      same_text = others.same_text ∙ seen.gives.same_text;
+      ends = EndsWith-more u.rest b.rest others.ends.0 v.rest (Gives-ends seen.gives) others.ends.1;
+    }
+
+-- so who follows stands there
+pub passes-followed : {n m : ℕ} {u v : Unread} {s : Standing} {d d' : TextDraft} → Passes u n s d v m d'
+    → followed u v ≡ v
+passes-followed {u = u} {v = v} p =
+    let w = seen-end p.are_seen in
+    let front = w.ends.0 in
+    let count : length u.rest - length v.rest ≡ length front =
+    omega (arith, ap length w.ends.1, length-append front v.rest) in
+    let rest : drop (length u.rest - length v.rest) u.rest ≡ v.rest =
+    ap (λ (k : ℕ). drop k u.rest) count ∙ ap (drop (length front)) w.ends.1 ∙ drop-append_seam front v.rest in
+    ap (λ (t : List ℕ). record u { rest = t }) rest ∙ ap (λ (k : ℕ). record v { size = k }) (sym w.same_text)
 
 pub stream-passes : {text : List ℕ} {n m : ℕ} {u v : Unread} {s : Standing} {d d' : TextDraft} → IsStream text n u s d
     → Passes u n s d v m d' → IsStream text m v s d'

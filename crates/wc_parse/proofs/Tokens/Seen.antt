@@ -11,7 +11,7 @@ use Rattle.wc_symbols.specs.declared.symbol.Symbol.{Symbol}
 use Rattle.wc_symbols.specs.Standard.Symbols.{bare}
 use Rattle.wc_symbols.specs.Standard.Tokens.{TokenIs, StringIs, name, no_name}
 use Rattle.wc_parse.specs.Kept.Folds.{StandsFor}
-use Rattle.wc_parse.specs.Kept.Passing.{seen, IsSeen, IsNamed, IsIndex, number, ident}
+use Rattle.wc_parse.specs.Kept.Passing.{seen, IsSeen, IsNamed, IsIndex, number, symbolic}
 use Rattle.wc_parse.proofs.Tokens.StringTokens.{string-token, string-stands}
 
 pub gives-form : {u v : Unread} {t : Lexeme} → Gives u t v → HasForm t.kind t.text
@@ -39,7 +39,7 @@ name-seen t bytes g k i n = (
 
 no-bytes : (t : TokenKind) (k : Kind) (text : List ℕ) → IsIndex t k → StandsFor t text []
 no-bytes _ _ text number = refl
-no-bytes _ _ text ident = refl
+no-bytes _ _ text symbolic = refl
 
 pub index-seen : {u v : Unread} (t : Lexeme) (s : Symbol) → Gives u t v → TokenIs t.kind t.text s
     → IsIndex t.kind s.kind → IsSeen u (seen s t.text) v
@@ -50,7 +50,7 @@ pub word-index : (t : TokenKind) (k : Kind) → t ≡ token.Word → k ≡ kind.
 word-index t k e f = rw (e, f) number
 
 pub id-index : (t : TokenKind) → t ≡ token.Id → IsIndex t kind.Id
-id-index t e = rw e ident
+id-index t e = rw e symbolic
 
 pub plain-seen : {u v : Unread} {part : List ℕ} (bytes : List ℕ) → GivesPlain u part v → IsUtf8 part → bytes ≡ part
     → IsNamed u bytes v

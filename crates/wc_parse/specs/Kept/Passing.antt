@@ -65,7 +65,7 @@ pub record Begins (u : Unread) (k : Kind) (v : Unread) : Type 0 where
 -- a number or an identifier, by what it is to the lexer and to the grammar
 pub data IsIndex : TokenKind → Kind → Type 0 where
   number : IsIndex token.Word kind.Natural32
-  ident : IsIndex token.Id kind.Id
+  symbolic : IsIndex token.Id kind.Id
 
 -- the next token is this number or identifier
 pub record IsIndexed (u : Unread) (w : Word) (v : Unread) : Type 0 where

@@ -1,8 +1,10 @@
 -- Where a token stands in its text.
-use Rattle.std.proofs.Common.{◌≡◌, ℕ, suc, ◌+◌, ◌-◌, ◌<◌, ◌≤◌, List, [], ◌∷◌, ◌++◌, length, get_or, IsUtf8, refl, sym}
+use Rattle.std.proofs.Common.{◌≡◌, ℕ, suc, ◌+◌, ◌-◌, ◌<◌, ◌≤◌, List, [], ◌∷◌, ◌++◌, length, take, drop, get_or, IsUtf8, refl, sym}
 use Rattle.std.proofs.Common.{ap, subst, ◌∙◌, append_assoc, length-append, arith}
 use Rattle.std.specs.List.{AllByRecursion}
 use Rattle.std.specs.Str.{IsCharBoundary}
+use Rattle.std.proofs.Math.Seq.{drop-append_seam, take-append_seam}
+use Rattle.std.proofs.lemmas.Str.{IsUtf8-between}
 use Rattle.std.proofs.lemmas.Bool.Decides.{nat_tests}
 use Rattle.std.proofs.lemmas.List.{get_or_at}
 use Rattle.std.proofs.lemmas.Str.{IsCharBoundary-before_ascii, IsCharBoundary-after_ascii}
@@ -134,3 +136,28 @@ InOrder-Lexed (token {size = size} {kind = kind} {text = text} {rest = rest} t h
       record { follows = l; spans = omega (arith, lengths, within); short = omega (arith, short); form = t.form },
       InOrder-Lexed h short (omega (arith, lengths, within)) (size - length rest) (omega arith),
     )
+
+-- so what stands between is UTF-8
+pub part-utf8 : (text : List ℕ) (kind : TokenKind) (here rest : List ℕ) → IsUtf8 text → StandsIn text kind here rest
+    → IsUtf8 (take (length here - length rest) here)
+part-utf8 text kind here rest u s =
+    let lengths = ap length s.text_is ∙ length-append s.front here in
+    let parts = ap length s.here_is ∙ length-append s.part rest in
+    let i = length text - length here in
+    let j = length text - length rest in
+    let at : i ≡ length s.front = omega (arith, lengths) in
+    let behind : drop i text ≡ here = ap (λ (k : ℕ). drop k text) at ∙ ap (drop (length s.front)) s.text_is
+    ∙ drop-append_seam s.front here in
+    let count : j - i ≡ length here - length rest = omega (arith, lengths, parts) in
+    subst (λ (t : List ℕ). IsUtf8 (take (length here - length rest) t)) behind
+    (subst (λ (k : ℕ). IsUtf8 (take k (drop i text))) count
+    (IsUtf8-between text i j u (omega (arith, lengths, parts)) (boundary-start text kind here rest s)
+    (boundary-stop text kind here rest u s)))
+
+-- and it is the token
+pub part-whole : (text : List ℕ) (kind : TokenKind) (here rest : List ℕ) (s : StandsIn text kind here rest)
+    → take (length here - length rest) here ≡ s.part
+part-whole text kind here rest s =
+    let count : length here - length rest ≡ length s.part =
+    omega (arith, ap length s.here_is ∙ length-append s.part rest) in
+    ap (λ (k : ℕ). take k here) count ∙ ap (take (length s.part)) s.here_is ∙ take-append_seam s.part rest

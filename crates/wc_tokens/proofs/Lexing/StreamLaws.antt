@@ -15,7 +15,8 @@ use Rattle.wc_tokens.proofs.Decided.Exists.{at_end, a_gap, a_token, a_fault, out
 use Rattle.wc_tokens.proofs.Decided.Unique.{NoMore, Skip, Take, Halt, next, next-Gap, next-Token, next-Stuck}
 use Rattle.wc_tokens.proofs.Decided.HeadLaws.{BeginsToken}
 use Rattle.wc_tokens.proofs.Lexing.LexLaws.{Gap-shorter, token-some, same-spanned}
-use Rattle.wc_tokens.proofs.Lexing.RunLaws.{Gaps-shorter}
+use Rattle.wc_tokens.specs.Reading.Stops.{EndsWith}
+use Rattle.wc_tokens.proofs.Lexing.RunLaws.{Gaps-shorter, EndsWith-more, EndsWith-gaps}
 
 abbrev pub lexeme : TokenKind → List ℕ → ℕ → ℕ → Lexeme
 lexeme kind text start stop = record { kind = kind; text = text; start = start; stop = stop }
@@ -240,6 +241,10 @@ pub Gives-shorter : {u v : Unread} {t : Lexeme} → Gives u t v → length v.res
 Gives-shorter {u} {v} g =
     omega
     (arith, Gaps-shorter g.gaps, length-append g.text v.rest, token-some g.kind g.text v.rest g.token)
+
+-- what is left behind a token is the end of what was left
+pub Gives-ends : {u v : Unread} {t : Lexeme} → Gives u t v → EndsWith u.rest v.rest
+Gives-ends {u} {v} g = EndsWith-more u.rest (g.text ++ v.rest) g.text v.rest (EndsWith-gaps ([], refl) g.gaps) refl
 
 -- ---- texts whose tokens are not kept
 

@@ -1,5 +1,5 @@
 -- The tokens of a text, read one after another.
-use Rattle.std.specs.Prelude.{◌≡◌, ℕ, List, [], ◌++◌, length, Option, Some, None, Result, Ok, Err}
+use Rattle.std.specs.Prelude.{◌≡◌, ℕ, ◌-◌, List, [], ◌++◌, drop, length, Option, Some, None, Result, Ok, Err}
 use Rattle.wc_tokens.specs.declared.fault.Stop.{Stop}
 use Rattle.wc_tokens.specs.declared.token.Token.{Token}
 use Rattle.wc_tokens.specs.declared.token.TokenKind.{TokenKind}
@@ -18,6 +18,10 @@ pub record Unread : Type 0 where
 -- a text of which nothing was read
 abbrev pub unread : List ℕ → Unread
 unread text = record { size = length text; rest = text }
+
+-- what is left where as much is left as of the other; all, where no more is
+abbrev pub followed : Unread → Unread → Unread
+followed u ahead = record u { rest = drop (length u.rest - length ahead.rest) u.rest }
 
 -- `Gives old t new`: behind gaps comes the token t, and then what is left
 pub record Gives (old : Unread) (t : Lexeme) (new : Unread) : Type 0 where

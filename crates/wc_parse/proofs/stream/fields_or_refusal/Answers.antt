@@ -4,7 +4,7 @@ use Rattle.wc_tokens.specs.declared.token.Token.{Token}
 use Rattle.wc_tokens.specs.Standard.Streams.{IsRead}
 use Rattle.wc_tokens.proofs.Lexing.StreamLaws.{Gives-shorter}
 use Rattle.wc_parse.proofs.Tokens.Streams.{stream-first, stream-token, stream-stop, stream-end}
-use Rattle.wc_parse.proofs.Saying.Passing.{stream-passes, passes-shorter, passes-from}
+use Rattle.wc_parse.proofs.Saying.Passing.{stream-passes, passes-shorter}
 use Rattle.wc_parse.proofs.stream.fields_or_refusal.Goals as goal
 
 pub loop-draft-init : goal.loop-draft-init
@@ -53,13 +53,13 @@ loop-draft-smaller-in-Ok c =
     let first = Gives-shorter
     (subst (λ (o : Option Token). IsRead c.loop-draft.lexer c.next.new.self (Ok o)) c.in-Some.is
     (c.in_ok-token.ensures {u = tt})) in
-    let others = passes-shorter (passes-from c.ahead-ahead.ensures c.in-Ok.ensures) in
+    let others = passes-shorter c.in-Ok.ensures in
     omega (arith, first, others)
 
 pub loop-draft-preserved-in-Ok : goal.loop-draft-preserved-in-Ok
 loop-draft-preserved-in-Ok c =
     let t = stream-token c.in-Some.token c.loop-draft.invariant (c.in_ok-token.ensures {u = tt}) c.in-Some.is in
-    stream-passes (t.taken _ _ c.in-Ok-true.ensures.said) (passes-from c.ahead-ahead.ensures c.in-Ok.ensures)
+    stream-passes (t.taken _ _ c.in-Ok-true.ensures.said) c.in-Ok.ensures
 
 pub returns-in-Err-clause-fault : goal.returns-in-Err-clause-fault
 returns-in-Err-clause-fault c =

@@ -1,22 +1,17 @@
-use Rattle.std.proofs.Common.{ap, sym, ◌∙◌, subst}
-use Rattle.wc_parse.specs.declared.text_draft.TextDraft.{TextDraft}
+use Rattle.std.proofs.Common.{sym, ◌∙◌, subst}
 use Rattle.wc_tokens.specs.Standard.Streams.{Unread}
-use Rattle.wc_parse.specs.Kept.Passing.{SaysWhole}
-use Rattle.wc_parse.proofs.Saying.Passing.{passes-none, passes-more}
+use Rattle.wc_parse.specs.Kept.Passing.{Passes}
+use Rattle.wc_parse.proofs.Saying.Passing.{passes-none, passes-followed, passes-from}
 use Rattle.wc_parse.proofs.wholes.take_wholes.Goals as goal
 
-pub loop-count-init : goal.loop-count-init
-loop-count-init c = record { passes = passes-none; fresh = c.requires }
+pub returns-then-not-may_repeat : goal.returns-then-not-may_repeat
+returns-then-not-may_repeat c = passes-none
 
-pub loop-count-preserved : goal.loop-count-preserved
-loop-count-preserved c =
-    let between = sym c.is_between.ensures ∙ c.if-is_between.true in
-    record {
-      passes = rw c.in_ok-push.ensures
-          (passes-more c.loop-count.invariant.passes between c.loop-count.invariant.fresh
-          (subst
-          (λ (u : Unread).
-          SaysWhole u c.loop-count.count c.in-Some.whole.field c.in-Some.whole.count c.whole_like.new.ahead)
-          c.ahead-ahead.ensures (rw c.in-Some.is at c.in_ok-whole.ensures.says)));
-      fresh = ap (λ (d : TextDraft). d.field) c.in_ok-push.ensures ∙ c.loop-count.invariant.fresh;
-    }
+pub returns : goal.returns
+returns c =
+    let passes = passes-from c.ahead-ahead.ensures (c.in_ok-after.ensures {u = tt}) in
+    subst
+    (λ (u : Unread).
+    Passes c.args.lexer.now c.args.at c.args.reading.now c.args.draft.now u c.in_ok-after.after
+    c.take_repeated.new.draft)
+    (sym (c.follow.ensures ∙ passes-followed passes)) passes

@@ -2,7 +2,7 @@ use Rattle.std.proofs.Common.{◌≡◌, ◌-◌}
 use Rattle.wc_syntax.specs.declared.kind.Kind.TheVariants.{OtherWord}
 use Rattle.wc_parse_field.specs.Drafting.Fields.{started}
 use Rattle.wc_parse.specs.Kept.Passing.{Passes}
-use Rattle.wc_parse.proofs.wholes.take_wholes.Given as goal
+use Rattle.wc_parse.proofs.wholes.take_repeated.Given as goal
 
 abbrev pub invariant-loop-count : goal.invariant-loop-count
 invariant-loop-count l = record {

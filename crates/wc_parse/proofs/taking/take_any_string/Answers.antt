@@ -2,7 +2,7 @@ use Rattle.std.proofs.lemmas.Result.{err_from_is_err_and}
 use Rattle.wc_body.specs.Standard.Nested.{nesting_limit}
 use Rattle.wc_parse.proofs.Saying.Said.{said-count, said-dropped, said-kept, said-refused}
 use Rattle.wc_parse.proofs.Tokens.StringTokens.{string-token, string-stands}
-use Rattle.wc_parse.proofs.taking.take_string.Goals as goal
+use Rattle.wc_parse.proofs.taking.take_any_string.Goals as goal
 
 pub returns-in_err-role-clause-fault : goal.returns-in_err-role-clause-fault
 returns-in_err-role-clause-fault c =
