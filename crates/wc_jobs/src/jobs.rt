@@ -1,18 +1,14 @@
 //! What a user of the program waits for.
 
-use crate::awkward::{
-    Row, constant_codes, deep_texts, nested_code, padded_codes, put_names, put_names_text,
-    put_row_text, put_rows, table_codes, tiny_codes, tiny_texts,
-};
-use crate::binary::put_module;
 use crate::carrying::Answers;
-use crate::draws::Draws;
-use crate::library::Library;
-use crate::plan::{Fault, Kind, Plan};
-use crate::text::{Style, put_text};
 use std::alloc::{AllocError, Global};
 use wc_canon::Job;
 use wc_cli::Ask;
+use wc_drawn::{
+    Draws, Fault, Kind, Library, Plan, Row, Style, constant_codes, deep_texts, nested_code,
+    padded_codes, put_module, put_names, put_names_text, put_row_text, put_rows, put_text,
+    table_codes, tiny_codes, tiny_texts,
+};
 
 /// The sizes of the modules that a build makes, in bytes; the kinds take turns.
 const SIZES: [u32; 20] = [

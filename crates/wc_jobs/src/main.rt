@@ -3,21 +3,9 @@
 //! `wc_jobs sample KIND STYLE SEED SIZE` writes one such input to standard output.
 #![tactic(auto)]
 
-mod awkward;
-mod binary;
 mod carrying;
 mod devices;
-mod drawing;
-mod draws;
 mod jobs;
-mod library;
-mod names;
-mod operator;
-mod pen;
-mod plan;
-mod shape;
-mod spelling;
-mod text;
 
 use crate::carrying::Answers;
 use crate::jobs::Desk;

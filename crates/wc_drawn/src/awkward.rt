@@ -10,7 +10,9 @@ use std::alloc::{AllocError, Global};
 /// Some bytes that stand for so many functions: their codes, or their texts.
 #[derive(Drop)]
 pub struct Row {
+    /// How many functions they stand for.
     pub count: u32,
+    /// The codes, or the texts, behind one another.
     pub bytes: Vec<u8>,
 }
 

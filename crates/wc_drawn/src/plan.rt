@@ -34,10 +34,13 @@ pub enum Fault {
 /// A module: which functions it has, and what stands around them.
 #[derive(Drop)]
 pub struct Plan {
+    /// What it is like.
     pub kind: Kind,
     /// The places of its functions among those of the library.
     pub picks: Vec<u32>,
+    /// How many functions it imports.
     pub imports: u32,
+    /// The most functions that it exports.
     pub exports: u32,
     /// How many chunks of data it has.
     pub chunks: u32,

@@ -1,4 +1,4 @@
-use Rattle.wc_jobs.proofs.drawing.+expression.Given as goal
+use Rattle.wc_drawn.proofs.drawing.+expression.Given as goal
 
 abbrev pub decreases-expression : goal.decreases-expression
 decreases-expression l = l.levels
