@@ -114,6 +114,7 @@ fn judge_uses<'a>(
     }
 }
 
+#[inline(always)]
 fn judge_own(
     types: &Types<'_>,
     ids: &Space<'_>,

@@ -56,6 +56,7 @@ fn add_uses<'a>(types: &mut Types<'a>, uses: &'a [TypeUse<'a>]) -> Result<(), Al
 }
 
 /// Adds the type of a use, where there is one.
+#[inline(always)]
 fn add_own<'a>(types: &mut Types<'a>, own: Option<UseRef<'a>>) -> Result<(), AllocError>
     requires { count_of types.old < 2 ^ 32 }
     ensures types { (ts : List FuncType) → AreTypes (map key_of ts) types.old

@@ -10,6 +10,7 @@ use wc_surface::{
     Field, FuncSeen, GlobalDesc, ImportDesc, KeptFunc, LocalGroup, ParamName, TypeUse, UseRef,
 };
 
+#[inline(always)]
 fn import_use<'a>(desc: &'a ImportDesc<'_>) -> Option<UseRef<'a>>
     ensures { option_to_list result ≡ import_uses desc.now }
 {
@@ -20,6 +21,7 @@ fn import_use<'a>(desc: &'a ImportDesc<'_>) -> Option<UseRef<'a>>
 }
 
 /// The type use of a function, or of an import of one.
+#[inline(always)]
 pub(crate) fn own_use<'a>(field: &'a Field<'_>) -> Option<UseRef<'a>>
     ensures { option_to_list result ≡ own_uses field.now }
 {

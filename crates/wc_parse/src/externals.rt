@@ -45,12 +45,33 @@ fn opens(ahead: &mut Lexer<'_>) -> Option<()>
 
 /// A closing parenthesis comes.
 #[inline(never)]
-fn closes(ahead: &mut Lexer<'_>) -> Option<()>
+fn closes_behind_gaps(ahead: &mut Lexer<'_>) -> Option<()>
     ensures { OnSome result (IsBare ahead.old kinds.Close ahead.new) }
 {
     match ahead.next() {
         Ok(Some(token)) if token.kind == TokenKind::Close => Some(()),
         _ => None,
+    }
+}
+
+/// A closing parenthesis comes, and only blanks stand before it. Else nothing is passed.
+#[inline(always)]
+fn closes_at_once(ahead: &mut Lexer<'_>) -> Option<()>
+    ensures found { OnSome result (IsBare ahead.old kinds.Close ahead.new) }
+    ensures none { result ≡ None → ahead.new ≡ ahead.old }
+{
+    ahead.next_closed()
+}
+
+/// A closing parenthesis comes.
+#[inline(always)]
+fn closes(ahead: &mut Lexer<'_>) -> Option<()>
+    ensures { OnSome result (IsBare ahead.old kinds.Close ahead.new) }
+{
+    // Mostly nothing but blanks stands before it.
+    match closes_at_once(ahead) {
+        Some(()) => Some(()),
+        None => closes_behind_gaps(ahead),
     }
 }
 
@@ -74,13 +95,35 @@ fn word(ahead: &mut Lexer<'_>, kind: Kind) -> Option<()>
     if found == kind { Some(()) } else { None }
 }
 
-/// An opening parenthesis and this keyword come.
+/// An opening parenthesis and this keyword right behind it come, and only blanks, or one block comment, stand before
+/// them. Else nothing is passed.
 #[inline(always)]
-fn begins(ahead: &mut Lexer<'_>, kind: Kind) -> Option<()>
+fn begins_at_once(ahead: &mut Lexer<'_>, word: &str, kind: Kind) -> Option<()>
+    ensures found { OnSome result (Begins ahead.old kind ahead.new) }
+    ensures none { result ≡ None → ahead.new ≡ ahead.old }
+{
+    // Of a constant the compiler knows this.
+    let found = usual_keyword(word)?;
+    if found == kind {
+        ahead.next_opened(word)
+    } else {
+        None
+    }
+}
+
+/// An opening parenthesis and a keyword come, of this kind, which is that of this word.
+#[inline(always)]
+fn begins(ahead: &mut Lexer<'_>, spelled: &str, kind: Kind) -> Option<()>
     ensures { OnSome result (Begins ahead.old kind ahead.new) }
 {
-    opens(ahead)?;
-    word(ahead, kind)
+    // Mostly nothing more stands before them.
+    match begins_at_once(ahead, spelled, kind) {
+        Some(()) => Some(()),
+        None => {
+            opens(ahead)?;
+            word(ahead, kind)
+        }
+    }
 }
 
 /// What a string stands for that is a name. The error is want of memory.
@@ -196,6 +239,22 @@ fn lendable(ahead: &mut Lexer<'_>) -> Option<Kind>
     None
 }
 
+/// An opening parenthesis and the word of what an export may lend come.
+#[inline(always)]
+fn begins_loan(ahead: &mut Lexer<'_>) -> Option<Kind>
+    ensures begins { IfSome result (λ kind. Begins ahead.old kind ahead.new) }
+    ensures lendable { IfSome result (λ kind. is_lendable kind ≡ true) }
+{
+    // Mostly functions are lent.
+    match begins_at_once(ahead, "func", Kind::FuncWord) {
+        Some(()) => Some(Kind::FuncWord),
+        None => {
+            opens(ahead)?;
+            lendable(ahead)
+        }
+    }
+}
+
 /// What an export lends: the word of it, and its index.
 #[derive(Drop)]
 struct Loan<'a> {
@@ -209,8 +268,7 @@ fn lent<'a>(ahead: &mut Lexer<'a>, at: u32) -> Option<Loan<'a>>
     requires { at + 16 ≤ 2 ^ 32 }
     ensures { IfSome result (λ lent. IsLent ahead.old at lent.kind lent.target ahead.new) }
 {
-    opens(ahead)?;
-    let kind = lendable(ahead)?;
+    let kind = begins_loan(ahead)?;
     let target = index(ahead, at + 2)?;
     closes(ahead)?;
     closes(ahead)?;
@@ -239,7 +297,7 @@ fn typed<'a>(ahead: &mut Lexer<'a>, at: u32) -> Option<Word<'a>>
     requires { at + 16 ≤ 2 ^ 32 }
     ensures { IfSome result (λ ty. IsTyped ahead.old at ty ahead.new) }
 {
-    begins(ahead, Kind::TypeWord)?;
+    begins(ahead, "type", Kind::TypeWord)?;
     let ty = index(ahead, at + 2)?;
     closes(ahead)?;
     closes(ahead)?;
@@ -258,7 +316,7 @@ pub(crate) fn whole_export<'a>(
     ensures says { IfOk result (λ found. IfSome found (λ w. SaysWhole ahead.old at w.field w.count ahead.new)) }
     ensures count { IfOk result (λ found. IfSome found (λ w. (0 < w.count) × (w.count ≤ 16))) }
 {
-    let Some(()) = begins(ahead, Kind::ExportWord) else {
+    let Some(()) = begins(ahead, "export", Kind::ExportWord) else {
         return Ok(None);
     };
     let Some(name) = name(alloc, ahead)? else {
@@ -284,7 +342,7 @@ fn asked<'a>(alloc: Global, ahead: &mut Lexer<'a>) -> Result<Option<Request<'a>>
     ensures { IfOk result (λ found. IfSome found (λ asked.
         IsAsked ahead.old (bytes_in asked.«module») (bytes_in asked.item) ahead.new)) }
 {
-    let Some(()) = begins(ahead, Kind::ImportWord) else {
+    let Some(()) = begins(ahead, "import", Kind::ImportWord) else {
         return Ok(None);
     };
     let Some(module) = name(alloc, ahead)? else {
@@ -293,7 +351,7 @@ fn asked<'a>(alloc: Global, ahead: &mut Lexer<'a>) -> Result<Option<Request<'a>>
     let Some(item) = name(alloc, ahead)? else {
         return Ok(None);
     };
-    let Some(()) = begins(ahead, Kind::FuncWord) else {
+    let Some(()) = begins(ahead, "func", Kind::FuncWord) else {
         return Ok(None);
     };
     Ok(Some(Request { module, item }))

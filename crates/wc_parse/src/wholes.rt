@@ -76,8 +76,8 @@ fn take_repeated<'a>(
     Ok(count)
 }
 
-/// Reads fields like the last one, whole, as many as come behind a field that ended before the token of this number,
-/// and answers the number of the token that comes then. The error is want of memory.
+/// Reads nothing where the last field is of a kind that is never read whole, and else what `take_repeated` does; and
+/// answers the number of the token that comes then. The error is want of memory.
 // Most fields are functions, behind which that costs no call. And what is left of the text is copied for it, so that
 // the loop over tokens needs no place for it in memory.
 #[inline(always)]

@@ -31,14 +31,29 @@ pub fn string_value<'a>(alloc: Global, token: &Token<'a>) -> Result<StringValue<
     }
 }
 
+/// How many bytes at the front of a long string show whether it may be text.
+const FRONT: usize = 256;
+
+/// Whether these bytes may be text, told by their front: a segment's are mostly none.
+fn may_be_text(bytes: &[u8]) -> bool {
+    let Some(front) = bytes.get(..FRONT) else {
+        return true;
+    };
+    match str::from_utf8(front) {
+        Ok(_) => true,
+        // A character may go on behind the front.
+        Err(error) => error.error_len().is_none(),
+    }
+}
+
 /// These bytes, as text where they are UTF-8, so that nobody needs to look at them again.
 fn own_value<'a>(bytes: Vec<u8>) -> StringValue<'a>
     ensures { bytes_in result ≡ bytes.items }
 {
-    // That of a segment is mostly no text, and is left at its first fault.
-    match String::from_utf8(bytes) {
-        Ok(text) => StringValue::Own(text),
-        Err(error) => StringValue::Bytes(error.into_bytes()),
+    if may_be_text(bytes.as_slice()) && simdutf8::is_utf8(bytes.as_slice()) {
+        StringValue::Own(unsafe { String::from_utf8_unchecked(bytes) })
+    } else {
+        StringValue::Bytes(bytes)
     }
 }
 

@@ -8,4 +8,5 @@ pub mod FrontLaws
 pub mod SpaceLaws
 pub mod LineLaws
 pub mod NameLaws
+pub mod OpenedLaws
 pub mod StreamLaws

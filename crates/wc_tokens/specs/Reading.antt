@@ -3,5 +3,6 @@ pub mod Numbers
 pub mod Elements
 pub mod Simple
 pub mod Heads
+pub mod Openings
 pub mod Nexts
 pub mod Stops

@@ -74,7 +74,7 @@ pub fn behind_blanks(text: &[u8]) -> Option<Front<'_>>
 }
 
 /// What follows a block comment whose `(;` stands before the text, if it is closed.
-fn after_comment(text: &[u8]) -> Option<&[u8]>
+pub fn after_comment(text: &[u8]) -> Option<&[u8]>
     ensures { MatchOption result ((rest : List ℕ) → ¬ (Inside text.now (59 ∷ 41 ∷ rest)))
         (λ rest. Inside text.now (59 ∷ 41 ∷ rest.now)) }
 {

@@ -13,6 +13,7 @@ mod lines;
 mod names;
 mod next;
 mod numbers;
+mod opened;
 mod plain;
 mod simple;
 mod spaces;

@@ -1,14 +1,15 @@
 //! A text token by token.
 
-ghost use Rattle.std.specs.Prelude.{◌≡◌, ◌≤◌, ℕ, None, IfOk, IfErr, IfSome, IsUtf8, length};
+ghost use Rattle.std.specs.Prelude.{◌≡◌, ◌≤◌, ℕ, None, IfOk, IfErr, IfSome, OnSome, IsUtf8, length};
 ghost use Rattle.wc_tokens.specs.Standard.Lexemes.{place, longest};
 ghost use Rattle.wc_tokens.specs.Standard.Faults.{FirstFault};
-ghost use Rattle.wc_tokens.specs.Standard.Streams.{unread, followed, GivesPlain, IsRead, IsJudged};
+ghost use Rattle.wc_tokens.specs.Standard.Streams.{unread, followed, GivesPlain, GivesOpened, GivesClosed, IsRead, IsJudged};
 ghost use Rattle.wc_tokens.specs.Reading.Stops.{StandsIn};
 ghost use Rattle.wc_tokens.specs.declared.token.TokenKind.{TokenKind as Kind};
 
 use crate::fault::{LexWhy, Stop};
 use crate::next::{Next, next_of};
+use crate::opened::{after_closing, opened_word};
 use crate::plain::plain_string;
 use crate::token::Token;
 use std::marker::Model;
@@ -157,6 +158,29 @@ impl<'a> Lexer<'a> {
         let part = span.text.get(1..last)?;
         self.rest = string.rest;
         Some(part)
+    }
+
+    /// An opening parenthesis and this word right behind it, where they are the next two tokens and only blanks, or one
+    /// block comment between blanks, stand before them. Else nothing is read.
+    #[inline(always)]
+    pub fn next_opened(&mut self, word: &str) -> Option<()>
+        ensures read { OnSome result (GivesOpened self.old word.now self.new) }
+        ensures none { result ≡ None → self.new ≡ self.old }
+    {
+        let opened = opened_word(self.rest, word.as_bytes())?;
+        self.rest = opened.rest;
+        Some(())
+    }
+
+    /// A closing parenthesis, where it is the next token and only blanks stand before it. Else nothing is read.
+    #[inline(always)]
+    pub fn next_closed(&mut self) -> Option<()>
+        ensures read { OnSome result (GivesClosed self.old self.new) }
+        ensures none { result ≡ None → self.new ≡ self.old }
+    {
+        let rest = after_closing(self.rest)?;
+        self.rest = rest;
+        Some(())
     }
 
     /// Whether all that is left are gaps and tokens; the error is its first fault.

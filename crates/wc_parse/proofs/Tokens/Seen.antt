@@ -1,17 +1,18 @@
 -- Tokens that are seen ahead.
-use Rattle.std.proofs.Common.{◌≡◌, ℕ, List, [], refl, IsUtf8}
+use Rattle.std.proofs.Common.{◌≡◌, ℕ, List, [], Option, Some, None, OnSome, refl, IsUtf8}
 use Rattle.wc_tokens.specs.declared.token.TokenKind.{TokenKind}
 use Rattle.wc_tokens.specs.declared.token.TokenKind.TheVariants as token
 use Rattle.wc_tokens.specs.Standard.Lexemes.{Lexeme, HasForm}
 use Rattle.wc_tokens.specs.Standard.Strings.{IsString}
-use Rattle.wc_tokens.specs.Standard.Streams.{Unread, Gives, GivesPlain}
+use Rattle.wc_tokens.specs.Standard.Streams.{Unread, Gives, GivesPlain, GivesOpened, GivesClosed}
 use Rattle.wc_syntax.specs.declared.kind.Kind.{Kind}
 use Rattle.wc_syntax.specs.declared.kind.Kind.TheVariants as kind
 use Rattle.wc_symbols.specs.declared.symbol.Symbol.{Symbol}
 use Rattle.wc_symbols.specs.Standard.Symbols.{bare}
 use Rattle.wc_symbols.specs.Standard.Tokens.{TokenIs, StringIs, name, no_name}
 use Rattle.wc_parse.specs.Kept.Folds.{StandsFor}
-use Rattle.wc_parse.specs.Kept.Passing.{seen, IsSeen, IsNamed, IsIndex, number, symbolic}
+use Rattle.wc_parse.specs.Kept.Passing.{seen, IsSeen, IsBare, Begins, IsNamed, IsIndex, number, symbolic}
+use Rattle.wc_symbols.specs.Standard.Words.{WordIs}
 use Rattle.wc_parse.proofs.Tokens.StringTokens.{string-token, string-stands}
 
 pub gives-form : {u v : Unread} {t : Lexeme} → Gives u t v → HasForm t.kind t.text
@@ -55,3 +56,40 @@ id-index t e = rw e symbolic
 pub plain-seen : {u v : Unread} {part : List ℕ} (bytes : List ℕ) → GivesPlain u part v → IsUtf8 part → bytes ≡ part
     → IsNamed u bytes v
 plain-seen bytes g u e = rw e (name-seen g.lexeme _ g.gives g.kind g.string (name g.string u))
+
+pub opened-begins : {u v : Unread} {word : List ℕ} (k : Kind) → GivesOpened u word v → WordIs word (bare k) → Begins u k v
+opened-begins k g w = record {
+  inside = g.inside;
+  opens = (
+    g.parenthesis.text,
+    record {
+      lexeme = g.parenthesis;
+      gives = g.opens;
+      symbol = rw g.open_is refl;
+      text = refl;
+      bytes = rw g.open_is refl;
+    },
+  );
+  word = (
+    g.name.text,
+    record {
+      lexeme = g.name;
+      gives = g.names;
+      symbol = rw (g.name_is, g.text_is) w;
+      text = refl;
+      bytes = rw g.name_is refl;
+    },
+  );
+}
+
+pub opened-found : (u v : Unread) {word : List ℕ} {k : Kind} (o : Option (Unit {0})) → OnSome o (GivesOpened u word v)
+    → WordIs word (bare k) → OnSome o (Begins u k v)
+opened-found u v None h w = tt
+opened-found u v {k = k} (Some x) h w = opened-begins k h w
+
+pub closed-bare : (u v : Unread) (o : Option (Unit {0})) → OnSome o (GivesClosed u v) → OnSome o (IsBare u kind.Close v)
+closed-bare u v None h = tt
+closed-bare u v (Some x) h = (
+  h.lexeme.text,
+  record { lexeme = h.lexeme; gives = h.gives; symbol = rw h.kind refl; text = refl; bytes = rw h.kind refl },
+)

@@ -2,18 +2,15 @@
 use Rattle.std.proofs.Common.{ℕ, suc, ◌≤◌, List, length, Option, Some, None}
 use Rattle.std.proofs.Common.{arith}
 use Rattle.wc_tokens.specs.declared.heads.Front.{Front}
-use Rattle.wc_tokens.specs.Standard.Gaps.{Gaps, none, more}
+use Rattle.wc_tokens.specs.Standard.Gaps.{Gaps}
 use Rattle.wc_tokens.specs.Reading.Heads.{IsFrontOrEnd}
 use Rattle.wc_tokens.proofs.Lexing.RunLaws.{Gaps-shorter}
-
-Gaps-both : {text middle rest : List ℕ} → Gaps text middle → Gaps middle rest → Gaps text rest
-Gaps-both none h = h
-Gaps-both (more g i) h = more g (Gaps-both i h)
+use Rattle.wc_tokens.proofs.Lexing.SpaceLaws.{Gaps-join}
 
 pub IsFrontOrEnd-push : {text rest : List ℕ} → Gaps text rest → (next : Option Front) → IsFrontOrEnd rest next
     → IsFrontOrEnd text next
-IsFrontOrEnd-push g None h = Gaps-both g h
-IsFrontOrEnd-push g (Some front) h = (Gaps-both g h.0, h.1)
+IsFrontOrEnd-push g None h = Gaps-join g h
+IsFrontOrEnd-push g (Some front) h = (Gaps-join g h.0, h.1)
 
 -- how many bytes are left from the first byte on
 abbrev pub left : Option Front → ℕ

@@ -5,7 +5,7 @@ use Rattle.std.proofs.lemmas.List.{drop_more, drop-drop}
 use Rattle.wc_tokens.specs.Standard.Gaps.{is_blank, Gap, blank, Gaps, none, more}
 use Rattle.wc_tokens.proofs.Lexing.RunLaws.{Gaps-push}
 
-Gaps-join : {text rest behind : List ℕ} → Gaps text rest → Gaps rest behind → Gaps text behind
+pub Gaps-join : {text rest behind : List ℕ} → Gaps text rest → Gaps rest behind → Gaps text behind
 Gaps-join none h = h
 Gaps-join (more g i) h = more g (Gaps-join i h)
 

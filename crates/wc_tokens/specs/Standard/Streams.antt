@@ -3,7 +3,7 @@ use Rattle.std.specs.Prelude.{◌≡◌, ℕ, ◌-◌, List, [], ◌++◌, drop,
 use Rattle.wc_tokens.specs.declared.fault.Stop.{Stop}
 use Rattle.wc_tokens.specs.declared.token.Token.{Token}
 use Rattle.wc_tokens.specs.declared.token.TokenKind.{TokenKind}
-use Rattle.wc_tokens.specs.declared.token.TokenKind.TheVariants.{Str}
+use Rattle.wc_tokens.specs.declared.token.TokenKind.TheVariants.{Open, Close, Str, Word}
 use Rattle.wc_tokens.specs.Standard.Gaps.{Gaps}
 use Rattle.wc_tokens.specs.Standard.Strings.{IsString}
 use Rattle.wc_tokens.specs.Standard.Lexemes.{IsToken, Lexeme, Lexed, spanned}
@@ -38,6 +38,23 @@ pub record GivesPlain (old : Unread) (part : List ℕ) (new : Unread) : Type 0 w
   pub gives : Gives old lexeme new
   pub kind : lexeme.kind ≡ Str
   pub string : IsString lexeme.text part
+
+-- `GivesOpened old word new`: behind gaps comes an opening parenthesis, then this word, and then what is left
+pub record GivesOpened (old : Unread) (word : List ℕ) (new : Unread) : Type 0 where
+  pub inside : Unread
+  pub parenthesis : Lexeme
+  pub name : Lexeme
+  pub opens : Gives old parenthesis inside
+  pub open_is : parenthesis.kind ≡ Open
+  pub names : Gives inside name new
+  pub name_is : name.kind ≡ Word
+  pub text_is : name.text ≡ word
+
+-- `GivesClosed old new`: behind gaps comes a closing parenthesis, and then what is left
+pub record GivesClosed (old new : Unread) : Type 0 where
+  pub lexeme : Lexeme
+  pub gives : Gives old lexeme new
+  pub kind : lexeme.kind ≡ Close
 
 -- The next token is read, or none is left, or a fault stands there. In these two cases as much is left as before.
 abbrev pub IsRead : Unread → Unread → Result (Option Token) Stop → Type 0
