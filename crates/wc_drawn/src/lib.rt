@@ -12,15 +12,14 @@ mod operator;
 mod pen;
 mod plan;
 mod shape;
+mod sheet;
 mod spelling;
 mod text;
 
-pub use awkward::{
-    Row, constant_codes, deep_texts, nested_code, padded_codes, put_names, put_names_text,
-    put_row_text, put_rows, table_codes, tiny_codes, tiny_texts,
-};
+pub use awkward::{Row, Shapes, put_names, put_names_text, put_row_text, put_rows};
 pub use binary::put_module;
 pub use draws::Draws;
 pub use library::Library;
 pub use plan::{Fault, Kind, Plan};
+pub use sheet::Sheet;
 pub use text::{Style, put_text};

@@ -3,6 +3,8 @@
 use crate::drawing::{Drawn, draw};
 use crate::draws::Draws;
 use crate::names::put_func_name;
+use crate::shape::LEAST_IMPORTS;
+use crate::sheet::Sheet;
 use crate::spelling::put_decimal;
 use std::alloc::{AllocError, Global};
 
@@ -12,8 +14,8 @@ pub const CHUNK: usize = 1024;
 /// A chunk of data, and its text inside a string.
 #[derive(Drop)]
 pub struct Chunk {
-    pub bytes: Vec<u8>,
-    pub text: Vec<u8>,
+    pub bytes: Sheet,
+    pub text: Sheet,
 }
 
 /// What inputs are put together of.
@@ -28,7 +30,7 @@ pub struct Library {
     /// Data.
     pub chunks: Vec<Chunk>,
     /// Names of functions, by their indices.
-    names: Vec<Vec<u8>>,
+    names: Vec<Sheet>,
 }
 
 /// How many functions a module has at least that those of `many` stand in.
@@ -37,38 +39,42 @@ pub const MANY: u32 = 300;
 const DIGITS: &[u8; 16] = b"0123456789abcdef";
 
 /// Puts a byte of data into a string of a text.
-fn put_escaped(out: &mut Vec<u8>, byte: u8) -> Result<(), AllocError> {
+fn put_escaped(out: &mut Sheet, byte: u8) {
     match byte {
         b'"' | b'\\' | 0..=31 | 127..=255 => {
-            out.push(b'\\')?;
-            out.push(DIGITS[usize::from(byte >> 4)])?;
-            out.push(DIGITS[usize::from(byte & 15)])?;
+            out.push(b'\\');
+            out.push(DIGITS[usize::from(byte >> 4)]);
+            out.push(DIGITS[usize::from(byte & 15)]);
         }
-        _ => out.push(byte)?,
+        _ => out.push(byte),
     }
-    Ok(())
 }
 
-/// Draws a chunk of data: words, numbers of four bytes and zeroes.
-fn draw_chunk(alloc: Global, draws: &mut Draws) -> Result<Chunk, AllocError> {
-    let mut bytes = Vec::new(alloc);
-    for _ in 0..200 {
-        match draws.below(3) {
-            0 => {
-                bytes.extend_from_slice(b"unable to open: ")?;
-                put_decimal(&mut bytes, u64::from(draws.below(1000)))?;
-                bytes.push(0)?;
-            }
-            1 => bytes.extend_from_slice(&draws.below(70_000).to_le_bytes())?,
-            _ => bytes.extend_from_slice(&[0; 12])?,
+/// Puts a piece of data: words, a number of four bytes or zeroes.
+fn put_piece(out: &mut Sheet, draws: &mut Draws) {
+    match draws.below(3) {
+        0 => {
+            out.put(b"unable to open: ");
+            put_decimal(out, u64::from(draws.below(1000)));
+            out.push(0);
         }
+        1 => out.put(&draws.below(70_000).to_le_bytes()),
+        _ => out.put(&[0; 12]),
+    }
+}
+
+/// Draws a chunk of data.
+fn draw_chunk(alloc: Global, draws: &mut Draws) -> Chunk {
+    let mut bytes = Sheet::new(alloc);
+    for _ in 0..200 {
+        put_piece(&mut bytes, draws);
     }
     bytes.truncate(CHUNK);
-    let mut text = Vec::new(alloc);
-    for byte in &bytes {
-        put_escaped(&mut text, *byte)?;
+    let mut text = Sheet::new(alloc);
+    for byte in bytes.as_slice() {
+        put_escaped(&mut text, *byte);
     }
-    Ok(Chunk { bytes, text })
+    Chunk { bytes, text }
 }
 
 /// How many statements a function of a compiled program has: most few, some a great many.
@@ -92,37 +98,54 @@ fn compiled(
     let mut funcs = Vec::new(alloc);
     for _ in 0..count {
         let length = statements(draws);
-        funcs.push(draw(alloc, draws, callees, 1, length, padded)?)?;
+        funcs.push(draw(alloc, draws, callees, 1, length, padded))?;
     }
     Ok(funcs)
+}
+
+/// Draws small functions, which set globals.
+fn scripts(alloc: Global, draws: &mut Draws) -> Result<Vec<Drawn>, AllocError> {
+    let mut funcs = Vec::new(alloc);
+    for _ in 0..300 {
+        let length = 1 + draws.below(9);
+        funcs.push(draw(alloc, draws, LEAST_IMPORTS, 6, length, false))?;
+    }
+    Ok(funcs)
+}
+
+fn draw_chunks(alloc: Global, draws: &mut Draws) -> Result<Vec<Chunk>, AllocError> {
+    let mut chunks = Vec::new(alloc);
+    for _ in 0..64 {
+        chunks.push(draw_chunk(alloc, draws))?;
+    }
+    Ok(chunks)
+}
+
+/// The name of the function of an index.
+fn func_name(alloc: Global, index: u32) -> Result<Sheet, AllocError> {
+    let mut name = Sheet::new(alloc);
+    put_func_name(&mut name, index);
+    name.check()?;
+    Ok(name)
+}
+
+fn func_names(alloc: Global) -> Result<Vec<Sheet>, AllocError> {
+    let mut names = Vec::new(alloc);
+    for index in 0..400 {
+        names.push(func_name(alloc, index)?)?;
+    }
+    Ok(names)
 }
 
 impl Library {
     /// What a seed decides.
     pub fn new(alloc: Global, draws: &mut Draws) -> Result<Library, AllocError> {
-        let few = compiled(alloc, draws, crate::shape::LEAST_IMPORTS, 200, false)?;
-        let many = compiled(alloc, draws, MANY, 400, true)?;
-        let mut small = Vec::new(alloc);
-        for _ in 0..300 {
-            let length = 1 + draws.below(9);
-            small.push(draw(alloc, draws, crate::shape::LEAST_IMPORTS, 6, length, false)?)?;
-        }
-        let mut chunks = Vec::new(alloc);
-        for _ in 0..64 {
-            chunks.push(draw_chunk(alloc, draws)?)?;
-        }
-        let mut names = Vec::new(alloc);
-        for index in 0..400 {
-            let mut name = Vec::new(alloc);
-            put_func_name(&mut name, index)?;
-            names.push(name)?;
-        }
         Ok(Library {
-            few,
-            many,
-            small,
-            chunks,
-            names,
+            few: compiled(alloc, draws, LEAST_IMPORTS, 200, false)?,
+            many: compiled(alloc, draws, MANY, 400, true)?,
+            small: scripts(alloc, draws)?,
+            chunks: draw_chunks(alloc, draws)?,
+            names: func_names(alloc)?,
         })
     }
 

@@ -149,7 +149,7 @@ pub const IS_ZERO: Operator = Operator {
 };
 
 /// Instructions of two operands.
-pub const BINARY: [Operator; 15] = [
+pub static BINARY: [Operator; 15] = [
     ADD,
     ADD,
     ADD,
@@ -192,7 +192,7 @@ pub const BINARY: [Operator; 15] = [
 ];
 
 /// Instructions of two operands of 64 bits.
-pub const LONG_BINARY: [Operator; 6] = [
+pub static LONG_BINARY: [Operator; 6] = [
     Operator {
         byte: 0x7c,
         name: "i64.add",
@@ -220,7 +220,7 @@ pub const LONG_BINARY: [Operator; 6] = [
 ];
 
 /// Loads, with the exponents of their alignments.
-pub const LOADS: [(Operator, u8); 8] = [
+pub static LOADS: [(Operator, u8); 8] = [
     (LOAD, 2),
     (LOAD, 2),
     (LOAD, 2),
@@ -244,7 +244,7 @@ pub const LOADS: [(Operator, u8); 8] = [
 ];
 
 /// Stores, with the exponents of their alignments.
-pub const STORES: [(Operator, u8); 6] = [
+pub static STORES: [(Operator, u8); 6] = [
     (STORE, 2),
     (STORE, 2),
     (STORE, 2),

@@ -1,8 +1,9 @@
 //! The types and the shapes of drawn functions.
 
 use crate::names::put_local_name;
-use crate::spelling::{put_section, put_unsigned};
-use std::alloc::{AllocError, Global};
+use crate::sheet::Sheet;
+use crate::spelling::{put_content, put_unsigned};
+use std::alloc::Global;
 
 /// How many types each module has.
 pub const TYPES: u32 = 12;
@@ -28,50 +29,48 @@ pub fn shape_of(type_index: u32) -> Shape {
 }
 
 /// Puts `(param ..) (result ..)`.
-pub fn put_signature(out: &mut Vec<u8>, shape: Shape) -> Result<(), AllocError> {
+pub fn put_signature(out: &mut Sheet, shape: Shape) {
     if shape.params > 0 {
-        out.extend_from_slice(b" (param")?;
+        out.put(b" (param");
         for _ in 0..shape.params {
-            out.extend_from_slice(b" i32")?;
+            out.put(b" i32");
         }
-        out.push(b')')?;
+        out.push(b')');
     }
     if shape.has_result {
-        out.extend_from_slice(b" (result i32)")?;
+        out.put(b" (result i32)");
     }
-    Ok(())
 }
 
 /// Puts the parameters and the result with identifiers.
-pub fn put_named_signature(out: &mut Vec<u8>, shape: Shape) -> Result<(), AllocError> {
+pub fn put_named_signature(out: &mut Sheet, shape: Shape) {
     for index in 0..shape.params {
-        out.extend_from_slice(b" (param $")?;
-        put_local_name(out, index)?;
-        out.extend_from_slice(b" i32)")?;
+        out.put(b" (param $");
+        put_local_name(out, index);
+        out.put(b" i32)");
     }
     if shape.has_result {
-        out.extend_from_slice(b" (result i32)")?;
+        out.put(b" (result i32)");
     }
-    Ok(())
 }
 
 /// Puts the types' section.
-pub fn put_types(alloc: Global, out: &mut Vec<u8>) -> Result<(), AllocError> {
-    let mut content = Vec::new(alloc);
-    put_unsigned(&mut content, u64::from(TYPES))?;
+pub fn put_types(alloc: Global, out: &mut Sheet) {
+    let mut content = Sheet::new(alloc);
+    put_unsigned(&mut content, u64::from(TYPES));
     for index in 0..TYPES {
         let shape = shape_of(index);
-        content.push(0x60)?;
-        put_unsigned(&mut content, u64::from(shape.params))?;
+        content.push(0x60);
+        put_unsigned(&mut content, u64::from(shape.params));
         for _ in 0..shape.params {
-            content.push(0x7f)?;
+            content.push(0x7f);
         }
         if shape.has_result {
-            content.push(1)?;
-            content.push(0x7f)?;
+            content.push(1);
+            content.push(0x7f);
         } else {
-            content.push(0)?;
+            content.push(0);
         }
     }
-    put_section(out, 1, &content, false)
+    put_content(out, 1, &content, false);
 }

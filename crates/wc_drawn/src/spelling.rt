@@ -1,6 +1,6 @@
 //! How numbers and sections are spelled.
 
-use std::alloc::AllocError;
+use crate::sheet::Sheet;
 
 /// The low seven bits of a number.
 fn group(number: u64) -> u8 {
@@ -8,75 +8,78 @@ fn group(number: u64) -> u8 {
 }
 
 /// Puts an unsigned integer, shortest.
-pub fn put_unsigned(out: &mut Vec<u8>, number: u64) -> Result<(), AllocError> {
+pub fn put_unsigned(out: &mut Sheet, number: u64) {
     let mut left = number;
     for _ in 0..10 {
         if left < 128 {
             break;
         }
-        out.push(group(left) | 128)?;
+        out.push(group(left) | 128);
         left >>= 7;
     }
-    out.push(group(left))?;
-    Ok(())
+    out.push(group(left));
 }
 
 /// Puts an unsigned integer below `2^35`, in five bytes.
-pub fn put_padded(out: &mut Vec<u8>, number: u64) -> Result<(), AllocError> {
+pub fn put_padded(out: &mut Sheet, number: u64) {
     let mut left = number;
     for _ in 0..4 {
-        out.push(group(left) | 128)?;
+        out.push(group(left) | 128);
         left >>= 7;
     }
-    out.push(group(left))?;
-    Ok(())
+    out.push(group(left));
 }
 
 /// Puts an unsigned integer, padded or shortest.
-pub fn put_size(out: &mut Vec<u8>, number: usize, padded: bool) -> Result<(), AllocError> {
+pub fn put_size(out: &mut Sheet, number: usize, padded: bool) {
     if padded {
-        put_padded(out, number as u64)
+        put_padded(out, number as u64);
     } else {
-        put_unsigned(out, number as u64)
+        put_unsigned(out, number as u64);
     }
 }
 
 /// Puts a signed integer, shortest.
-pub fn put_signed(out: &mut Vec<u8>, number: i64) -> Result<(), AllocError> {
+pub fn put_signed(out: &mut Sheet, number: i64) {
     let mut left = number;
     for _ in 0..10 {
         if (-64..64).contains(&left) {
             break;
         }
-        out.push(group(left.cast_unsigned()) | 128)?;
+        out.push(group(left.cast_unsigned()) | 128);
         left >>= 7;
     }
-    out.push(group(left.cast_unsigned()))?;
-    Ok(())
+    out.push(group(left.cast_unsigned()));
 }
 
 /// Puts a name.
-pub fn put_name(out: &mut Vec<u8>, name: &[u8]) -> Result<(), AllocError> {
-    put_unsigned(out, name.len() as u64)?;
-    out.extend_from_slice(name)?;
-    Ok(())
+pub fn put_name(out: &mut Sheet, name: &[u8]) {
+    put_unsigned(out, name.len() as u64);
+    out.put(name);
+}
+
+/// Puts a name that a sheet has.
+pub fn put_name_of(out: &mut Sheet, name: &Sheet) {
+    put_unsigned(out, name.len() as u64);
+    out.append(name);
 }
 
 /// Puts a section.
-pub fn put_section(
-    out: &mut Vec<u8>,
-    id: u8,
-    content: &[u8],
-    padded: bool,
-) -> Result<(), AllocError> {
-    out.push(id)?;
-    put_size(out, content.len(), padded)?;
-    out.extend_from_slice(content)?;
-    Ok(())
+pub fn put_section(out: &mut Sheet, id: u8, content: &[u8], padded: bool) {
+    out.push(id);
+    put_size(out, content.len(), padded);
+    out.put(content);
+}
+
+/// Puts a section of what a sheet has.
+pub fn put_content(out: &mut Sheet, id: u8, content: &Sheet, padded: bool) {
+    out.push(id);
+    put_size(out, content.len(), padded);
+    out.append(content);
 }
 
 /// Puts a number in decimal digits.
-pub fn put_decimal(out: &mut Vec<u8>, number: u64) -> Result<(), AllocError> {
+pub fn put_decimal(out: &mut Sheet, number: u64) {
     let mut digits = [b'0'; 20];
     let mut left = number;
     let mut start = 20;
@@ -89,24 +92,22 @@ pub fn put_decimal(out: &mut Vec<u8>, number: u64) -> Result<(), AllocError> {
         }
     }
     if let Some(shown) = digits.get(start..) {
-        out.extend_from_slice(shown)?;
+        out.put(shown);
     }
-    Ok(())
 }
 
 /// Puts a signed number in decimal digits.
-pub fn put_number(out: &mut Vec<u8>, number: i64) -> Result<(), AllocError> {
+pub fn put_number(out: &mut Sheet, number: i64) {
     if number < 0 {
-        out.push(b'-')?;
+        out.push(b'-');
     }
-    put_decimal(out, number.unsigned_abs())
+    put_decimal(out, number.unsigned_abs());
 }
 
 /// Puts a line's end and so many spaces.
-pub fn put_line(out: &mut Vec<u8>, spaces: usize) -> Result<(), AllocError> {
-    out.push(b'\n')?;
+pub fn put_line(out: &mut Sheet, spaces: usize) {
+    out.push(b'\n');
     for _ in 0..spaces {
-        out.push(b' ')?;
+        out.push(b' ');
     }
-    Ok(())
 }
