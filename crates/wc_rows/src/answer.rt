@@ -4,7 +4,8 @@
 //! - `module 0104` is the preamble of a binary and the bytes of these digits: the canonical bytes;
 //! - `9 bytes` says only how many they are;
 //! - `text TEXT` is the printed text;
-//! - `same INPUT` and `different INPUT` are what the comparison with another tells;
+//! - `same INPUT` and `different INPUT` are what the comparison with another tells, and `beside INPUT: A: ..` is what it
+//!   tells of a refused one;
 //! - anything else is the refusal, as it is rendered.
 //!
 //! What layers below say:
@@ -14,18 +15,30 @@
 //! - `tokens`, `symbol`: the tokens of the input, and what its only token is to the grammar;
 //! - `roles`, `fault`, `sentence`, `words`: what is kept of the input, its first fault, that each of its fronts begins
 //!   a text, and the fault of each word behind it, where two instructions may be nested.
+//!
+//! What readers and writers see, with what is told behind a colon: `runs` says what is asked by `run`, `accepted`,
+//! `answered`, `compared`, `decoded` and `fronted`.
+//!
+//! Of the words of a command line: `lines` are those that they name, and `raw` whether the answers are bytes for standard
+//! output; `shows` is a part of help, and `version` is what that tells; `acts` says what is done for them, `twice` what
+//! over the same devices again. `rendered` and `displayed` are the texts of a refusal and of a fault of a run.
 
+use crate::acts::{acted_shown, twice_shown};
 use crate::calls::fault_of_calls;
+use crate::faults::{refusal_shown, run_fault_shown};
 use crate::grammar::{fault_shown, roles_shown, sentence_shown, words_behind};
 use crate::input::{binary_of, bytes_of, text_of};
 use crate::kept::kept_agree;
 use crate::layers::{printed, spelled};
+use crate::lines::{error_shown, lines_shown, raw_shown, version_line};
+use crate::runs::asked_shown;
 use crate::told::{Told, rendered, told_of};
 use crate::words::{symbol_shown, tokens_shown};
-use anyhow::Result;
+use anyhow::{Context, Result};
 use hex::encode;
 use std::alloc::Global;
-use wc_canon::{Comparison, Refusal, compare, normalise, to_text};
+use std::str;
+use wc_canon::{Refusal, compare, normalise, to_text};
 
 /// What was found where it is not what was wanted.
 type Found = Option<String>;
@@ -103,14 +116,13 @@ fn other_print(alloc: Global, input: &[u8], wanted: &str) -> Result<Found> {
     }
 }
 
-/// What was found of the comparison of the input with another.
-fn other_comparison(alloc: Global, a: &[u8], b: &str, wanted: Comparison) -> Result<Found> {
+/// What the comparison of the input with another tells.
+fn comparison_shown(alloc: Global, a: &[u8], b: &str) -> Result<String> {
     match compare(alloc, a, &bytes_of(alloc, b)?) {
-        Ok(told) if told == wanted => Ok(None),
-        Ok(told) => Ok(Some(format!(in alloc; "{told:?}")?)),
+        Ok(told) => Ok(format!(in alloc; "{told:?}")?),
         Err((side, refusal)) => {
             let text = rendered(alloc, &refusal)?;
-            Ok(Some(format!(in alloc; "{side:?}: {text}")?))
+            Ok(format!(in alloc; "{side:?}: {text}")?)
         }
     }
 }
@@ -125,13 +137,57 @@ fn other_binary(alloc: Global, input: &[u8], digits: &str) -> Result<Found> {
     other_bytes(alloc, &spelled(alloc, input)?, &binary_of(alloc, digits)?)
 }
 
+/// What the comparison of the input with another tells, where it isn't what stands behind the colon.
+fn other_beside(alloc: Global, input: &[u8], rest: &str) -> Result<Found> {
+    let (other, told) = rest.split_once(": ").context("reading another input")?;
+    other_shown(comparison_shown(alloc, input, other), told)
+}
+
+/// What readers and writers were told of the input, where it isn't what stands behind the colon.
+fn other_run(alloc: Global, input: &[u8], word: &str, rest: &str) -> Result<Found> {
+    let (asked, told) = rest.split_once(": ").context("reading what is asked")?;
+    other_shown(asked_shown(alloc, input, word, asked), told)
+}
+
+/// What was found of what is done for a command line.
+fn other_act(alloc: Global, text: &str, rest: &str) -> Result<Found> {
+    let (asked, told) = rest.split_once(" -> ").context("reading what is asked")?;
+    let wanted = text_of(alloc, told)?;
+    let shown = acted_shown(alloc, text, asked, str::from_utf8(&wanted)?)?;
+    Ok(other_text(shown, &wanted))
+}
+
+/// What was found of help where it has no such part.
+fn other_help(alloc: Global, text: &str, part: &str) -> Result<Found> {
+    let help = error_shown(alloc, text)?;
+    let wanted = text_of(alloc, part)?;
+    if help.as_str().contains(str::from_utf8(&wanted)?) {
+        return Ok(None);
+    }
+    Ok(Some(help))
+}
+
+/// What was found of the words of a command line.
+fn other_line(alloc: Global, text: &str, word: &str, rest: &str) -> Result<Found> {
+    match word {
+        "lines" => other_shown(lines_shown(alloc, text), rest),
+        "raw" => other_shown(raw_shown(alloc, text), rest),
+        "shows" => other_help(alloc, text, rest),
+        "acts" => other_act(alloc, text, rest),
+        "rendered" => other_shown(refusal_shown(alloc, text), rest),
+        "displayed" => other_shown(run_fault_shown(alloc, text), rest),
+        _ => other_shown(error_shown(alloc, text), version_line(alloc)?.as_str()),
+    }
+}
+
 /// What was found of an input where it is not the answer that the row has.
 pub fn other_than(alloc: Global, input: &[u8], wanted: &str) -> Result<Found> {
     let (word, rest) = wanted.split_once(' ').unwrap_or((wanted, ""));
     match word {
         "text" => other_print(alloc, input, rest),
-        "same" => other_comparison(alloc, input, rest, Comparison::Same),
-        "different" => other_comparison(alloc, input, rest, Comparison::Different),
+        "same" => other_shown(comparison_shown(alloc, input, rest), "Same"),
+        "different" => other_shown(comparison_shown(alloc, input, rest), "Different"),
+        "beside" => other_beside(alloc, input, rest),
         "grammar" => other_grammar(alloc, input),
         "binary" => other_binary(alloc, input, rest),
         "layout" => Ok(other_text(printed(alloc, input)?, &text_of(alloc, rest)?)),
@@ -142,6 +198,13 @@ pub fn other_than(alloc: Global, input: &[u8], wanted: &str) -> Result<Found> {
         "fault" => other_shown(fault_shown(alloc, input), rest),
         "sentence" => other_shown(sentence_shown(alloc, input), "."),
         "words" => other_shown(words_behind(alloc, input), rest),
+        "run" | "accepted" | "answered" | "compared" | "decoded" | "fronted" => {
+            other_run(alloc, input, word, rest)
+        }
+        "lines" | "raw" | "shows" | "version" | "acts" | "rendered" | "displayed" => {
+            other_line(alloc, str::from_utf8(input)?, word, rest)
+        }
+        "twice" => other_shown(twice_shown(alloc, input, rest), "02"),
         _ => other_answer(alloc, input, wanted),
     }
 }

@@ -1,16 +1,21 @@
-//! Asks the public calls of `wc_canon` for the answers of tables: `wc_rows TABLE..`. It tells of each table how many
+//! Asks the public calls of `wc_canon` and `wc_cli` for the answers of tables: `wc_rows TABLE..`. It tells of each table how many
 //! rows it has, and each row whose answer is another. `rows` says how a row is written.
 #![tactic(auto)]
 
+mod acts;
 mod answer;
 mod calls;
+mod faults;
 mod fronts;
 mod grammar;
 mod input;
 mod kept;
 mod layers;
+mod lines;
+mod pieces;
 mod readers;
 mod rows;
+mod runs;
 mod told;
 mod words;
 

@@ -1,9 +1,9 @@
 //! What runs tell of an input that a reader gives in pieces.
 
+use crate::pieces::{Pace, Pieces};
 use crate::told::{Told, rendered};
 use anyhow::Result;
 use std::alloc::Global;
-use std::io::{self, Error, ErrorKind, Read};
 use wc_canon::{Job, RunFault, run};
 use wc_device::Device;
 
@@ -13,37 +13,21 @@ const PIECES: [usize; 5] = [1, 3, 4095, 4096, 4097];
 /// The most bytes that one call gives.
 const BUFFER: usize = 4096;
 
-/// Gives its bytes in pieces, and fails at one call, counted from 1.
-#[derive(Drop)]
-struct Pieces<'a> {
-    bytes: &'a [u8],
-    piece: usize,
-    fails_at: u32,
-    calls: u32,
-}
-
-impl Read for Pieces<'_> {
-    fn read(&mut self, buf: &mut [u8]) -> io::Result<usize> {
-        self.calls = self.calls.saturating_add(1);
-        if self.calls == self.fails_at {
-            return Err(Error::from(ErrorKind::Interrupted));
-        }
-        let most = self.piece.min(buf.len()).min(self.bytes.len());
-        let (front, rest) = self.bytes.split_at(most);
-        buf[..most].copy_from_slice(front);
-        self.bytes = rest;
-        Ok(most)
+/// Why there is no answer, in words.
+pub fn fault_words(alloc: Global, fault: RunFault) -> Result<String> {
+    match fault {
+        RunFault::Refused(refusal) => rendered(alloc, &refusal),
+        RunFault::Read { at } => Ok(format!(in alloc; "read {at}")?),
+        RunFault::Write { written } => Ok(format!(in alloc; "written {written}")?),
+        RunFault::Memory => Ok("memory".to_string(alloc)?),
     }
 }
 
 /// What a run told, in words.
-fn words_of(alloc: Global, outcome: Result<u64, RunFault>) -> Result<String> {
+pub fn words_of(alloc: Global, outcome: Result<u64, RunFault>) -> Result<String> {
     match outcome {
         Ok(count) => Ok(format!(in alloc; "wrote {count}")?),
-        Err(RunFault::Refused(refusal)) => rendered(alloc, &refusal),
-        Err(RunFault::Read { at }) => Ok(format!(in alloc; "read {at}")?),
-        Err(RunFault::Write { written }) => Ok(format!(in alloc; "written {written}")?),
-        Err(RunFault::Memory) => Ok("memory".to_string(alloc)?),
+        Err(fault) => fault_words(alloc, fault),
     }
 }
 
@@ -58,12 +42,7 @@ fn is_run(alloc: Global, job: Job, reader: Pieces<'_>, words: &str, bytes: &[u8]
 
 /// A reader of pieces of which no call fails.
 fn whole(bytes: &[u8], piece: usize) -> Pieces<'_> {
-    Pieces {
-        bytes,
-        piece,
-        fails_at: 0,
-        calls: 0,
-    }
+    Pieces::new(bytes, Pace { piece, fails_at: 0 })
 }
 
 /// Whether runs of a job tell these words and write these bytes, in whatever pieces the input comes.
@@ -134,12 +113,11 @@ pub fn refused_at_once(alloc: Global, input: &[u8], text: &str) -> Result<bool> 
     let Some(reads) = reads_to_fault(input, text) else {
         return Ok(true);
     };
-    let reader = Pieces {
-        bytes: input,
+    let pace = Pace {
         piece: 1,
         fails_at: reads.saturating_add(1),
-        calls: 0,
     };
+    let reader = Pieces::new(input, pace);
     is_run(alloc, Job::Binary, reader, text, b"")
 }
 
@@ -160,12 +138,11 @@ pub fn readers_fail(alloc: Global, input: &[u8], told: &Told) -> Result<bool> {
     }
     let words = words_of_failure(alloc, input, told)?;
     for job in [Job::Binary, Job::Text] {
-        let reader = Pieces {
-            bytes: input,
+        let pace = Pace {
             piece: BUFFER,
             fails_at: 2,
-            calls: 0,
         };
+        let reader = Pieces::new(input, pace);
         if !is_run(alloc, job, reader, words.as_str(), b"")? {
             return Ok(false);
         }

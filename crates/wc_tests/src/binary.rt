@@ -1,4 +1,0 @@
-//! Readers of binaries.
-
-mod inputs;
-mod readers;
