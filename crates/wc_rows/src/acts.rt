@@ -2,8 +2,8 @@
 //!
 //! Behind the words of a line a row has the writers of the answer and of faults, and each input that can be opened, by
 //! its name, its reader and its bytes: `4096 4096 | in 5!2 module`. What is told is the status, and in quotes what went
-//! to the two writers: digits where these are bytes. Behind it may stand how often the first writer was called and
-//! flushed, the other one called, and the readers asked.
+//! to the two writers: digits where these are bytes. Behind it may stand some of `calls 1 flushes 1 faults 1 reads 2`:
+//! how often the first writer was called and flushed, the other one called, and the readers that were opened asked.
 
 use crate::input::{bytes_of, text_of};
 use crate::pieces::{Pace, Pieces, Taker, pace_of, taker_of};

@@ -4,8 +4,8 @@
 //! - `module 0104` is the preamble of a binary and the bytes of these digits: the canonical bytes;
 //! - `9 bytes` says only how many they are;
 //! - `text TEXT` is the printed text;
-//! - `same INPUT` and `different INPUT` are what the comparison with another tells, and `beside INPUT: A: ..` is what it
-//!   tells of a refused one;
+//! - `same INPUT` and `different INPUT` are what the comparison with another tells, and `beside INPUT: A: ..` is what
+//!   it tells of a refused one;
 //! - anything else is the refusal, as it is rendered.
 //!
 //! What layers below say:
@@ -19,9 +19,10 @@
 //! What readers and writers see, with what is told behind a colon: `runs` says what is asked by `run`, `accepted`,
 //! `answered`, `compared`, `decoded` and `fronted`.
 //!
-//! Of the words of a command line: `lines` are those that they name, and `raw` whether the answers are bytes for standard
-//! output; `shows` is a part of help, and `version` is what that tells; `acts` says what is done for them, `twice` what
-//! over the same devices again. `rendered` and `displayed` are the texts of a refusal and of a fault of a run.
+//! Of the words of a command line: `lines` are those that they name, and `raw` whether the answers are bytes for
+//! standard output; `shows` is a part of help, and `version` is what that tells; `acts` says what is done for them,
+//! `twice` what over the same devices again. `rendered` and `displayed` are the texts of a refusal and of a fault of a
+//! run.
 
 use crate::acts::{acted_shown, twice_shown};
 use crate::calls::fault_of_calls;

@@ -1,5 +1,5 @@
-//! Asks the public calls of `wc_canon` and `wc_cli` for the answers of tables: `wc_rows TABLE..`. It tells of each table how many
-//! rows it has, and each row whose answer is another. `rows` says how a row is written.
+//! Asks the public calls of `wc_canon` and `wc_cli` for the answers of tables: `wc_rows TABLE..`. It tells of each
+//! table how many rows it has, and each row whose answer is another. `rows` says how a row is written.
 #![tactic(auto)]
 
 mod acts;
