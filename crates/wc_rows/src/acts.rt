@@ -5,6 +5,8 @@
 //! to the two writers: digits where these are bytes. Behind it may stand some of `calls 1 flushes 1 faults 1 reads 2`:
 //! how often the first writer was called and flushed, the other one called, and the readers that were opened asked.
 
+ghost use Rattle.std.specs.Prelude.{◌≡◌};
+
 use crate::input::{bytes_of, text_of};
 use crate::pieces::{Pace, Pieces, Taker, pace_of, taker_of};
 use anyhow::{Context, Result};
@@ -50,7 +52,9 @@ impl<'a> Opens<Pieces<'a>> for Shelf<'a> {
         None
     }
 
-    fn close(&mut self, input: Option<Device<Pieces<'a>>>) {
+    fn close(&mut self, input: Option<Device<Pieces<'a>>>)
+        ensures { self.new.stocks ≡ self.old.stocks }
+    {
         if let Some(device) = input {
             self.calls = self.calls.saturating_add(device.inner().calls);
         }
