@@ -43,7 +43,7 @@ fn opens(ahead: &mut Lexer<'_>) -> Option<()>
     }
 }
 
-/// A closing parenthesis comes.
+/// A closing parenthesis comes, behind gaps of any kind.
 #[inline(never)]
 fn closes_behind_gaps(ahead: &mut Lexer<'_>) -> Option<()>
     ensures { OnSome result (IsBare ahead.old kinds.Close ahead.new) }

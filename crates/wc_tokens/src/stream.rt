@@ -3,7 +3,8 @@
 ghost use Rattle.std.specs.Prelude.{◌≡◌, ◌≤◌, ℕ, None, IfOk, IfErr, IfSome, OnSome, IsUtf8, length};
 ghost use Rattle.wc_tokens.specs.Standard.Lexemes.{place, longest};
 ghost use Rattle.wc_tokens.specs.Standard.Faults.{FirstFault};
-ghost use Rattle.wc_tokens.specs.Standard.Streams.{unread, followed, GivesPlain, GivesOpened, GivesClosed, IsRead, IsJudged};
+ghost use Rattle.wc_tokens.specs.Standard.Streams.{unread, followed, GivesPlain, GivesOpened, GivesClosed};
+ghost use Rattle.wc_tokens.specs.Standard.Streams.{IsRead, IsJudged};
 ghost use Rattle.wc_tokens.specs.Reading.Stops.{StandsIn};
 ghost use Rattle.wc_tokens.specs.declared.token.TokenKind.{TokenKind as Kind};
 

@@ -251,7 +251,8 @@ go-next n xs d b [] e (Out p) h bottom s q l = absurd (let w =
     q).1).0 in let v = not-true (at-bottom b) w in cc)
 go-next n xs d b (c ∷ cs) e (Out p) h bottom s q l =
     let v = and-true (leaves b p) (not (at-bottom b) && not (is-open p)) q in
-    let shut = shut-means (up c d) p c (not-true (is-open p) (and-true (not (at-bottom b)) (not (is-open p)) v.1).1) in (
+    let shut = shut-means (up c d) p c (not-true (is-open p) (and-true (not (at-bottom b)) (not (is-open p))
+    v.1).1) in (
       c,
       cs,
       refl,

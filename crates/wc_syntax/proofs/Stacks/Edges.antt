@@ -239,10 +239,11 @@ edges-in (suc d) m (Keep o c ∷ s) k i us es (inl (inr h)) = elim h [ ]
 edges-in (suc d) m (Keep o c ∷ s) k i us es (inr h) = absurd (let e = h.0 in cc)
 edges-in (suc d) m ((a · b) ∷ s) k i us es h = on-back (a · b) s k (i
     ∷ us) es (edges-in d m (on a (on b s)) k i us es h)
-edges-in (suc d) m ((a ∣ b) ∷ s) k i us es h = elim (in-split m (edges-of d (on a s)) (edges-of d (on b s)) k i us es h) [
-  | inl q ↦ r-left (on-back a s k (i ∷ us) es (edges-in d m (on a s) k i us es q))
-  | inr q ↦ r-right (on-back b s k (i ∷ us) es (edges-in d m (on b s) k i us es q))
-]
+edges-in (suc d) m ((a ∣ b) ∷ s) k i us es h = elim (in-split m (edges-of d (on a s)) (edges-of d (on b s)) k i
+    us es h) [
+      | inl q ↦ r-left (on-back a s k (i ∷ us) es (edges-in d m (on a s) k i us es q))
+      | inr q ↦ r-right (on-back b s k (i ∷ us) es (edges-in d m (on b s) k i us es q))
+    ]
 edges-in (suc d) m (Many a ∷ s) k i us es h = elim (in-split m (edges-of d s) (edges-of d (on a (Many a
     ∷ s))) k i us es h) [
       | inl q ↦ r-none (edges-in d m s k i us es q)
