@@ -300,16 +300,24 @@ fn deep_texts(alloc: Global, draws: &mut Draws) -> Row {
 /// A row of each shape.
 #[derive(Drop)]
 pub struct Shapes {
+    /// Tiny functions, as codes.
     pub tiny: Row,
+    /// One function of blocks in one another.
     pub nested: Row,
+    /// Functions of tables of branches with thousands of labels.
     pub tables: Row,
+    /// Functions of constants of all lengths.
     pub constants: Row,
+    /// Functions whose integers take five bytes each.
     pub padded: Row,
+    /// Tiny functions, as texts.
     pub tiny_texts: Row,
+    /// Texts of folded instructions, hundreds in one another.
     pub deep_texts: Row,
 }
 
 impl Shapes {
+    /// What the draws decide. A row that wanted memory says so once it is put somewhere.
     pub fn new(alloc: Global, draws: &mut Draws) -> Shapes {
         Shapes {
             tiny: tiny_codes(alloc, draws),

@@ -11,6 +11,7 @@ pub struct Sheet {
 }
 
 impl Sheet {
+    /// An empty sheet. It takes no memory.
     pub fn new(alloc: Global) -> Sheet {
         Sheet {
             bytes: Vec::new(alloc),
@@ -61,14 +62,17 @@ impl Sheet {
         Ok(())
     }
 
+    /// What was put, as far as there was memory.
     pub fn as_slice(&self) -> &[u8] {
         self.bytes.as_slice()
     }
 
+    /// The last byte, where there is one.
     pub fn last_mut(&mut self) -> Option<&mut u8> {
         self.bytes.last_mut()
     }
 
+    /// How many bytes it has.
     pub fn len(&self) -> usize {
         self.bytes.len()
     }
@@ -78,6 +82,7 @@ impl Sheet {
         self.bytes.truncate(length);
     }
 
+    /// Empties it; that memory was refused is forgotten.
     pub fn clear(&mut self) {
         self.bytes.clear();
         self.is_refused = false;
