@@ -6,51 +6,41 @@ ghost use Rattle.wc_print.specs.Standard.Printed.{number, integer, after};
 ghost use Rattle.wc_print.specs.Standard.Printable.{Put};
 ghost use Rattle.wc_print.specs.Writing.Numbers.{sign};
 
+use crate::thousands::{few_digits, last_three_digits};
+
 /// The first index that isn't short: one of more than six digits.
 pub const LIMIT: u32 = 1_000_000;
 
-/// Writes the digits of a number of at most three, from a place on, and says where they end.
+/// Writes the digits of a number of at most three, from a place on, and says where they end. The whole row is written.
 #[inline(always)]
 pub fn write_few_digits(room: &mut [u8], at: usize, n: u32) -> usize
-    requires room { at + 3 ≤ length room.old }
+    requires room { at + 4 ≤ length room.old }
     requires few { n < 1000 }
     ensures within { result ≤ at + 3 }
     ensures bytes { take result room.new ≡ take at room.old ++ decimal n }
 {
-    if n < 10 {
-        room[at] = b'0' + n as u8;
-        return at + 1;
-    }
-    let tens = n / 10;
-    if tens < 10 {
-        room[at] = b'0' + tens as u8;
-        room[at + 1] = b'0' + (n % 10) as u8;
-        return at + 2;
-    }
-    room[at] = b'0' + (tens / 10) as u8;
-    room[at + 1] = b'0' + (tens % 10) as u8;
-    room[at + 2] = b'0' + (n % 10) as u8;
-    at + 3
+    let row = few_digits(n);
+    room[at..at + 4].copy_from_slice(row);
+    at + row[3] as usize
 }
 
-/// Writes the last three digits of a number behind those before them, from a place on, and says where they end.
+/// Writes the last three digits of a number behind those before them, from a place on, and says where they end. The
+/// whole row is written.
 #[inline(always)]
 fn write_three_more(room: &mut [u8], at: usize, n: u64) -> usize
-    requires { at + 3 ≤ length room.old }
+    requires { at + 4 ≤ length room.old }
     ensures end { result ≡ at + 3 }
     ensures bytes { (front : List ℕ) → 1000 ≤ n → take at room.old ≡ front ++ decimal (n / 1000)
         → take result room.new ≡ front ++ decimal n }
 {
-    room[at] = b'0' + (n / 100 % 10) as u8;
-    room[at + 1] = b'0' + (n / 10 % 10) as u8;
-    room[at + 2] = b'0' + (n % 10) as u8;
+    room[at..at + 4].copy_from_slice(last_three_digits((n % 1000) as u32));
     at + 3
 }
 
 /// Writes the digits of a number of at most six, from a place on, and says where they end.
 #[inline(always)]
 pub fn write_digits(room: &mut [u8], at: usize, n: u32) -> usize
-    requires room { at + 6 ≤ length room.old }
+    requires room { at + 7 ≤ length room.old }
     requires few { n < 1000000 }
     ensures within { result ≤ at + 6 }
     ensures bytes { take result room.new ≡ take at room.old ++ decimal n }
@@ -65,7 +55,7 @@ pub fn write_digits(room: &mut [u8], at: usize, n: u32) -> usize
 /// Writes the digits of a number of at most twelve, from a place on, and says where they end.
 #[inline(always)]
 fn write_many_digits(room: &mut [u8], at: usize, n: u64) -> usize
-    requires room { at + 12 ≤ length room.old }
+    requires room { at + 13 ≤ length room.old }
     requires few { n < 1000000000000 }
     ensures within { result ≤ at + 12 }
     ensures bytes { take result room.new ≡ take at room.old ++ decimal n }
@@ -81,7 +71,7 @@ fn write_many_digits(room: &mut [u8], at: usize, n: u64) -> usize
 /// Writes the digits of a number, from a place on, and says where they end.
 #[inline(always)]
 pub fn write_natural(room: &mut [u8], at: usize, n: u64) -> usize
-    requires { at + 21 ≤ length room.old }
+    requires { at + 22 ≤ length room.old }
     ensures within { result ≤ at + 21 }
     ensures bytes { take result room.new ≡ take at room.old ++ decimal n }
 {
@@ -109,7 +99,7 @@ fn write_sign(room: &mut [u8], at: usize, n: i64) -> usize
 /// Writes a number, behind a space.
 #[inline(always)]
 pub fn write_number(room: &mut [u8], at: usize, n: u32) -> usize
-    requires { at + 22 ≤ length room.old }
+    requires { at + 23 ≤ length room.old }
     ensures end { result ≤ at + 22 }
     ensures put { Put (after (number n) ∷ []) (take at room.old) (take result room.new) }
 {
@@ -120,7 +110,7 @@ pub fn write_number(room: &mut [u8], at: usize, n: u32) -> usize
 /// Writes a signed number, behind a space.
 #[inline(never)]
 pub fn write_integer(room: &mut [u8], at: usize, n: i64) -> usize
-    requires { at + 23 ≤ length room.old }
+    requires { at + 24 ≤ length room.old }
     ensures end { result ≤ at + 23 }
     ensures put { Put (after (integer n) ∷ []) (take at room.old) (take result room.new) }
 {
@@ -132,7 +122,7 @@ pub fn write_integer(room: &mut [u8], at: usize, n: i64) -> usize
 /// Writes an index that is short, behind a space.
 #[inline(always)]
 pub fn write_index(room: &mut [u8], at: usize, index: u32) -> usize
-    requires room { at + 7 ≤ length room.old }
+    requires room { at + 8 ≤ length room.old }
     requires few { index < 1000000 }
     ensures end { result ≤ at + 7 }
     ensures put { Put (after (number index) ∷ []) (take at room.old) (take result room.new) }

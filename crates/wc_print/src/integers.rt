@@ -26,7 +26,7 @@ fn align_bytes(align: u32) -> u32
 /// Writes an offset, unless it is zero, and says where it ends.
 #[inline(always)]
 fn write_offset(page: &mut [u8; PAGE], at: usize, offset: u32) -> usize
-    requires { at + 29 ≤ 512 }
+    requires { at + 30 ≤ 512 }
     ensures end { result ≤ at + 29 }
     ensures put { Put (offset_items offset) (take at page.old) (take result page.new) }
 {

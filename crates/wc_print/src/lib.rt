@@ -22,6 +22,7 @@ mod segments;
 mod short;
 mod sink;
 mod strings;
+mod thousands;
 mod types;
 
 pub use laws::{printed_lexes, printed_values};

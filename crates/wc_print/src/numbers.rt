@@ -12,7 +12,7 @@ use crate::sink::Sink;
 fn put_digits<S: Sink>(out: &mut S, n: u32)
     ensures { Puts S.Has (after (number n) ∷ []) out.old out.new }
 {
-    let mut room = [0; 22];
+    let mut room = [0; 23];
     let end = write_number(&mut room, 0, n);
     out.put(&room[..end]);
 }
@@ -32,7 +32,7 @@ pub fn put_number<S: Sink>(out: &mut S, n: u32)
 pub fn put_integer<S: Sink>(out: &mut S, n: i64)
     ensures { Puts S.Has (after (integer n) ∷ []) out.old out.new }
 {
-    let mut room = [0; 23];
+    let mut room = [0; 24];
     let end = write_integer(&mut room, 0, n);
     out.put(&room[..end]);
 }

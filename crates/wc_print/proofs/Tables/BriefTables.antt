@@ -92,7 +92,7 @@ op-told op r h =
 -- ---- operands, computed
 
 -- the digits of a number of at most three
-few : ℕ → List ℕ
+unfoldable pub few : ℕ → List ℕ
 few n =
     if nat_lt n 10 then (48 + n) ∷ []
     else (if nat_lt n 100 then (48 + n / 10) ∷ (48 + n % 10) ∷ []
@@ -108,7 +108,7 @@ three n ge lt =
     decimal_step n (omega (arith, ge)) (omega (arith, lt))
     ∙ ap (λ (x : List ℕ). x ++ (48 + n % 10) ∷ []) (two (n / 10) (omega (arith, ge)) (omega (arith, lt)))
 
-few-is : (n : ℕ) → n < 1000 → few n ≡ decimal n
+pub few-is : (n : ℕ) → n < 1000 → few n ≡ decimal n
 unfolding few
 few-is n low = elim (cases_lt n 10) [
   | inl lt ↦ rw (lt-ltb n 10 lt) (sym (decimal_digit n lt))

@@ -1,8 +1,8 @@
 -- Lines as they are written on a page.
-use Rattle.std.proofs.Common.{◌≡◌, ◌≢◌, ℕ, suc, ◌+◌, ◌/◌, ◌%◌, ◌<◌, ◌≤◌, ◌^◌, List, [], ◌∷◌, ◌++◌, length, set, take}
-use Rattle.std.proofs.Common.{drop, refl, sym, ap, ◌∙◌, arith, append_assoc, codes}
+use Rattle.std.proofs.Common.{◌≡◌, ◌≢◌, ℕ, ◌+◌, ◌/◌, ◌%◌, ◌<◌, ◌≤◌, ◌^◌, List, [], ◌∷◌, ◌++◌, length, set, take}
+use Rattle.std.proofs.Common.{drop, refl, ap, ◌∙◌, arith, append_assoc, codes}
 use Rattle.std.specs.Fmt.{decimal}
-use Rattle.std.proofs.lemmas.Fmt.{decimal_digit, decimal_step}
+use Rattle.std.proofs.lemmas.Fmt.{decimal_step}
 use Rattle.std.proofs.lemmas.List.{append-nil, length-append, length-take-le, take_at, take-append-le}
 use Rattle.std.proofs.lemmas.List.Edits.{sets, sets-eq}
 use Rattle.std.proofs.Math.Seq.{take-append-add}
@@ -10,6 +10,7 @@ use Rattle.wc_tokens.specs.Standard.Lexemes.{is_idchar}
 use Rattle.wc_print.specs.Standard.Printed.{Printed, below, printed}
 use Rattle.wc_print.specs.Standard.Printable.{IsSpelled, Put}
 use Rattle.wc_print.specs.Standard.Lines.{offset_items, align_items, bytes_of}
+use Rattle.wc_print.specs.Writing.Numbers.{three_digits}
 use Rattle.wc_print.proofs.Writing.Putting.{text}
 use Rattle.wc_print.proofs.Writing.Instructions.{unequal, bytes-few}
 
@@ -27,40 +28,13 @@ pub one-written : (page : List ℕ) (at a : ℕ) → at + 1 ≤ length page → 
     ∷ []
 one-written page at a fits = sets-kept page (a ∷ []) at (at + 1) (omega arith) fits
 
-two-written : (page : List ℕ) (at i a b : ℕ) → i ≡ suc at → at + 2 ≤ length page
-    → take (at + 2) (set (set page at a) i b) ≡ take at page ++ a ∷ b ∷ []
-two-written page at i a b is fits = rw is (sets-kept page (a ∷ b ∷ []) at (at + 2) (omega arith) fits)
-
-three-written : (page : List ℕ) (at i j a b c : ℕ) → i ≡ suc at → j ≡ suc (suc at) → at + 3 ≤ length page
-    → take (at + 3) (set (set (set page at a) i b) j c) ≡ take at page ++ a ∷ b ∷ c ∷ []
-three-written page at i j a b c is js fits = rw (
-  is,
-  js,
-) (sets-kept page (a ∷ b ∷ c ∷ []) at (at + 3) (omega arith) fits)
-
-pub one-digit : (page : List ℕ) (at n : ℕ) → at + 1 ≤ length page → n < 10
-    → take (at + 1) (set page at (48 + n)) ≡ take at page ++ decimal n
-one-digit page at n fits lt =
-    one-written page at (48 + n) fits ∙ ap (λ (x : List ℕ). take at page ++ x) (sym (decimal_digit n lt))
-
-pub two-digits : (page : List ℕ) (at n : ℕ) → at + 2 ≤ length page → 10 ≤ n → n / 10 < 10 → n < 1000
-    → take (at + 2) (set (set page at (48 + n / 10)) (at + 1) (48 + n % 10)) ≡ take at page ++ decimal n
-two-digits page at n fits ge lt low =
-    let is : decimal n ≡ (48 + n / 10) ∷ (48 + n % 10) ∷ [] =
-    decimal_step n ge (omega (arith, low)) ∙ ap (λ (x : List ℕ). x ++ (48 + n % 10) ∷ []) (decimal_digit (n / 10) lt) in
-    two-written page at (at + 1) _ _ (omega arith) fits ∙ ap (λ (x : List ℕ). take at page ++ x) (sym is)
-
-pub three-digits : (page : List ℕ) (at n : ℕ) → at + 3 ≤ length page → 10 ≤ n / 10 → n < 1000
-    → take (at + 3) (set (set (set page at (48 + n / 10 / 10)) (at + 1) (48 + n / 10 % 10)) (at + 2) (48 + n % 10))
-    ≡ take at page ++ decimal n
-three-digits page at n fits ge low =
-    let first : decimal (n / 10) ≡ (48 + n / 10 / 10) ∷ (48 + n / 10 % 10) ∷ [] =
-    decimal_step (n / 10) ge (omega (arith, low))
-    ∙ ap (λ (x : List ℕ). x ++ (48 + n / 10 % 10) ∷ []) (decimal_digit (n / 10 / 10) (omega (arith, low))) in
-    let is : decimal n ≡ (48 + n / 10 / 10) ∷ (48 + n / 10 % 10) ∷ (48 + n % 10) ∷ [] =
-    decimal_step n (omega (arith, ge)) (omega (arith, low)) ∙ ap (λ (x : List ℕ). x ++ (48 + n % 10) ∷ []) first in
-    three-written page at (at + 1) (at + 2) _ _ _ (omega arith) (omega arith) fits
-    ∙ ap (λ (x : List ℕ). take at page ++ x) (sym is)
+-- the last three digits of a number
+last-three : (n : ℕ) → three_digits (n % 1000) ≡ (48 + n / 100 % 10) ∷ (48 + n / 10 % 10) ∷ (48 + n % 10) ∷ []
+last-three n =
+    let first : n % 1000 / 100 ≡ n / 100 % 10 = omega arith in
+    let second : n % 1000 / 10 % 10 ≡ n / 10 % 10 = omega arith in
+    let third : n % 1000 % 10 ≡ n % 10 = omega arith in
+    rw (first, second, third) refl
 
 hundreds : (n : ℕ) → n / 10 / 10 ≡ n / 100
 hundreds n = omega arith
@@ -69,19 +43,16 @@ thousands : (n : ℕ) → n / 100 / 10 ≡ n / 1000
 thousands n = omega arith
 
 -- three more digits, behind those that are written
-pub three-more : (page front : List ℕ) (at n : ℕ) → at + 3 ≤ length page → 1000 ≤ n → n < 2 ^ 64
-    → take at page ≡ front ++ decimal (n / 1000)
-    → take (at + 3) (set (set (set page at (48 + n / 100 % 10)) (at + 1) (48 + n / 10 % 10)) (at + 2) (48 + n % 10))
-    ≡ front ++ decimal n
-three-more page front at n fits ge low written =
+pub three-more : (page front old : List ℕ) (n : ℕ) → 1000 ≤ n → n < 2 ^ 64 → old ≡ front ++ decimal (n / 1000)
+    → page ≡ old ++ three_digits (n % 1000) → page ≡ front ++ decimal n
+three-more page front old n ge low written more =
     let first : decimal (n / 100) ≡ decimal (n / 1000) ++ (48 + n / 100 % 10) ∷ [] =
     rw (thousands n) at (decimal_step (n / 100) (omega (arith, ge)) (omega (arith, low))) in
     let second : decimal (n / 10) ≡ decimal (n / 100) ++ (48 + n / 10 % 10) ∷ [] =
     rw (hundreds n) at (decimal_step (n / 10) (omega (arith, ge)) (omega (arith, low))) in
     let third : decimal n ≡ decimal (n / 10) ++ (48 + n % 10) ∷ [] =
     decimal_step n (omega (arith, ge)) (omega (arith, low)) in
-    three-written page at (at + 1) (at + 2) _ _ _ (omega arith) (omega arith) fits
-    ∙ rw (written, third, second, first) (simp append_assoc)
+    more ∙ rw (last-three n, written, third, second, first) (simp append_assoc)
 
 -- the numbers before the last six digits, and before the last nine
 pub millions : (n : ℕ) → n / 1000 / 1000 ≡ n / 1000000

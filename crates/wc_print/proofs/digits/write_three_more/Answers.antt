@@ -1,7 +1,10 @@
-use Rattle.std.proofs.Common.{arith}
-use Rattle.wc_print.proofs.Writing.Paging.{three-more}
+use Rattle.std.proofs.Common.{◌∙◌, ◌++◌, take, ap, arith}
+use Rattle.wc_print.proofs.Writing.Paging.{row-kept, three-more}
 use Rattle.wc_print.proofs.digits.write_three_more.Goals as goal
 
 pub returns-clause-bytes : goal.returns-clause-bytes
 returns-clause-bytes c = λ front ge written.
-    three-more c.args.room.now front c.args.at c.args.n (omega arith) ge c.ranges.n.fits written
+    three-more _ front _ c.args.n ge c.ranges.n.fits written
+    (row-kept c.args.room.now c.last_three_digits.result.now _ _ c.args.at 3 4 (omega arith) (omega arith)
+    (omega arith) c.copy_from_slice.ensures.after
+    ∙ ap (λ x. take c.args.at c.args.room.now ++ x) c.last_three_digits.ensures)
