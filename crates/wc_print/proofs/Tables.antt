@@ -1,5 +1,6 @@
--- The tables of lines, operands, digits and escapes.
+-- The tables of lines, operands, digits and escapes, and what rows of a table pass.
 pub mod BriefLines
 pub mod BriefTables
 pub mod DigitTables
 pub mod EscapeTable
+pub mod RowTests

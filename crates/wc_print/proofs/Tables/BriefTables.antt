@@ -1,7 +1,7 @@
 -- Brief entries as lines: the tables of lines and of operands.
 use Rattle.std.proofs.Common.{◌≡◌, ℕ, zero, suc, ◌+◌, ◌-◌, ◌/◌, ◌%◌, ◌<◌, ◌≤◌, ◌==◌, ℤ, pos, negsuc, ◌-ℤ◌}
 use Rattle.std.proofs.Common.{Bool, true, false, ◌&&◌, List, [], ◌∷◌, ◌++◌, length, get_or, nat_lt, nat_le, codes}
-use Rattle.std.proofs.Common.{inl, inr, refl, sym, ap, ◌∙◌, arith, add-zero, zero-add}
+use Rattle.std.proofs.Common.{inl, inr, refl, sym, ap, ◌∙◌, arith, zero-add}
 use Rattle.std.specs.Prelude.{slice_index, if◌then◌else◌}
 use Rattle.std.specs.Fmt.{decimal, signed_decimal}
 use Rattle.std.specs.Str.{bytes_eq}
@@ -24,7 +24,7 @@ use Rattle.wc_print.specs.declared.operands.TheConstants.{TEXTS}
 use Rattle.wc_print.specs.Standard.Printed.{word, part, after, below, printed}
 use Rattle.wc_print.specs.Standard.Lines.{told}
 use Rattle.wc_print.specs.Writing.Briefly.{told_text, operand_items, operand_kind, Tells, TellsMeant, IsLine}
-use Rattle.wc_print.proofs.Tables.EscapeTable.{both-first, both-second, row-test}
+use Rattle.wc_print.proofs.Tables.RowTests.{both-first, both-second, each_row, row-passes, row-test}
 
 -- ---- lines
 
@@ -57,30 +57,18 @@ meant-is Float b r e = tt
 meant-is Unknown b r e =
     ((λ is. tells-is (codes "else") 0 r (rw is at e)), (λ is. tells-is (codes "end") 0 r (rw is at e)))
 
--- so does each of these, the first one for this byte
-all_meant : ℕ → List (List ℕ) → Bool
-all_meant b [] = true
-all_meant b (r ∷ rs) = meant (meaning b) b r && all_meant (suc b) rs
-
-row-meant : (rs : List (List ℕ)) (b i : ℕ) → all_meant b rs ≡ true → i < length rs
-    → meant (meaning (b + i)) (b + i) (get_or rs i []) ≡ true
-unfolding all_meant
-row-meant [] b i e lt = absurd (omega arith)
-row-meant (r ∷ rs) b zero e lt = rw add-zero (both-first _ _ e)
-row-meant (r ∷ rs) b (suc i) e lt =
-    let short : i < length rs = omega (arith, lt) in
-    let same : suc b + i ≡ b + suc i = omega arith in
-    rw same at (row-meant rs (suc b) i (both-second _ _ e) short)
-
-lines-meant : all_meant 0 LINES ≡ true
-unfolding meaning all_meant meant tells
+lines-meant : each_row (λ b r. meant (meaning b) b r) 0 LINES ≡ true
+unfolding meaning each_row meant tells
 lines-meant = refl
+
+row-meant : (b : ℕ) → b < 256 → meant (meaning b) b (get_or LINES b []) ≡ true
+row-meant b lt = rw zero-add at (row-passes (λ b r. meant (meaning b) b r) [] LINES 0 b lines-meant lt)
 
 pub line-is : (b : ℕ) → b < 256 → IsLine b (get_or LINES b [])
 line-is b lt = record {
-  meant = meant-is (meaning b) b (get_or LINES b []) (rw zero-add at (row-meant LINES 0 b lines-meant lt));
-  short = grind (arith, nat_tests, row-test (λ r. nat_le (slice_index r 23) 22) LINES b refl lt);
-  kind = grind (arith, nat_tests, row-test (λ r. nat_lt (slice_index r 22) 4) LINES b refl lt);
+  meant = meant-is (meaning b) b (get_or LINES b []) (row-meant b lt);
+  short = grind (arith, nat_tests, row-test (λ r. nat_le (slice_index r 23) 22) [] LINES b refl lt);
+  kind = grind (arith, nat_tests, row-test (λ r. nat_lt (slice_index r 22) 4) [] LINES b refl lt);
 }
 
 -- the row at an instruction's opcode
@@ -159,67 +147,43 @@ operand-is (suc (suc (suc k))) n lt = offset-is (n == 0) n lt
 
 -- ---- operands
 
--- each row tells the operand, the first one that of this number
-all_texts : ℕ → ℕ → List (List ℕ) → Bool
-all_texts kind n [] = true
-all_texts kind n (t ∷ ts) = bytes_eq (told_text t) (operand_bytes kind n) && all_texts kind (suc n) ts
+-- the row tells the operand of this number
+tells_operand : ℕ → ℕ → List ℕ → Bool
+tells_operand kind n t = bytes_eq (told_text t) (operand_bytes kind n)
 
-text-told : (kind : ℕ) (ts : List (List ℕ)) (n i : ℕ) → all_texts kind n ts ≡ true → i < length ts
-    → told_text (get_or ts i []) ≡ operand_bytes kind (n + i)
-unfolding all_texts
-text-told kind [] n i e lt = absurd (omega arith)
-text-told kind (t ∷ ts) n zero e lt =
-    rw add-zero ((bytes_eq-Decides (told_text t) (operand_bytes kind n)).0 (both-first _ _ e))
-text-told kind (t ∷ ts) n (suc i) e lt =
-    let short : i < length ts = omega (arith, lt) in
-    let same : suc n + i ≡ n + suc i = omega arith in
-    text-told kind ts (suc n) i (both-second _ _ e) short ∙ ap (λ (x : ℕ). operand_bytes kind x) same
+-- so do the rows of a kind
+tells_operands : ℕ → List (List ℕ) → Bool
+tells_operands kind ts = each_row (tells_operand kind) 0 ts
 
--- so do the rows of each kind, the first of this kind
-all_kinds : ℕ → List (List (List ℕ)) → Bool
-all_kinds kind [] = true
-all_kinds kind (ts ∷ more) = all_texts kind 0 ts && all_kinds (suc kind) more
-
-kind-told : (tss : List (List (List ℕ))) (kind i : ℕ) → all_kinds kind tss ≡ true → i < length tss
-    → all_texts (kind + i) 0 (get_or tss i []) ≡ true
-unfolding all_kinds
-kind-told [] kind i e lt = absurd (omega arith)
-kind-told (ts ∷ more) kind zero e lt = rw add-zero (both-first _ _ e)
-kind-told (ts ∷ more) kind (suc i) e lt =
-    let short : i < length more = omega (arith, lt) in
-    let same : suc kind + i ≡ kind + suc i = omega arith in
-    rw same at (kind-told more (suc kind) i (both-second _ _ e) short)
-
-texts-told : all_kinds 0 TEXTS ≡ true
-unfolding all_kinds all_texts operand_bytes few signed
+texts-told : each_row tells_operands 0 TEXTS ≡ true
+unfolding each_row tells_operands tells_operand operand_bytes few signed
 texts-told = refl
 
--- what each list of rows is, one of them is
-kind-test : (test : List (List ℕ) → Bool) (tss : List (List (List ℕ))) (i : ℕ) → list_all test tss ≡ true
-    → i < length tss
-    → test (get_or tss i []) ≡ true
-kind-test test [] i e lt = absurd (omega arith)
-kind-test test (ts ∷ tss) zero e lt = both-first (test ts) _ e
-kind-test test (ts ∷ tss) (suc i) e lt = kind-test test tss i (both-second (test ts) _ e) (omega (arith, lt))
-
 pub kind-sized : (kind : ℕ) → kind < 4 → length (get_or TEXTS kind []) ≡ 128
-kind-sized kind lt = grind (arith, nat_tests, kind-test (λ ts. length ts == 128) TEXTS kind refl lt)
+kind-sized kind lt = grind (arith, nat_tests, row-test (λ ts. length ts == 128) [] TEXTS kind refl lt)
 
 abbrev text_of : ℕ → ℕ → List ℕ
 text_of kind n = get_or (get_or TEXTS kind []) n []
 
-pub operand-told : (kind n : ℕ) → kind < 4 → n < 128 → told_text (text_of kind n) ≡ printed (operand_items kind n)
-operand-told kind n lt low =
+text-told : (kind n : ℕ) → kind < 4 → n < 128 → tells_operand kind n (text_of kind n) ≡ true
+unfolding tells_operands
+text-told kind n lt low =
     let within : n < length (get_or TEXTS kind []) = rw (kind-sized kind lt) low in
-    rw zero-add at
-    (text-told kind (get_or TEXTS kind []) 0 n (rw zero-add at (kind-told TEXTS 0 kind texts-told lt)) within)
+    let tell : tells_operands kind (get_or TEXTS kind []) ≡ true =
+    rw zero-add at (row-passes tells_operands [] TEXTS 0 kind texts-told (omega (arith, lt))) in
+    rw zero-add at (row-passes (tells_operand kind) [] (get_or TEXTS kind []) 0 n tell within)
+
+pub operand-told : (kind n : ℕ) → kind < 4 → n < 128 → told_text (text_of kind n) ≡ printed (operand_items kind n)
+unfolding tells_operand
+operand-told kind n lt low =
+    (bytes_eq-Decides (told_text (text_of kind n)) (operand_bytes kind n)).0 (text-told kind n lt low)
     ∙ operand-is kind n low
 
 each-text : (test : List ℕ → Bool) → list_all (λ ts. list_all test ts) TEXTS ≡ true → (kind n : ℕ) → kind < 4 → n < 128
     → test (text_of kind n) ≡ true
 each-text test e kind n lt low =
     let within : n < length (get_or TEXTS kind []) = rw (kind-sized kind lt) low in
-    row-test test (get_or TEXTS kind []) n (kind-test (λ ts. list_all test ts) TEXTS kind e lt) within
+    row-test test [] (get_or TEXTS kind []) n (row-test (λ ts. list_all test ts) [] TEXTS kind e lt) within
 
 pub operand-short : (kind n : ℕ) → kind < 4 → n < 128 → slice_index (text_of kind n) 15 ≤ 15
 operand-short kind n lt low = grind (arith, nat_tests, each-text (λ t. nat_le (slice_index t 15) 15) refl kind n lt low)

@@ -1,9 +1,8 @@
 -- The table of what stands for each byte in a string.
-use Rattle.std.proofs.Common.{◌≡◌, ℕ, zero, suc, ◌+◌, ◌<◌, ◌≤◌, ◌==◌, Bool, true, false, ◌&&◌, List, [], ◌∷◌, ◌++◌}
+use Rattle.std.proofs.Common.{◌≡◌, ℕ, suc, ◌+◌, ◌<◌, ◌≤◌, ◌==◌, true, List, [], ◌∷◌, ◌++◌}
 use Rattle.std.proofs.Common.{length, get_or, take, drop, set, nat_le}
-use Rattle.std.proofs.Common.{refl, ap, ◌∙◌, arith, add-zero, zero-add}
+use Rattle.std.proofs.Common.{refl, ap, ◌∙◌, arith, zero-add}
 use Rattle.std.specs.Str.{bytes_eq}
-use Rattle.std.specs.List.{list_all}
 use Rattle.std.proofs.Math.Seq.{take-append-add}
 use Rattle.std.proofs.lemmas.Bool.Decides.{nat_tests}
 use Rattle.std.proofs.lemmas.List.Edits.{sets, sets-eq}
@@ -11,56 +10,28 @@ use Rattle.std.proofs.lemmas.List.{length-take-le, length-append, take-append-le
 use Rattle.std.proofs.lemmas.Slice.Eq.{bytes_eq-Decides}
 use Rattle.wc_print.specs.declared.escapes.TheConstants.{ESCAPES}
 use Rattle.wc_print.specs.Standard.Printed.{escaped}
+use Rattle.wc_print.proofs.Tables.RowTests.{each_row, row-passes, row-test}
 
 -- so many bytes of a row as its last byte says
 abbrev pub told : List ℕ → List ℕ
 told row = take (get_or row 3 0) row
 
--- each row tells what stands for its byte, the first one for this byte
-all_told : ℕ → List (List ℕ) → Bool
-all_told b [] = true
-all_told b (r ∷ rs) = bytes_eq (told r) (escaped b) && all_told (suc b) rs
-
-pub both-first : (a b : Bool) → (a && b) ≡ true → a ≡ true
-both-first true b e = refl
-both-first false b e = absurd cc
-
-pub both-second : (a b : Bool) → (a && b) ≡ true → b ≡ true
-both-second true b e = e
-both-second false b e = absurd cc
-
-row-told : (rs : List (List ℕ)) (b i : ℕ) → all_told b rs ≡ true → i < length rs
-    → told (get_or rs i []) ≡ escaped (b + i)
-unfolding all_told
-row-told [] b i e lt = absurd (omega arith)
-row-told (r ∷ rs) b zero e lt =
-    rw add-zero ((bytes_eq-Decides (told r) (escaped b)).0 (both-first _ _ e))
-row-told (r ∷ rs) b (suc i) e lt =
-    let short : i < length rs = omega (arith, lt) in
-    let h : told (get_or rs i []) ≡ escaped (suc b + i) = row-told rs (suc b) i (both-second _ _ e) short in
-    let same : suc b + i ≡ b + suc i = omega arith in
-    h ∙ ap escaped same
-
-table-told : all_told 0 ESCAPES ≡ true
-unfolding all_told
+table-told : each_row (λ b r. bytes_eq (told r) (escaped b)) 0 ESCAPES ≡ true
+unfolding each_row
 table-told = refl
 
 pub escape-told : (b : ℕ) → b < 256 → told (get_or ESCAPES b []) ≡ escaped b
-escape-told b lt = row-told ESCAPES 0 b table-told lt ∙ ap escaped (zero-add b)
-
--- what each row is, one of them is
-pub row-test : (test : List ℕ → Bool) (rs : List (List ℕ)) (i : ℕ) → list_all test rs ≡ true → i < length rs
-    → test (get_or rs i []) ≡ true
-row-test test [] i e lt = absurd (omega arith)
-row-test test (r ∷ rs) zero e lt = both-first (test r) _ e
-row-test test (r ∷ rs) (suc i) e lt = row-test test rs i (both-second (test r) _ e) (omega (arith, lt))
+escape-told b lt =
+    let passes : bytes_eq (told (get_or ESCAPES b [])) (escaped b) ≡ true =
+    rw zero-add at (row-passes (λ b r. bytes_eq (told r) (escaped b)) [] ESCAPES 0 b table-told lt) in
+    (bytes_eq-Decides (told (get_or ESCAPES b [])) (escaped b)).0 passes
 
 -- three bytes of a row at most are told
 pub escape-short : (b : ℕ) → b < 256 → get_or (get_or ESCAPES b []) 3 0 ≤ 3
-escape-short b lt = grind (arith, nat_tests, row-test (λ r. nat_le (get_or r 3 0) 3) ESCAPES b refl lt)
+escape-short b lt = grind (arith, nat_tests, row-test (λ r. nat_le (get_or r 3 0) 3) [] ESCAPES b refl lt)
 
 pub escape-sized : (b : ℕ) → b < 256 → length (get_or ESCAPES b []) ≡ 4
-escape-sized b lt = grind (arith, nat_tests, row-test (λ r. length r == 4) ESCAPES b refl lt)
+escape-sized b lt = grind (arith, nat_tests, row-test (λ r. length r == 4) [] ESCAPES b refl lt)
 
 row-kept : (room : List ℕ) (a b c d at i j k n : ℕ) → i ≡ suc at → j ≡ suc (suc at) → k ≡ suc (suc (suc at))
     → at + 4 ≤ length room → n ≤ 3
