@@ -2,7 +2,6 @@
 
 ghost use Rattle.std.specs.Prelude.{◌<◌, ◌≤◌};
 
-use std::process::Abort;
 use wc_leb128::{
     Signed, Step, Unsigned, shortest_s, shortest_u, signed_at, u32_front, unsigned_at,
 };
@@ -10,32 +9,60 @@ use wc_leb128::{
 /// Bytes, and the answer to the last of them.
 type Table<T> = &'static [(&'static [u8], Step<T>)];
 
-fn unsigned<const N: u32>(rt: &impl Abort, table: Table<u64>)
+/// The answer to the last of the bytes.
+fn unsigned_answer<const N: u32>(bytes: &[u8]) -> Step<u64>
     requires some_bits { 0 < N }
     requires fits_u64 { N ≤ 64 }
 {
-    for (bytes, want) in table {
-        let mut integer = Unsigned::<N>::new();
-        let mut answer = Step::More;
-        for b in *bytes {
-            answer = integer.push(*b);
-        }
-        assert_eq!(rt; answer, *want, "u{N} {bytes:?}");
+    let mut integer = Unsigned::<N>::new();
+    let mut answer = Step::More;
+    for byte in bytes {
+        answer = integer.push(*byte);
     }
+    answer
 }
 
-fn signed<const N: u32>(rt: &impl Abort, table: Table<i64>)
+/// How many rows go as they say, one after the other.
+fn unsigned<const N: u32>(table: Table<u64>) -> usize
+    requires some_bits { 0 < N }
+    requires fits_u64 { N ≤ 64 }
+{
+    let mut done = 0usize;
+    for (bytes, want) in table {
+        if unsigned_answer::<N>(*bytes) != *want {
+            break;
+        }
+        done = done.saturating_add(1);
+    }
+    done
+}
+
+/// The answer to the last of the bytes.
+fn signed_answer<const N: u32>(bytes: &[u8]) -> Step<i64>
     requires some_bits { 0 < N }
     requires fits_i64 { N ≤ 64 }
 {
-    for (bytes, want) in table {
-        let mut integer = Signed::<N>::new();
-        let mut answer = Step::More;
-        for b in *bytes {
-            answer = integer.push(*b);
-        }
-        assert_eq!(rt; answer, *want, "s{N} {bytes:?}");
+    let mut integer = Signed::<N>::new();
+    let mut answer = Step::More;
+    for byte in bytes {
+        answer = integer.push(*byte);
     }
+    answer
+}
+
+/// How many rows go as they say, one after the other.
+fn signed<const N: u32>(table: Table<i64>) -> usize
+    requires some_bits { 0 < N }
+    requires fits_i64 { N ≤ 64 }
+{
+    let mut done = 0usize;
+    for (bytes, want) in table {
+        if signed_answer::<N>(*bytes) != *want {
+            break;
+        }
+        done = done.saturating_add(1);
+    }
+    done
 }
 
 static U1: [(&[u8], Step<u64>); 3] = [
@@ -83,11 +110,11 @@ static U64: [(&[u8], Step<u64>); 3] = [
 
 #[test]
 fn unsigned_integers(rt: HostRuntime) {
-    unsigned::<1>(&rt, &U1);
-    unsigned::<7>(&rt, &U7);
-    unsigned::<8>(&rt, &U8);
-    unsigned::<32>(&rt, &U32);
-    unsigned::<64>(&rt, &U64);
+    assert_eq!(rt; unsigned::<1>(&U1), U1.len());
+    assert_eq!(rt; unsigned::<7>(&U7), U7.len());
+    assert_eq!(rt; unsigned::<8>(&U8), U8.len());
+    assert_eq!(rt; unsigned::<32>(&U32), U32.len());
+    assert_eq!(rt; unsigned::<64>(&U64), U64.len());
 }
 
 static S1: [(&[u8], Step<i64>); 4] = [
@@ -150,12 +177,12 @@ static S64: [(&[u8], Step<i64>); 5] = [
 
 #[test]
 fn signed_integers(rt: HostRuntime) {
-    signed::<1>(&rt, &S1);
-    signed::<7>(&rt, &S7);
-    signed::<8>(&rt, &S8);
-    signed::<32>(&rt, &S32);
-    signed::<33>(&rt, &S33);
-    signed::<64>(&rt, &S64);
+    assert_eq!(rt; signed::<1>(&S1), S1.len());
+    assert_eq!(rt; signed::<7>(&S7), S7.len());
+    assert_eq!(rt; signed::<8>(&S8), S8.len());
+    assert_eq!(rt; signed::<32>(&S32), S32.len());
+    assert_eq!(rt; signed::<33>(&S33), S33.len());
+    assert_eq!(rt; signed::<64>(&S64), S64.len());
 }
 
 static SHORTEST_UNSIGNED: [(u64, &[u8]); 6] = [
@@ -192,35 +219,67 @@ static SHORTEST_SIGNED: [(i64, &[u8]); 10] = [
     ),
 ];
 
+/// How many rows go as they say, one after the other.
+fn shortest_unsigned() -> usize {
+    let mut done = 0usize;
+    for (n, want) in &SHORTEST_UNSIGNED {
+        if shortest_u(*n).as_slice() != *want {
+            break;
+        }
+        done = done.saturating_add(1);
+    }
+    done
+}
+
+/// How many rows go as they say, one after the other.
+fn shortest_signed() -> usize {
+    let mut done = 0usize;
+    for (n, want) in &SHORTEST_SIGNED {
+        if shortest_s(*n).as_slice() != *want {
+            break;
+        }
+        done = done.saturating_add(1);
+    }
+    done
+}
+
 #[test]
 fn shortest_spellings(rt: HostRuntime) {
-    for (n, want) in &SHORTEST_UNSIGNED {
-        assert_eq!(rt; shortest_u(*n).as_slice(), *want, "{n}");
-    }
-    for (n, want) in &SHORTEST_SIGNED {
-        assert_eq!(rt; shortest_s(*n).as_slice(), *want, "{n}");
-    }
+    assert_eq!(rt; shortest_unsigned(), SHORTEST_UNSIGNED.len());
+    assert_eq!(rt; shortest_signed(), SHORTEST_SIGNED.len());
 }
 
 /// Bytes, and the integer that they begin with and what follows it.
 type Fronts<T> = &'static [(&'static [u8], Option<(T, &'static [u8])>)];
 
-fn unsigned_fronts<const N: u32>(rt: &impl Abort, table: Fronts<u64>)
+/// How many rows go as they say, one after the other.
+fn unsigned_fronts<const N: u32>(table: Fronts<u64>) -> usize
     requires some_bits { 0 < N }
     requires fits_u64 { N ≤ 64 }
 {
+    let mut done = 0usize;
     for (bytes, want) in table {
-        assert_eq!(rt; unsigned_at::<N>(*bytes), *want, "u{N} {bytes:?}");
+        if unsigned_at::<N>(*bytes) != *want {
+            break;
+        }
+        done = done.saturating_add(1);
     }
+    done
 }
 
-fn signed_fronts<const N: u32>(rt: &impl Abort, table: Fronts<i64>)
+/// How many rows go as they say, one after the other.
+fn signed_fronts<const N: u32>(table: Fronts<i64>) -> usize
     requires some_bits { 0 < N }
     requires fits_i64 { N ≤ 64 }
 {
+    let mut done = 0usize;
     for (bytes, want) in table {
-        assert_eq!(rt; signed_at::<N>(*bytes), *want, "s{N} {bytes:?}");
+        if signed_at::<N>(*bytes) != *want {
+            break;
+        }
+        done = done.saturating_add(1);
     }
+    done
 }
 
 static FRONTS_U1: [(&[u8], Option<(u64, &[u8])>); 3] = [
@@ -259,17 +318,26 @@ static FRONTS_U64: [(&[u8], Option<(u64, &[u8])>); 4] = [
 
 #[test]
 fn unsigned_at_the_front(rt: HostRuntime) {
-    unsigned_fronts::<1>(&rt, &FRONTS_U1);
-    unsigned_fronts::<32>(&rt, &FRONTS_U32);
-    unsigned_fronts::<64>(&rt, &FRONTS_U64);
+    assert_eq!(rt; unsigned_fronts::<1>(&FRONTS_U1), FRONTS_U1.len());
+    assert_eq!(rt; unsigned_fronts::<32>(&FRONTS_U32), FRONTS_U32.len());
+    assert_eq!(rt; unsigned_fronts::<64>(&FRONTS_U64), FRONTS_U64.len());
+}
+
+/// How many rows go as they say, one after the other.
+fn u32_fronts() -> usize {
+    let mut done = 0usize;
+    for (bytes, want) in &FRONTS_U32 {
+        if u32_front(*bytes).map(|(n, rest)| (u64::from(n), rest)) != *want {
+            break;
+        }
+        done = done.saturating_add(1);
+    }
+    done
 }
 
 #[test]
 fn u32_at_the_front(rt: HostRuntime) {
-    for (bytes, want) in &FRONTS_U32 {
-        let found = u32_front(*bytes).map(|(n, rest)| (u64::from(n), rest));
-        assert_eq!(rt; found, *want, "{bytes:?}");
-    }
+    assert_eq!(rt; u32_fronts(), FRONTS_U32.len());
 }
 
 static FRONTS_S1: [(&[u8], Option<(i64, &[u8])>); 4] = [
@@ -315,7 +383,7 @@ static FRONTS_S64: [(&[u8], Option<(i64, &[u8])>); 5] = [
 
 #[test]
 fn signed_at_the_front(rt: HostRuntime) {
-    signed_fronts::<1>(&rt, &FRONTS_S1);
-    signed_fronts::<32>(&rt, &FRONTS_S32);
-    signed_fronts::<64>(&rt, &FRONTS_S64);
+    assert_eq!(rt; signed_fronts::<1>(&FRONTS_S1), FRONTS_S1.len());
+    assert_eq!(rt; signed_fronts::<32>(&FRONTS_S32), FRONTS_S32.len());
+    assert_eq!(rt; signed_fronts::<64>(&FRONTS_S64), FRONTS_S64.len());
 }

@@ -1,6 +1,6 @@
 //! Modules of a million members, which only a check in time proportional to them ends within a test's time.
 
-use std::alloc::Global;
+use std::alloc::{AllocError, Global};
 use std::process::Abort;
 use std::test::Fail;
 use wc_ast::{BodyBuilder, ExportKind, Func, FuncType, List, Locals, Module};
@@ -19,17 +19,17 @@ fn with_type(alloc: Global) -> Result<Module, Fail> {
 }
 
 /// Adds a function.
-fn add(module: &mut Module, func: &Func) -> Result<(), Fail> {
-    Ok(module.funcs.push(func)?)
+fn add(module: &mut Module, func: &Func) -> Result<(), AllocError> {
+    module.funcs.push(func)
 }
 
 /// Exports the function once more, under this number for a name.
-fn export(alloc: Global, module: &mut Module, number: usize) -> Result<(), Fail> {
+fn export(alloc: Global, module: &mut Module, number: usize) -> Result<(), AllocError> {
     let name = format!(in alloc; "{number}")?;
-    Ok(module.exports.push(name.as_str(), ExportKind::Func, 0)?)
+    module.exports.push(name.as_str(), ExportKind::Func, 0)
 }
 
-fn export_many(alloc: Global, module: &mut Module) -> Result<(), Fail> {
+fn export_many(alloc: Global, module: &mut Module) -> Result<(), AllocError> {
     for number in 0..MANY {
         export(alloc, module, number)?;
     }
@@ -58,12 +58,13 @@ fn many_exports(rt: HostRuntime) -> Result<(), Fail> {
 
 /// Adds a function of the type of this index.
 fn define(alloc: Global, module: &mut Module, type_index: u32) -> Result<(), Fail> {
+    let body = BodyBuilder::new(alloc).finish()?;
     let func = Func {
         ty: type_index,
         locals: Locals::new(alloc),
-        body: BodyBuilder::new(alloc).finish()?,
+        body,
     };
-    add(module, &func)
+    Ok(add(module, &func)?)
 }
 
 fn define_many(alloc: Global, module: &mut Module) -> Result<(), Fail> {

@@ -91,15 +91,26 @@ fn is_added(place: usize, func: &FuncRef<'_>) -> bool {
     }
 }
 
+/// How many functions are those added, one after the other.
+fn in_order(funcs: &Funcs) -> usize {
+    let mut done = 0usize;
+    for func in funcs.iter() {
+        if !is_added(done, &func) {
+            break;
+        }
+        done = done.saturating_add(1);
+    }
+    done
+}
+
 /// The functions are those added, in their order.
 fn check_added(rt: &impl Abort, funcs: &Funcs) {
-    assert_eq!(rt; funcs.len(), 5);
+    assert_eq!(rt;
+        (funcs.len(), funcs.codes().len(), funcs.iter().count()),
+        (5, 5, 5)
+    );
     assert_eq!(rt; funcs.types(), [7, 0, u32::MAX, 7, 1].as_slice());
-    assert_eq!(rt; funcs.codes().len(), 5);
-    for (place, func) in funcs.iter().enumerate() {
-        assert!(rt; is_added(place, &func), "function {place}");
-    }
-    assert_eq!(rt; funcs.iter().count(), 5);
+    assert_eq!(rt; in_order(funcs), 5);
 }
 
 #[test]
