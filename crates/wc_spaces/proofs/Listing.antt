@@ -1,13 +1,11 @@
 -- One more type.
-use Rattle.std.proofs.Common.{◌≡◌, ℕ, suc, ◌+◌, Bool, true, cond, List, [], ◌∷◌, ◌++◌, length, map, Option, Some, None}
-use Rattle.std.proofs.Common.{is_some, slice_get, refl, sym, ap, ◌∙◌, arith, subst}
+use Rattle.std.proofs.Common.{◌≡◌, ℕ, suc, Bool, cond, List, [], ◌∷◌, ◌++◌, length, map, Option, Some, None}
+use Rattle.std.proofs.Common.{is_some, refl, sym, ap, ◌∙◌, arith}
 use Rattle.std.proofs.lemmas.List.{map-append}
-use Rattle.std.proofs.lemmas.Option.{slice_get-map}
 use Rattle.std.specs.Borrow.{Bor}
-use Rattle.std.specs.Option.{option_map}
 use Rattle.std.specs.Str.{bytes_eq}
 use Rattle.wc_spaces.specs.declared.types.Types.{Types}
-use Rattle.wc_spaces.specs.Kept.Places.{place_in, text_of}
+use Rattle.wc_spaces.specs.Kept.Places.{place_in}
 use Rattle.wc_spaces.specs.Kept.Types.{AreTypes}
 use Rattle.wc_spaces.specs.Standard.Types.{index_of, with_type}
 use Rattle.wc_spaces.proofs.FirstStays.{equal-text}

@@ -1,6 +1,6 @@
 -- The first place that passes a test, with one more item behind.
 use Rattle.std.proofs.Common.{◌≡◌, ℕ, ◌+◌, Bool, true, false, cond, ◌||◌, List, [], ◌∷◌, ◌++◌, length, Option, Some}
-use Rattle.std.proofs.Common.{None, is_some, refl, ap, ◌∙◌, arith}
+use Rattle.std.proofs.Common.{None, is_some, refl, ap, arith}
 use Rattle.std.specs.List.{list_any, position_from}
 
 push_at : (b : Bool) (i : ℕ) (old new last : Option ℕ) → new ≡ cond (is_some old) old last

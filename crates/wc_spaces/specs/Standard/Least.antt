@@ -1,5 +1,5 @@
 -- The fault of the least token. All faults of a stage are gathered in a list, in whatever order.
-use Rattle.std.specs.Prelude.{ℕ, nat_le, List, [], ◌∷◌, Option, Some, None, if◌then◌else◌}
+use Rattle.std.specs.Prelude.{nat_le, List, [], ◌∷◌, Option, Some, None, if◌then◌else◌}
 use Rattle.wc_spaces.specs.declared.noted.Fault.{Fault}
 
 -- the one of the smaller token; of two at one token the first

@@ -1,8 +1,7 @@
 -- Where a reader stands, the tokens so far lead.
 use Rattle.std.proofs.Common.{arith, ◌-◌, ◌≡◌, ℕ, zero, suc, ◌+◌, ◌<◌, ◌≤◌, Bool, true, false, List, [], ◌∷◌, ◌++◌}
-use Rattle.std.proofs.Common.{length, take, get_or, Option, Some, None, refl, sym, ap, subst, ◌∙◌, append-nil}
+use Rattle.std.proofs.Common.{length, take, get_or, Option, Some, None, refl, sym, ap, subst, ◌∙◌}
 use Rattle.std.proofs.Common.{length-append}
-use Rattle.std.proofs.lemmas.List.{map-append}
 use Rattle.std.proofs.lemmas.Bool.{leb-true, leb-false}
 use Rattle.wc_syntax.specs.declared.kind.Kind.{Kind}
 use Rattle.wc_syntax.specs.declared.role.Role.{Role}
@@ -10,12 +9,11 @@ use Rattle.wc_syntax.specs.declared.place.Frame.{Frame}
 use Rattle.wc_syntax.specs.declared.place.Move.{Move}
 use Rattle.wc_syntax.specs.declared.place.Move.TheVariants.{On, Past, Turn, Into, Out}
 use Rattle.wc_syntax.specs.declared.place.Action.{Action}
-use Rattle.wc_syntax.specs.declared.kept.Kept.{Kept}
 use Rattle.wc_syntax.specs.declared.why.SynWhy.{SynWhy}
 use Rattle.wc_syntax.specs.declared.why.SynWhy.TheVariants as why
 use Rattle.wc_syntax.specs.Standard.Phrases.{word}
 use Rattle.wc_syntax.specs.Standard.Deriving.{Item, at, numbered, Event}
-use Rattle.wc_syntax.specs.Standard.Parsing.{event, events, IsText}
+use Rattle.wc_syntax.specs.Standard.Parsing.{IsText}
 use Rattle.wc_syntax.specs.Standard.Reasons.{FirstFault}
 use Rattle.wc_syntax.specs.Tables.Table.{step, is_end, reason_of}
 use Rattle.wc_syntax.specs.Standard.Reading.{Standing, IsRead, nothing_read, one_read, is_deep, moved, left_for}
