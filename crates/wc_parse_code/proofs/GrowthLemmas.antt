@@ -1,5 +1,5 @@
 -- One more kept token takes nothing back of what was said.
-use Rattle.std.proofs.Common.{◌≡◌, ℕ, zero, suc, Bool, true, false, List, [], ◌∷◌, ◌++◌, length, Option, Some, None}
+use Rattle.std.proofs.Common.{◌≡◌, ℕ, zero, suc, Bool, true, false, List, [], ◌∷◌, ◌++◌, Option, Some, None}
 use Rattle.std.proofs.Common.{refl, sym, ap, ◌∙◌, append_assoc, append-nil}
 use Rattle.std.specs.Prelude.{map, nat_lt, if◌then◌else◌}
 use Rattle.std.proofs.lemmas.List.{map-append}
@@ -19,7 +19,7 @@ use Rattle.wc_parse_code.specs.declared.held.Held.{Held}
 use Rattle.wc_parse_code.specs.declared.held.Held.TheVariants as held
 use Rattle.wc_parse_code.specs.declared.body_draft.BodyDraft.{BodyDraft}
 use Rattle.wc_parse_code.specs.declared.word.Word.{Word}
-use Rattle.wc_parse_code.specs.Drafting.Words.{identifier_of, operand_of, ids_by, ids_with, number_in}
+use Rattle.wc_parse_code.specs.Drafting.Words.{identifier_of, ids_by, ids_with, number_in}
 use Rattle.wc_parse_code.specs.Drafting.Uses.{short_type}
 use Rattle.wc_parse_code.specs.Drafting.Heads.{with_else_id, with_end_id}
 use Rattle.wc_parse_code.specs.Drafting.Saying.{say_by, release_by, with_use, head_by, settle_by, settled}

@@ -1,5 +1,5 @@
 -- What is open behind an instruction is what was open before it.
-use Rattle.std.proofs.Common.{◌≡◌, ℕ, zero, suc, ◌+◌, ◌≤◌, ◌<◌, Bool, true, false, List, [], ◌∷◌, length, inl, inr}
+use Rattle.std.proofs.Common.{◌≡◌, ℕ, zero, suc, ◌+◌, ◌≤◌, Bool, true, false, List, ◌∷◌, length, inl, inr}
 use Rattle.std.proofs.Common.{Option, Some, None, refl, sym, ap, ◌∙◌, subst, arith}
 use Rattle.std.specs.Prelude.{◌%◌, ◌^◌, if◌then◌else◌}
 use Rattle.std.specs.Int.{cast_signed, w32, w64}
@@ -20,7 +20,7 @@ use Rattle.wc_ops.specs.declared.op.IndexOp.{IndexOp}
 use Rattle.wc_ops.specs.declared.op.MemOp.{MemOp}
 use Rattle.wc_ops.specs.declared.op.Op.TheVariants as op
 use Rattle.wc_symbols.specs.declared.symbol.Value.{Value}
-use Rattle.wc_symbols.specs.declared.symbol.Value.TheVariants.{Number, Offset, Exponent, Instruction}
+use Rattle.wc_symbols.specs.declared.symbol.Value.TheVariants.{Number, Instruction}
 use Rattle.wc_body.specs.Standard.Nested.{nesting_limit}
 use Rattle.wc_surface.specs.declared.instr.TextInstr.{TextInstr}
 use Rattle.wc_surface.specs.declared.instr.TextInstr.TheVariants as text
@@ -38,11 +38,10 @@ use Rattle.wc_parse_code.specs.Drafting.Saying.{complete, settle_by, settled, ta
 use Rattle.wc_parse_code.specs.Drafting.Opening.{name_plain}
 use Rattle.wc_parse_code.specs.Drafting.Immediates.{index_in, offset_by, align_by, literal_by}
 use Rattle.wc_parse_code.specs.Drafting.Taking.{take}
-use Rattle.wc_parse_code.specs.Drafting.Ending.{nothing_said}
 use Rattle.wc_parse_code.specs.Drafting.Following.{take_all}
 use Rattle.wc_parse_code.specs.Drafting.Leaving.{Leaves}
 use Rattle.wc_parse_code.specs.Standard.Derived.{AreWords}
-use Rattle.wc_parse_code.proofs.Meanings.{Star, star-keeps, Writes, Balances, RuleDoes, Takes, Does, does}
+use Rattle.wc_parse_code.proofs.Meanings.{star-keeps, Balances, RuleDoes, Takes, Does, does}
 use Rattle.wc_parse_code.proofs.Meanings.{writes-typeuse, writes-param, writes-result}
 use Rattle.wc_parse_code.proofs.OpenLemmas.{Frames, Idle, idle-leaves, head-idle, end_id-idle, region-opened, if-opened}
 use Rattle.wc_parse_code.proofs.OpenLemmas.{held-if, then-opened, operands-end, else-turned, ended-idle, instrs-leave}

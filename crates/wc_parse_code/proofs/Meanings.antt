@@ -4,10 +4,10 @@ use Rattle.std.proofs.Common.{refl, sym, ap, ◌∙◌, subst, ◌&&◌}
 use Rattle.wc_syntax.specs.declared.kind.Kind.{Kind}
 use Rattle.wc_syntax.specs.declared.role.Role.{Role}
 use Rattle.wc_syntax.specs.declared.role.Role.TheVariants as role
-use Rattle.wc_syntax.specs.Standard.Phrases.{Terminal, word, Nonterminal, instr, foldedinstr, typeuse, param, result}
+use Rattle.wc_syntax.specs.Standard.Phrases.{word, Nonterminal, instr, foldedinstr, typeuse, param, result}
 use Rattle.wc_syntax.specs.Standard.Phrases.{Phrase, Empty, Token, Keep, ◌·◌, ◌∣◌, Many, The}
 use Rattle.wc_syntax.specs.Standard.Grammar.{body}
-use Rattle.wc_syntax.specs.Standard.Deriving.{Item, at, terminal_of, Event, kept, Derives, empty, token, keeps, then}
+use Rattle.wc_syntax.specs.Standard.Deriving.{Item, at, Event, kept, Derives, empty, token, keeps, then}
 use Rattle.wc_syntax.specs.Standard.Deriving.{left, right, none, more, rule}
 use Rattle.wc_symbols.specs.Standard.Ranges.{FitsKind}
 use Rattle.wc_body.specs.Standard.Nested.{nesting_limit}
@@ -20,7 +20,7 @@ use Rattle.wc_parse_code.specs.declared.word.Word.{Word}
 use Rattle.wc_parse_code.specs.Drafting.Taking.{take}
 use Rattle.wc_parse_code.specs.Drafting.Following.{take_all}
 use Rattle.wc_parse_code.specs.Drafting.Leaving.{Leaves}
-use Rattle.wc_parse_code.specs.Standard.Derived.{IsWord, AreWords}
+use Rattle.wc_parse_code.specs.Standard.Derived.{AreWords}
 
 -- a body, and the same one step later
 abbrev pub Relation : Type 1

@@ -1,12 +1,12 @@
 -- What is open behind each kept token of a block.
 use Rattle.std.proofs.Common.{◌≡◌, ℕ, ◌+◌, ◌≤◌, ◌<◌, Bool, true, false, List, [], ◌∷◌, length, inl, inr, ◌⊎◌, Option}
-use Rattle.std.proofs.Common.{Some, None, refl, sym, ap, ◌∙◌, subst, arith}
-use Rattle.std.specs.Prelude.{nat_lt, if◌then◌else◌}
+use Rattle.std.proofs.Common.{Some, None, refl, sym, ap, ◌∙◌, subst}
+use Rattle.std.specs.Prelude.{if◌then◌else◌}
 use Rattle.std.proofs.lemmas.Bool.{lt-ltb}
 use Rattle.wc_syntax.specs.declared.kind.Kind.{Kind as TokenKind}
 use Rattle.wc_syntax.specs.declared.kind.Kind.TheVariants as token
 use Rattle.wc_syntax.specs.declared.role.Role.TheVariants as role
-use Rattle.wc_syntax.specs.Standard.Instructions.{head, end_id, instrs}
+use Rattle.wc_syntax.specs.Standard.Instructions.{head, end_id}
 use Rattle.wc_ops.specs.declared.op.Op.TheVariants as op
 use Rattle.wc_ops.specs.declared.val_type.ValType.{ValType as ValueType}
 use Rattle.wc_symbols.specs.declared.symbol.Value.{Value}
@@ -23,14 +23,11 @@ use Rattle.wc_parse_code.specs.declared.awaiting.Awaiting.TheVariants as awaitin
 use Rattle.wc_parse_code.specs.declared.held.Held.{Held}
 use Rattle.wc_parse_code.specs.declared.held.Held.TheVariants as held
 use Rattle.wc_parse_code.specs.declared.body_draft.BodyDraft.{BodyDraft}
-use Rattle.wc_parse_code.specs.declared.use_draft.UseDraft.{UseDraft}
-use Rattle.wc_parse_code.specs.declared.word.Word.{Word}
 use Rattle.wc_parse_code.specs.Drafting.Words.{place_behind, identifier_of}
 use Rattle.wc_parse_code.specs.Drafting.Uses.{short_type}
 use Rattle.wc_parse_code.specs.Drafting.Saying.{begun_in, begin_block, release_by, head_by, settle_by, settled}
-use Rattle.wc_parse_code.specs.Drafting.Opening.{await_head, hold_if, turn_by, end_by, begin_by}
+use Rattle.wc_parse_code.specs.Drafting.Opening.{await_head, turn_by, end_by, begin_by}
 use Rattle.wc_parse_code.specs.Drafting.Immediates.{label_by, end_label_by}
-use Rattle.wc_parse_code.specs.Drafting.Taking.{take}
 use Rattle.wc_parse_code.specs.Drafting.Leaving.{Leaves}
 use Rattle.wc_parse_code.proofs.Meanings.{Star, star-keeps, Writes, Balances, Does, Takes}
 

@@ -1,5 +1,5 @@
 -- One more kept token adds at most one to what was said.
-use Rattle.std.proofs.Common.{◌≡◌, ℕ, ◌+◌, ◌≤◌, Bool, true, false, List, [], ◌∷◌, ◌++◌, length, Option, Some, None}
+use Rattle.std.proofs.Common.{◌≡◌, ℕ, ◌+◌, ◌≤◌, Bool, true, false, List, [], ◌∷◌, length, Option, Some, None}
 use Rattle.std.proofs.Common.{refl, arith}
 use Rattle.std.specs.Prelude.{sum_by, nat_lt, if◌then◌else◌}
 use Rattle.std.proofs.lemmas.List.{length-append}
@@ -9,7 +9,7 @@ use Rattle.wc_ops.specs.declared.val_type.ValType.{ValType as ValueType}
 use Rattle.wc_syntax.specs.declared.role.Role.{Role}
 use Rattle.wc_syntax.specs.declared.role.Role.TheVariants as role
 use Rattle.wc_symbols.specs.declared.symbol.Value.{Value}
-use Rattle.wc_symbols.specs.declared.symbol.Value.TheVariants.{Nothing, Number, Offset, Exponent, Instruction, ValType}
+use Rattle.wc_symbols.specs.declared.symbol.Value.TheVariants.{Number, Offset, Exponent, Instruction, ValType}
 use Rattle.wc_surface.specs.declared.instr.TextInstr.{TextInstr}
 use Rattle.wc_surface.specs.Standard.Identifiers.{Identifier}
 use Rattle.wc_surface.specs.Standard.Sizes.{use_size, body_size}
@@ -22,8 +22,8 @@ use Rattle.wc_parse_code.specs.declared.use_draft.UseDraft.{UseDraft}
 use Rattle.wc_parse_code.specs.declared.word.Word.{Word}
 use Rattle.wc_parse_code.specs.Drafting.Words.{identifier_of}
 use Rattle.wc_parse_code.specs.Drafting.Uses.{take_use, with_param, with_result, use_of, short_type}
-use Rattle.wc_parse_code.specs.Drafting.Saying.{say_by, say, release_by, head_by, settle_by, settled, with_use}
-use Rattle.wc_parse_code.specs.Drafting.Opening.{await, plain_by, name_plain, begin_by, hold_if, turn_by, end_by}
+use Rattle.wc_parse_code.specs.Drafting.Saying.{say_by, release_by, head_by, settle_by, settled, with_use}
+use Rattle.wc_parse_code.specs.Drafting.Opening.{await, plain_by, begin_by, turn_by, end_by}
 use Rattle.wc_parse_code.specs.Drafting.Immediates.{label_by, end_label_by, index_in, offset_by, align_by, literal_by}
 use Rattle.wc_parse_code.specs.Drafting.Taking.{take, take_name}
 use Rattle.wc_parse_code.specs.Drafting.Ending.{ended}

@@ -1,12 +1,12 @@
 -- The canonical bytes of types.
 use Rattle.std.proofs.Common.{◌≡◌, ℕ, Bool, true, false, nat_eq, List, [], ◌∷◌, ◌++◌, Option, Some, None, Result, Ok}
-use Rattle.std.proofs.Common.{refl, sym, ap, ◌∙◌}
+use Rattle.std.proofs.Common.{refl, sym, ap}
 use Rattle.std.specs.Option.{is_some, ok_or}
 use Rattle.std.proofs.lemmas.Bool.{eqb-true}
 use Rattle.wc_leb128.specs.Writing.Bytes.{unsigned_bytes}
 use Rattle.wc_ops.specs.declared.val_type.ValType.{ValType}
 use Rattle.wc_ops.specs.declared.val_type.ValType.TheVariants.{I32, I64}
-use Rattle.wc_ops.specs.Standard.ValueTypes.{value_type_byte, value_type_of_byte}
+use Rattle.wc_ops.specs.Standard.ValueTypes.{value_type_of_byte}
 use Rattle.wc_ops.proofs.Meanings.OfTypes.{type-byte}
 use Rattle.wc_ast.specs.declared.func_type.FuncType.{FuncType}
 use Rattle.wc_ast.specs.declared.limits.Limits.{Limits}

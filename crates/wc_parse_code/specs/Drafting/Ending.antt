@@ -1,5 +1,5 @@
 -- Where a body begins and ends (Core 1.0, 6.5.8).
-use Rattle.std.specs.Prelude.{ℕ, false, List, [], ◌∷◌}
+use Rattle.std.specs.Prelude.{false, List, [], ◌∷◌}
 use Rattle.wc_body.specs.Standard.Nested.{Code, empty, region, choice, ◌⧺◌}
 use Rattle.wc_body.specs.Standard.Draft.{Frame, in_region, in_then, in_else, whole}
 use Rattle.wc_surface.specs.declared.head.TextBody.{TextBody}

@@ -1,5 +1,5 @@
 -- How much was said so far: what `Sizes` of the whole text counts of a body.
-use Rattle.std.specs.Prelude.{ℕ, ◌+◌, length, sum_by}
+use Rattle.std.specs.Prelude.{ℕ, ◌+◌, sum_by}
 use Rattle.wc_surface.specs.Standard.Sizes.{use_size}
 use Rattle.wc_parse_code.specs.declared.awaiting.Awaiting.{Awaiting}
 use Rattle.wc_parse_code.specs.declared.awaiting.Awaiting.TheVariants as awaiting

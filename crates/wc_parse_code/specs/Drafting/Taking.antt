@@ -1,6 +1,6 @@
 -- The instructions of a body, token by token (Core 1.0, 6.5). Where a kept token doesn't fit what is open, which no
 -- text of the grammar has, it adds nothing.
-use Rattle.std.specs.Prelude.{Bool, true, false}
+use Rattle.std.specs.Prelude.{true, false}
 use Rattle.wc_syntax.specs.declared.role.Role.{Role}
 use Rattle.wc_syntax.specs.declared.role.Role.TheVariants as role
 use Rattle.wc_parse_code.specs.declared.body_draft.BodyDraft.{BodyDraft}
