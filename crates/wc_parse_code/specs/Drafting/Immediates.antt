@@ -1,5 +1,5 @@
 -- Labels and immediates, token by token (Core 1.0, 6.5.2 to 6.5.6).
-use Rattle.std.specs.Prelude.{◌%◌, ◌^◌, nat_lt, [], ◌∷◌, ◌++◌, Some, if◌then◌else◌}
+use Rattle.std.specs.Prelude.{ℕ, ℤ, ◌%◌, ◌^◌, nat_lt, [], ◌∷◌, ◌++◌, Some, None, if◌then◌else◌}
 use Rattle.std.specs.Int.{cast_signed, w32, w64}
 use Rattle.wc_symbols.specs.declared.symbol.Value.{Value}
 use Rattle.wc_symbols.specs.declared.symbol.Value.TheVariants.{Number, Offset, Exponent}
@@ -9,7 +9,7 @@ use Rattle.wc_parse_code.specs.declared.awaiting.Awaiting.{Awaiting}
 use Rattle.wc_parse_code.specs.declared.awaiting.Awaiting.TheVariants as awaiting
 use Rattle.wc_parse_code.specs.declared.body_draft.BodyDraft.{BodyDraft}
 use Rattle.wc_parse_code.specs.declared.word.Word.{Word}
-use Rattle.wc_parse_code.specs.Drafting.Words.{operand_of, ids_with}
+use Rattle.wc_parse_code.specs.Drafting.Words.{identifier_of, operand_of, ids_with}
 use Rattle.wc_parse_code.specs.Drafting.Heads.{with_else_id, with_end_id}
 use Rattle.wc_parse_code.specs.Drafting.Saying.{complete, say}
 use Rattle.wc_parse_code.specs.Drafting.Opening.{await}
