@@ -7,10 +7,10 @@
 
 ghost use Rattle.std.specs.Prelude.{◌≡◌};
 
-use crate::input::{bytes_of, text_of};
-use crate::pieces::{Pace, Pieces, Taker, pace_of, taker_of};
-use anyhow::{Context, Result};
-use hex::encode;
+use crate::input::{input_of, parts_of, text_of};
+use crate::lines::words_of;
+use crate::pieces::{Pace, Pieces, Taker, pace_of, pieces_of, taker_of};
+use crate::sheet::Sheet;
 use std::alloc::Global;
 use std::str;
 use wc_cli::{Line, Opens, act, act_each, lines};
@@ -19,20 +19,20 @@ use wc_device::Device;
 /// An input that can be opened.
 #[derive(Drop)]
 struct Stock {
-    name: Vec<u8>,
+    name: Sheet,
     pace: Pace,
-    bytes: Vec<u8>,
+    bytes: Sheet,
 }
 
 /// The input of a part of a row.
-fn stock_of(alloc: Global, part: &str) -> Result<Stock> {
-    let (name, rest) = part.split_once(' ').context("reading an input")?;
-    let (reader, input) = rest.split_once(' ').context("reading an input")?;
-    Ok(Stock {
-        name: text_of(alloc, name)?,
-        pace: pace_of(reader)?,
-        bytes: bytes_of(alloc, input)?,
-    })
+fn stock_of(told: &mut Sheet, part: &str) -> Stock {
+    let (name, rest) = parts_of(told, part, " ", "reading an input");
+    let (reader, input) = parts_of(told, rest, " ", "reading an input");
+    Stock {
+        name: text_of(told, name),
+        pace: pace_of(told, reader),
+        bytes: input_of(told, input),
+    }
 }
 
 /// Inputs by their names, and how often those that were given back had been asked.
@@ -45,8 +45,8 @@ struct Shelf<'a> {
 impl<'a> Opens<Pieces<'a>> for Shelf<'a> {
     fn open(&mut self, path: &str) -> Option<Device<Pieces<'a>>> {
         for stock in self.stocks {
-            if stock.name.as_slice() == path.as_bytes() {
-                return Some(Device::new(Pieces::new(&stock.bytes, stock.pace)));
+            if stock.name.is(path) {
+                return Some(Device::new(Pieces::new(stock.bytes.as_slice(), stock.pace)));
             }
         }
         None
@@ -61,17 +61,9 @@ impl<'a> Opens<Pieces<'a>> for Shelf<'a> {
     }
 }
 
-/// What a writer took, as text, or as digits.
-fn taken_shown(alloc: Global, taker: &Taker) -> Result<String> {
-    match str::from_utf8(&taker.taken) {
-        Ok(text) if taker.taken.first() != Some(&0) => Ok(text.to_string(alloc)?),
-        _ => Ok(encode(alloc, &taker.taken)?),
-    }
-}
-
 /// What came of lines.
 #[derive(Drop)]
-struct Told {
+struct Outcome {
     status: u8,
     answer: Taker,
     fault: Taker,
@@ -85,7 +77,7 @@ fn carried_out(
     stocks: &[Stock],
     mut answer: Taker,
     mut fault: Taker,
-) -> Told {
+) -> Outcome {
     let mut shelf = Shelf { stocks, calls: 0 };
     let status = act_each(
         alloc,
@@ -94,7 +86,7 @@ fn carried_out(
         &mut Device::new(&mut answer),
         &mut Device::new(&mut fault),
     );
-    Told {
+    Outcome {
         status,
         answer,
         fault,
@@ -102,76 +94,109 @@ fn carried_out(
     }
 }
 
-/// Puts a count where the row tells it.
-fn put_count(alloc: Global, text: &mut String, wanted: &str, word: &str, count: u32) -> Result<()> {
+/// Carries out what words ask for.
+fn outcome_of(
+    alloc: Global,
+    words: &[&str],
+    stocks: &[Stock],
+    answer: Taker,
+    fault: Taker,
+) -> Outcome {
+    match lines(alloc, words) {
+        Ok(Some(lines)) => carried_out(alloc, lines.as_slice(), stocks, answer, fault),
+        _ => carried_out(alloc, &[], stocks, answer, fault),
+    }
+}
+
+/// Tells what a writer took, as text, or as digits.
+fn tell_taken(told: &mut Sheet, taken: &[u8]) {
+    match str::from_utf8(taken) {
+        Ok(text) if taken.first() != Some(&0) => told.put_text(text),
+        _ => told.put_digits(taken),
+    }
+}
+
+/// Tells a count where the row tells it.
+fn tell_count(told: &mut Sheet, wanted: &str, word: &str, count: u32) {
     if wanted.contains(word) {
-        text.push_str(format!(in alloc; "{word}{count}")?.as_str())?;
-    }
-    Ok(())
-}
-
-/// What came of lines, as far as the row tells it.
-fn told_shown(alloc: Global, told: &Told, wanted: &str) -> Result<String> {
-    let out = taken_shown(alloc, &told.answer)?;
-    let err = taken_shown(alloc, &told.fault)?;
-    let mut text = format!(in alloc; "{} \"{out}\" \"{err}\"", told.status)?;
-    put_count(alloc, &mut text, wanted, " calls ", told.answer.calls)?;
-    put_count(alloc, &mut text, wanted, " flushes ", told.answer.flushes)?;
-    put_count(alloc, &mut text, wanted, " faults ", told.fault.calls)?;
-    put_count(alloc, &mut text, wanted, " reads ", told.reads)?;
-    Ok(text)
-}
-
-/// The inputs of parts of a row.
-fn stocks_of(alloc: Global, parts: &[&str]) -> Result<Vec<Stock>> {
-    let mut stocks = Vec::new(alloc);
-    for part in parts {
-        stocks.push(stock_of(alloc, part)?)?;
-    }
-    Ok(stocks)
-}
-
-/// Carries out what the words of a text ask for, with the devices and inputs of the parts of a row.
-fn acted(alloc: Global, text: &str, parts: &[&str]) -> Result<Told> {
-    let (devices, inputs) = parts.split_first().context("reading the writers")?;
-    let (writer, faults) = devices.split_once(' ').context("reading the writers")?;
-    let words: Vec<&str> = text.split(' ').collect(alloc)?;
-    let stocks = stocks_of(alloc, inputs)?;
-    let answer = taker_of(alloc, writer)?;
-    let fault = taker_of(alloc, faults)?;
-    match lines(alloc, words.as_slice()) {
-        Ok(Some(lines)) => Ok(carried_out(alloc, lines.as_slice(), &stocks, answer, fault)),
-        _ => Ok(carried_out(alloc, &[], &stocks, answer, fault)),
+        told.put_number(word, u64::from(count));
     }
 }
 
-/// What is told of a line, as far as the row tells it.
-pub fn acted_shown(alloc: Global, text: &str, asked: &str, wanted: &str) -> Result<String> {
-    let parts: Vec<&str> = asked.split(" | ").collect(alloc)?;
-    let told = acted(alloc, text, parts.as_slice())?;
-    told_shown(alloc, &told, wanted)
+/// Tells what came of lines, as far as the row tells it.
+fn tell_outcome(told: &mut Sheet, outcome: &Outcome, wanted: &str) {
+    told.put_number("", u64::from(outcome.status));
+    told.put_text(" \"");
+    tell_taken(told, outcome.answer.taken.as_slice());
+    told.put_text("\" \"");
+    tell_taken(told, outcome.fault.taken.as_slice());
+    told.put_text("\"");
+    tell_count(told, wanted, " calls ", outcome.answer.calls);
+    tell_count(told, wanted, " flushes ", outcome.answer.flushes);
+    tell_count(told, wanted, " faults ", outcome.fault.calls);
+    tell_count(told, wanted, " reads ", outcome.reads);
 }
 
-/// The statuses where a line is carried out twice over the same devices.
-pub fn twice_shown(alloc: Global, input: &[u8], asked: &str) -> Result<String> {
-    let words: Vec<&str> = "wcanon check in".split(' ').collect(alloc)?;
-    match lines(alloc, words.as_slice()) {
-        Ok(Some(lines)) => twice(alloc, lines.as_slice(), Pieces::new(input, pace_of(asked)?)),
-        _ => Ok("no lines".to_string(alloc)?),
+/// Puts an input behind others.
+fn push(told: &mut Sheet, stocks: &mut Vec<Stock>, stock: Stock) {
+    if stocks.push(stock).is_err() {
+        told.refuse();
     }
 }
 
-fn twice(alloc: Global, lines: &[Line<'_>], input: Pieces<'_>) -> Result<String> {
+/// The inputs of parts of a row, behind that of the writers.
+fn stocks_of(told: &mut Sheet, parts: &str) -> Vec<Stock> {
+    let mut stocks = Vec::new(told.alloc());
+    for part in parts.split(" | ").skip(1) {
+        let stock = stock_of(told, part);
+        push(told, &mut stocks, stock);
+    }
+    stocks
+}
+
+/// What comes of words, with the devices and inputs of the parts of a row.
+fn acted(told: &mut Sheet, words: &[&str], parts: &str) -> Outcome {
+    let (devices, _) = parts.split_once(" | ").unwrap_or((parts, ""));
+    let (writer, faults) = parts_of(told, devices, " ", "reading the writers");
+    let stocks = stocks_of(told, parts);
+    let answer = taker_of(told, writer);
+    let fault = taker_of(told, faults);
+    outcome_of(told.alloc(), words, &stocks, answer, fault)
+}
+
+/// Tells what is done for a line, as far as the row tells it.
+pub fn tell_acted(told: &mut Sheet, text: &str, asked: &str, wanted: &str) {
+    let words = words_of(told, text);
+    let outcome = acted(told, words.as_slice(), asked);
+    tell_outcome(told, &outcome, wanted);
+}
+
+/// Tells the statuses where a line is carried out twice over the same devices.
+fn tell_twice_of(told: &mut Sheet, lines: &[Line<'_>], input: Pieces<'_>) {
+    let alloc = told.alloc();
     let mut a = Some(Device::new(input));
     let mut b: Option<Device<Pieces<'_>>> = None;
     let mut answers = Device::new(Vec::new(alloc));
     let mut faults = Device::new(Vec::new(alloc));
-    let mut text = String::new(alloc);
     for line in [lines.first(), lines.first()] {
         if let Some(line) = line {
             let status = act(alloc, line, &mut a, &mut b, &mut answers, &mut faults);
-            text.push_str(format!(in alloc; "{status}")?.as_str())?;
+            told.put_number("", u64::from(status));
         }
     }
-    Ok(text)
+}
+
+/// The same of what words ask for.
+fn tell_twice_for(told: &mut Sheet, words: &[&str], input: Pieces<'_>) {
+    match lines(told.alloc(), words) {
+        Ok(Some(lines)) => tell_twice_of(told, lines.as_slice(), input),
+        _ => told.note("no lines"),
+    }
+}
+
+/// The same of a check of an input at a pace.
+pub fn tell_twice(told: &mut Sheet, input: &[u8], asked: &str) {
+    let words = words_of(told, "wcanon check in");
+    let pieces = pieces_of(told, input, asked);
+    tell_twice_for(told, words.as_slice(), pieces);
 }

@@ -24,188 +24,259 @@
 //! `twice` what over the same devices again. `rendered` and `displayed` are the texts of a refusal and of a fault of a
 //! run.
 
-use crate::acts::{acted_shown, twice_shown};
+use crate::acts::{tell_acted, tell_twice};
 use crate::calls::fault_of_calls;
-use crate::faults::{refusal_shown, run_fault_shown};
-use crate::grammar::{fault_shown, roles_shown, sentence_shown, words_behind};
-use crate::input::{binary_of, bytes_of, text_of};
+use crate::faults::{tell_refusal_of, tell_run_fault_of};
+use crate::grammar::{tell_fault, tell_roles, tell_sentence, tell_words};
+use crate::input::{binary_of, input_of, parts_of, text_of};
 use crate::kept::kept_agree;
-use crate::layers::{printed, spelled};
-use crate::lines::{error_shown, lines_shown, raw_shown, version_line};
-use crate::runs::asked_shown;
-use crate::told::{Told, rendered, told_of};
-use crate::words::{symbol_shown, tokens_shown};
-use anyhow::{Context, Result};
-use hex::encode;
-use std::alloc::Global;
+use crate::layers::{tell_printed, tell_spelled};
+use crate::lines::{is_version_line, tell_error, tell_lines, tell_raw};
+use crate::runs::tell_asked;
+use crate::sheet::Sheet;
+use crate::told::{Told, tell_refusal, told_of};
+use crate::words::{tell_symbol, tell_tokens};
 use std::str;
 use wc_canon::{Refusal, compare, normalise, to_text};
 
-/// What was found where it is not what was wanted.
-type Found = Option<String>;
-
-/// The digits of bytes that are not the wanted ones.
-fn other_bytes(alloc: Global, bytes: &[u8], wanted: &[u8]) -> Result<Found> {
-    if bytes == wanted {
-        return Ok(None);
+/// Whether these are the bytes of digits. Others are told by theirs.
+fn are_bytes(found: &mut Sheet, bytes: &[u8], digits: &str) -> bool {
+    let wanted = binary_of(found, digits);
+    if bytes == wanted.as_slice() {
+        return true;
     }
-    Ok(Some(encode(alloc, bytes)?))
+    found.put_digits(bytes);
+    false
 }
 
-/// A text that is not the wanted one.
-fn other_text(text: String, wanted: &[u8]) -> Found {
-    if text.as_bytes() == wanted {
-        return None;
-    }
-    Some(text)
+/// Whether the grammar takes an input's kept tokens.
+fn is_kept(found: &mut Sheet, input: &[u8]) -> bool {
+    found.put_text("its kept tokens are refused");
+    kept_agree(found.alloc(), input, None)
 }
 
-/// What was found of an input that the grammar takes, where it refuses its kept tokens.
-fn other_kept(alloc: Global, input: &[u8]) -> Result<Found> {
-    if kept_agree(alloc, input, None)? {
-        return Ok(None);
-    }
-    Ok(Some("its kept tokens are refused".to_string(alloc)?))
-}
-
-/// What was found of an input that the grammar takes, where it doesn't.
-fn other_grammar(alloc: Global, input: &[u8]) -> Result<Found> {
-    match normalise(alloc, input) {
-        Ok(_) | Err(Refusal::Names { .. } | Refusal::Check { .. }) => other_kept(alloc, input),
-        Err(refusal) => Ok(Some(rendered(alloc, &refusal)?)),
-    }
-}
-
-/// What was found of canonical bytes.
-fn other_module(alloc: Global, bytes: &[u8], wanted: &str) -> Result<Found> {
-    if let Some(number) = wanted.strip_suffix(" bytes") {
-        if number.parse::<usize>().ok() == Some(bytes.len()) {
-            return Ok(None);
+/// Whether the grammar takes the input, whatever its names and the rules say.
+fn is_grammatical(found: &mut Sheet, input: &[u8]) -> bool {
+    match normalise(found.alloc(), input) {
+        Ok(_) | Err(Refusal::Names { .. } | Refusal::Check { .. }) => is_kept(found, input),
+        Err(refusal) => {
+            tell_refusal(found, &refusal);
+            false
         }
+    }
+}
+
+/// Whether a row says how many bytes there are.
+fn is_count(bytes: &[u8], wanted: &str) -> bool {
+    match wanted.strip_suffix(" bytes") {
+        Some(number) => number.parse::<usize>().ok() == Some(bytes.len()),
+        None => false,
+    }
+}
+
+/// Whether these canonical bytes are wanted. Others are told by their digits.
+fn is_module(found: &mut Sheet, bytes: &[u8], wanted: &str) -> bool {
+    if is_count(bytes, wanted) {
+        return true;
     }
     match wanted.strip_prefix("module") {
-        Some(digits) => other_bytes(alloc, bytes, &binary_of(alloc, digits)?),
-        None => Ok(Some(encode(alloc, bytes)?)),
-    }
-}
-
-/// What was told that is not the wanted answer.
-fn other_told(alloc: Global, told: &Told, wanted: &str) -> Result<Found> {
-    match told {
-        Told::Bytes(bytes) => other_module(alloc, bytes, wanted),
-        Told::Refused(text) => Ok(other_text(text.as_str().to_string(alloc)?, wanted.as_bytes())),
-    }
-}
-
-/// What was found of the answer to the input.
-fn other_answer(alloc: Global, input: &[u8], wanted: &str) -> Result<Found> {
-    let told = told_of(alloc, input)?;
-    if let Some(found) = other_told(alloc, &told, wanted)? {
-        return Ok(Some(found));
-    }
-    match fault_of_calls(alloc, input, &told)? {
-        Some(fault) => Ok(Some(fault.to_string(alloc)?)),
-        None => Ok(None),
-    }
-}
-
-/// What was found of the printed text of the input.
-fn other_print(alloc: Global, input: &[u8], wanted: &str) -> Result<Found> {
-    match to_text(alloc, input) {
-        Ok(text) => Ok(other_text(text, &text_of(alloc, wanted)?)),
-        Err(refusal) => Ok(Some(rendered(alloc, &refusal)?)),
-    }
-}
-
-/// What the comparison of the input with another tells.
-fn comparison_shown(alloc: Global, a: &[u8], b: &str) -> Result<String> {
-    match compare(alloc, a, &bytes_of(alloc, b)?) {
-        Ok(told) => Ok(format!(in alloc; "{told:?}")?),
-        Err((side, refusal)) => {
-            let text = rendered(alloc, &refusal)?;
-            Ok(format!(in alloc; "{side:?}: {text}")?)
+        Some(digits) => are_bytes(found, bytes, digits),
+        None => {
+            found.put_digits(bytes);
+            false
         }
     }
 }
 
-/// What was found of a text that is made of the input.
-fn other_shown(shown: Result<String>, wanted: &str) -> Result<Found> {
-    Ok(other_text(shown?, wanted.as_bytes()))
-}
-
-/// What was found of the bytes that the input spells.
-fn other_binary(alloc: Global, input: &[u8], digits: &str) -> Result<Found> {
-    other_bytes(alloc, &spelled(alloc, input)?, &binary_of(alloc, digits)?)
-}
-
-/// What the comparison of the input with another tells, where it isn't what stands behind the colon.
-fn other_beside(alloc: Global, input: &[u8], rest: &str) -> Result<Found> {
-    let (other, told) = rest.split_once(": ").context("reading another input")?;
-    other_shown(comparison_shown(alloc, input, other), told)
-}
-
-/// What readers and writers were told of the input, where it isn't what stands behind the colon.
-fn other_run(alloc: Global, input: &[u8], word: &str, rest: &str) -> Result<Found> {
-    let (asked, told) = rest.split_once(": ").context("reading what is asked")?;
-    other_shown(asked_shown(alloc, input, word, asked), told)
-}
-
-/// What was found of what is done for a command line.
-fn other_act(alloc: Global, text: &str, rest: &str) -> Result<Found> {
-    let (asked, told) = rest.split_once(" -> ").context("reading what is asked")?;
-    let wanted = text_of(alloc, told)?;
-    let shown = acted_shown(alloc, text, asked, str::from_utf8(&wanted)?)?;
-    Ok(other_text(shown, &wanted))
-}
-
-/// What was found of help where it has no such part.
-fn other_help(alloc: Global, text: &str, part: &str) -> Result<Found> {
-    let help = error_shown(alloc, text)?;
-    let wanted = text_of(alloc, part)?;
-    if help.as_str().contains(str::from_utf8(&wanted)?) {
-        return Ok(None);
+/// Whether what is told of an input is wanted.
+fn is_told(found: &mut Sheet, told: &Told, wanted: &str) -> bool {
+    found.note_of(&told.answer);
+    if !told.is_refused {
+        return is_module(found, told.answer.as_slice(), wanted);
     }
-    Ok(Some(help))
+    if told.answer.is(wanted) {
+        return true;
+    }
+    found.put(told.answer.as_slice());
+    false
 }
 
-/// What was found of the words of a command line.
-fn other_line(alloc: Global, text: &str, word: &str, rest: &str) -> Result<Found> {
+/// Whether the calls agree on an input of which this is told.
+fn calls_agree(found: &mut Sheet, input: &[u8], told: &Told) -> bool {
+    match fault_of_calls(found.alloc(), input, told) {
+        Some(fault) => {
+            found.put_text(fault);
+            false
+        }
+        None => true,
+    }
+}
+
+/// Whether the answer to the input is wanted, of all calls.
+fn is_answer(found: &mut Sheet, input: &[u8], wanted: &str) -> bool {
+    let told = told_of(found.alloc(), input);
+    is_told(found, &told, wanted) && calls_agree(found, input, &told)
+}
+
+/// Whether this is the printed text of the input.
+fn is_text(found: &mut Sheet, input: &[u8], wanted: &[u8]) -> bool {
+    match to_text(found.alloc(), input) {
+        Ok(text) => {
+            found.put_text(text.as_str());
+            found.as_slice() == wanted
+        }
+        Err(refusal) => {
+            tell_refusal(found, &refusal);
+            false
+        }
+    }
+}
+
+/// The same of a text of a row.
+fn is_text_of(found: &mut Sheet, input: &[u8], rest: &str) -> bool {
+    let wanted = text_of(found, rest);
+    is_text(found, input, wanted.as_slice())
+}
+
+/// Tells what the comparison of the input with another tells.
+fn tell_comparison(found: &mut Sheet, a: &[u8], b: &[u8]) {
+    match compare(found.alloc(), a, b) {
+        Ok(told) => found.put_debug(&told),
+        Err((side, refusal)) => {
+            found.put_debug(&side);
+            found.put_text(": ");
+            tell_refusal(found, &refusal);
+        }
+    }
+}
+
+/// Whether the comparison of the input with another tells this.
+fn is_compared(found: &mut Sheet, input: &[u8], other: &str, wanted: &str) -> bool {
+    let other = input_of(found, other);
+    tell_comparison(found, input, other.as_slice());
+    found.is(wanted)
+}
+
+/// Whether the comparison of the input with another tells what stands behind the colon.
+fn is_beside(found: &mut Sheet, input: &[u8], rest: &str) -> bool {
+    let (other, told) = parts_of(found, rest, ": ", "reading another input");
+    is_compared(found, input, other, told)
+}
+
+/// Whether the input spells these bytes.
+fn is_spelled(found: &mut Sheet, input: &[u8], digits: &str) -> bool {
+    let mut bytes = Sheet::new(found.alloc());
+    tell_spelled(&mut bytes, input);
+    found.note_of(&bytes);
+    are_bytes(found, bytes.as_slice(), digits)
+}
+
+/// Whether this is the printed text of what the input spells.
+fn is_printed(found: &mut Sheet, input: &[u8], rest: &str) -> bool {
+    let wanted = text_of(found, rest);
+    tell_printed(found, input);
+    found.as_slice() == wanted.as_slice()
+}
+
+/// Whether these tokens are kept of the printed text of what the input spells.
+fn is_kept_of_text(found: &mut Sheet, input: &[u8], rest: &str) -> bool {
+    let mut text = Sheet::new(found.alloc());
+    tell_printed(&mut text, input);
+    found.note_of(&text);
+    tell_roles(found, text.as_slice());
+    found.is(rest)
+}
+
+/// Whether readers and writers were told of the input what stands behind the colon.
+fn is_run(found: &mut Sheet, input: &[u8], word: &str, rest: &str) -> bool {
+    let (asked, told) = parts_of(found, rest, ": ", "reading what is asked");
+    tell_asked(found, input, word, asked);
+    found.is(told)
+}
+
+/// Whether this is done for a command line.
+fn is_done(found: &mut Sheet, text: &str, rest: &str) -> bool {
+    let (asked, told) = parts_of(found, rest, " -> ", "reading what is asked");
+    let wanted = text_of(found, told);
+    tell_acted(found, text, asked, wanted.as_text());
+    found.as_slice() == wanted.as_slice()
+}
+
+/// Whether help has such a part.
+fn has_help(found: &mut Sheet, text: &str, part: &str) -> bool {
+    let wanted = text_of(found, part);
+    tell_error(found, text);
+    found.as_text().contains(wanted.as_text())
+}
+
+/// Whether `--version` tells what it is to tell.
+fn is_version(found: &mut Sheet, text: &str) -> bool {
+    tell_error(found, text);
+    is_version_line(found.as_text())
+}
+
+/// Whether the words of a command line ask for this.
+fn is_line(found: &mut Sheet, text: &str, word: &str, rest: &str) -> bool {
     match word {
-        "lines" => other_shown(lines_shown(alloc, text), rest),
-        "raw" => other_shown(raw_shown(alloc, text), rest),
-        "shows" => other_help(alloc, text, rest),
-        "acts" => other_act(alloc, text, rest),
-        "rendered" => other_shown(refusal_shown(alloc, text), rest),
-        "displayed" => other_shown(run_fault_shown(alloc, text), rest),
-        _ => other_shown(error_shown(alloc, text), version_line(alloc)?.as_str()),
+        "shows" => return has_help(found, text, rest),
+        "acts" => return is_done(found, text, rest),
+        "version" => return is_version(found, text),
+        "lines" => tell_lines(found, text),
+        "raw" => tell_raw(found, text),
+        "rendered" => tell_refusal_of(found, text),
+        _ => tell_run_fault_of(found, text),
     }
+    found.is(rest)
 }
 
-/// What was found of an input where it is not the answer that the row has.
-pub fn other_than(alloc: Global, input: &[u8], wanted: &str) -> Result<Found> {
+/// The same of the words of an input.
+fn is_line_of(found: &mut Sheet, input: &[u8], word: &str, rest: &str) -> bool {
+    let Ok(text) = str::from_utf8(input) else {
+        found.note("reading the words of a line");
+        return false;
+    };
+    is_line(found, text, word, rest)
+}
+
+/// Whether the text of an input has this, by its tokens.
+fn is_by_tokens(found: &mut Sheet, input: &[u8], word: &str, rest: &str) -> bool {
+    match word {
+        "roles" => tell_roles(found, input),
+        "tokens" => tell_tokens(found, input),
+        "symbol" => tell_symbol(found, input),
+        "fault" => tell_fault(found, input),
+        "words" => tell_words(found, input),
+        _ => tell_sentence(found, input),
+    }
+    found.is(rest)
+}
+
+/// Whether the input has the answer of the row. What was found is told, which is no matter where it has.
+pub fn is_answered(found: &mut Sheet, input: &[u8], wanted: &str) -> bool {
     let (word, rest) = wanted.split_once(' ').unwrap_or((wanted, ""));
     match word {
-        "text" => other_print(alloc, input, rest),
-        "same" => other_shown(comparison_shown(alloc, input, rest), "Same"),
-        "different" => other_shown(comparison_shown(alloc, input, rest), "Different"),
-        "beside" => other_beside(alloc, input, rest),
-        "grammar" => other_grammar(alloc, input),
-        "binary" => other_binary(alloc, input, rest),
-        "layout" => Ok(other_text(printed(alloc, input)?, &text_of(alloc, rest)?)),
-        "kept" => other_shown(roles_shown(alloc, printed(alloc, input)?.as_bytes()), rest),
-        "roles" => other_shown(roles_shown(alloc, input), rest),
-        "tokens" => other_shown(tokens_shown(alloc, input), rest),
-        "symbol" => other_shown(symbol_shown(alloc, input), rest),
-        "fault" => other_shown(fault_shown(alloc, input), rest),
-        "sentence" => other_shown(sentence_shown(alloc, input), "."),
-        "words" => other_shown(words_behind(alloc, input), rest),
+        "text" => is_text_of(found, input, rest),
+        "same" => is_compared(found, input, rest, "Same"),
+        "different" => is_compared(found, input, rest, "Different"),
+        "beside" => is_beside(found, input, rest),
+        "grammar" => is_grammatical(found, input),
+        "binary" => is_spelled(found, input, rest),
+        "layout" => is_printed(found, input, rest),
+        "kept" => is_kept_of_text(found, input, rest),
+        "sentence" => is_by_tokens(found, input, word, "."),
+        "roles" | "tokens" | "symbol" | "fault" | "words" => {
+            is_by_tokens(found, input, word, rest)
+        }
         "run" | "accepted" | "answered" | "compared" | "decoded" | "fronted" => {
-            other_run(alloc, input, word, rest)
+            is_run(found, input, word, rest)
         }
         "lines" | "raw" | "shows" | "version" | "acts" | "rendered" | "displayed" => {
-            other_line(alloc, str::from_utf8(input)?, word, rest)
+            is_line_of(found, input, word, rest)
         }
-        "twice" => other_shown(twice_shown(alloc, input, rest), "02"),
-        _ => other_answer(alloc, input, wanted),
+        "twice" => {
+            tell_twice(found, input, rest);
+            found.is("02")
+        }
+        _ => is_answer(found, input, wanted),
     }
 }

@@ -4,78 +4,78 @@ use crate::fronts::fronts_are_cut;
 use crate::kept::kept_agree;
 use crate::readers::{readers_fail, readers_give, readers_refuse, refused_at_once};
 use crate::told::{Told, has_bytes, is_refused};
-use anyhow::Result;
 use std::alloc::Global;
 use wc_canon::{Comparison, accept, compare, is_canonical, to_text};
 
 /// Whether the printed text of an input has these canonical bytes, and is what runs write.
-fn text_agrees(alloc: Global, input: &[u8], bytes: &[u8]) -> Result<bool> {
-    let Ok(text) = to_text(alloc, input) else {
-        return Ok(false);
-    };
-    Ok(
-        has_bytes(alloc, text.as_bytes(), bytes)
-            && readers_give(alloc, input, bytes, text.as_bytes())?,
-    )
+fn text_agrees(alloc: Global, input: &[u8], bytes: &[u8]) -> bool {
+    match to_text(alloc, input) {
+        Ok(text) => {
+            has_bytes(alloc, text.as_bytes(), bytes)
+                && readers_give(alloc, input, bytes, text.as_bytes())
+        }
+        Err(_) => false,
+    }
 }
 
 /// What disagrees on an input with these canonical bytes.
-fn disagreement(alloc: Global, input: &[u8], bytes: &[u8]) -> Result<Option<&'static str>> {
+fn disagreement(alloc: Global, input: &[u8], bytes: &[u8]) -> Option<&'static str> {
     if accept(alloc, input).is_err() {
-        return Ok(Some("it is not accepted"));
+        return Some("it is not accepted");
     }
     if !has_bytes(alloc, bytes, bytes) {
-        return Ok(Some("the answer is not its own"));
+        return Some("the answer is not its own");
     }
     if !matches!(is_canonical(alloc, bytes), Ok(true)) {
-        return Ok(Some("the answer is not canonical"));
+        return Some("the answer is not canonical");
     }
     if !matches!(compare(alloc, input, bytes), Ok(Comparison::Same)) {
-        return Ok(Some("the answer is another module"));
+        return Some("the answer is another module");
     }
-    if !text_agrees(alloc, input, bytes)? {
-        return Ok(Some("what is written differs"));
+    if !text_agrees(alloc, input, bytes) {
+        return Some("what is written differs");
     }
-    if !fronts_are_cut(alloc, input)? {
-        return Ok(Some("a front is refused elsewhere"));
+    if !fronts_are_cut(alloc, input) {
+        return Some("a front is refused elsewhere");
     }
-    if !kept_agree(alloc, input, None)? {
-        return Ok(Some("its kept tokens are refused"));
+    if !kept_agree(alloc, input, None) {
+        return Some("its kept tokens are refused");
     }
-    Ok(None)
+    None
 }
 
 /// What disagrees on an input that is refused so.
-fn other_refusal(alloc: Global, input: &[u8], text: &str) -> Result<Option<&'static str>> {
-    if !is_refused(alloc, accept(alloc, input), text)? {
-        return Ok(Some("its check differs"));
+fn other_refusal(alloc: Global, input: &[u8], text: &str) -> Option<&'static str> {
+    if !is_refused(alloc, accept(alloc, input), text) {
+        return Some("its check differs");
     }
-    if !is_refused(alloc, is_canonical(alloc, input), text)? {
-        return Ok(Some("whether it is canonical differs"));
+    if !is_refused(alloc, is_canonical(alloc, input), text) {
+        return Some("whether it is canonical differs");
     }
-    if !is_refused(alloc, to_text(alloc, input), text)? {
-        return Ok(Some("its printing differs"));
+    if !is_refused(alloc, to_text(alloc, input), text) {
+        return Some("its printing differs");
     }
-    if !readers_refuse(alloc, input, text)? {
-        return Ok(Some("its reading differs"));
+    if !readers_refuse(alloc, input, text) {
+        return Some("its reading differs");
     }
-    if !refused_at_once(alloc, input, text)? {
-        return Ok(Some("a read that fails behind its byte differs"));
+    if !refused_at_once(alloc, input, text) {
+        return Some("a read that fails behind its byte differs");
     }
-    if !kept_agree(alloc, input, Some(text))? {
-        return Ok(Some("what its kept tokens say differs"));
+    if !kept_agree(alloc, input, Some(text)) {
+        return Some("what its kept tokens say differs");
     }
-    Ok(None)
+    None
 }
 
 /// What disagrees on an input of which this is told.
-pub fn fault_of_calls(alloc: Global, input: &[u8], told: &Told) -> Result<Option<&'static str>> {
-    let fault = match told {
-        Told::Bytes(bytes) => disagreement(alloc, input, bytes)?,
-        Told::Refused(text) => other_refusal(alloc, input, text.as_str())?,
+pub fn fault_of_calls(alloc: Global, input: &[u8], told: &Told) -> Option<&'static str> {
+    let fault = if told.is_refused {
+        other_refusal(alloc, input, told.answer.as_text())
+    } else {
+        disagreement(alloc, input, told.answer.as_slice())
     };
-    if fault.is_none() && !readers_fail(alloc, input, told)? {
-        return Ok(Some("a read that fails behind it differs"));
+    if fault.is_none() && !readers_fail(alloc, input, told) {
+        return Some("a read that fails behind it differs");
     }
-    Ok(fault)
+    fault
 }

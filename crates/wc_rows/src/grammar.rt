@@ -2,12 +2,11 @@
 
 ghost use Rattle.wc_tokens.specs.Standard.Tokens.{InOrder, lexemes_of};
 
-use crate::words::tokens_of;
-use anyhow::{Result, bail};
+use crate::sheet::Sheet;
 use std::alloc::Global;
 use wc_symbols::symbol_of;
 use wc_syntax::{Kept, Kind, Refusal, SynWhy, kept_tokens};
-use wc_tokens::{Token, Tokens};
+use wc_tokens::{Token, Tokens, lex};
 
 /// The words of a row of words, in their order.
 const WORDS: &str =
@@ -34,102 +33,141 @@ fn digit(why: SynWhy) -> &'static str {
     }
 }
 
-/// The kinds of the tokens.
-fn kinds_of(alloc: Global, tokens: &[Token<'_>]) -> Result<Vec<Kind>>
+/// Puts a kind behind others.
+fn push(told: &mut Sheet, kinds: &mut Vec<Kind>, kind: Kind) {
+    if kinds.push(kind).is_err() {
+        told.refuse();
+    }
+}
+
+/// Puts the kinds of tokens behind others.
+fn push_kinds(told: &mut Sheet, kinds: &mut Vec<Kind>, tokens: &[Token<'_>])
     requires { InOrder 0 (lexemes_of tokens.now) }
 {
-    let mut kinds = Vec::new(alloc);
     for token in tokens {
-        kinds.push(symbol_of(token).kind)?;
+        push(told, kinds, symbol_of(token).kind);
     }
-    Ok(kinds)
+}
+
+/// Puts the kinds of the tokens of a text behind others.
+fn push_kinds_in(told: &mut Sheet, kinds: &mut Vec<Kind>, text: &[u8]) {
+    match lex(told.alloc(), text) {
+        Ok(tokens) => push_kinds(told, kinds, tokens.as_slice()),
+        Err(_) => told.note("the text has no tokens"),
+    }
 }
 
 /// The kinds of the tokens of a text.
-fn kinds_in(alloc: Global, text: &[u8]) -> Result<Vec<Kind>> {
-    let tokens = tokens_of(alloc, text)?;
-    kinds_of(alloc, tokens.as_slice())
+fn kinds_in(told: &mut Sheet, text: &[u8]) -> Vec<Kind> {
+    let mut kinds = Vec::new(told.alloc());
+    push_kinds_in(told, &mut kinds, text);
+    kinds
 }
 
 /// The token and the reason of the first fault of a text; the number of tokens and `.` where it has none.
-fn fault(alloc: Global, kinds: &[Kind]) -> Result<(usize, &'static str)> {
+fn fault(alloc: Global, kinds: &[Kind]) -> (usize, &'static str) {
     match kept_tokens(alloc, LIMIT, kinds) {
-        Ok(_) => Ok((kinds.len(), ".")),
-        Err(Refusal::Bad { token, why }) => Ok((token, digit(why))),
-        Err(Refusal::Memory) => bail!("out of memory"),
+        Ok(_) => (kinds.len(), "."),
+        Err(Refusal::Bad { token, why }) => (token, digit(why)),
+        Err(Refusal::Memory) => (0, "out of memory"),
     }
 }
 
 /// The last of the tokens: `.` where some text begins with them, the reason where the fault is at it, and else `?`.
-fn last_token(alloc: Global, kinds: &[Kind]) -> Result<&'static str> {
-    let (token, reason) = fault(alloc, kinds)?;
+fn last_token(alloc: Global, kinds: &[Kind]) -> &'static str {
+    let (token, reason) = fault(alloc, kinds);
     if token == kinds.len() && (reason == "." || reason == "2") {
-        Ok(".")
+        "."
     } else if token.saturating_add(1) == kinds.len() {
-        Ok(reason)
+        reason
     } else {
-        Ok("?")
+        "?"
     }
 }
 
-/// What a word is behind the kinds, which stay the same.
-fn put_word(alloc: Global, row: &mut String, kinds: &mut Vec<Kind>, word: &str) -> Result<()> {
-    let more = kinds_in(alloc, word.as_bytes())?;
+/// Puts what a word is behind the kinds, which stay the same.
+fn put_word(told: &mut Sheet, kinds: &mut Vec<Kind>, word: &str) {
     let count = kinds.len();
-    kinds.extend_from_slice(&more)?;
-    row.push_str(last_token(alloc, kinds)?)?;
+    push_kinds_in(told, kinds, word.as_bytes());
+    told.put_text(last_token(told.alloc(), kinds));
     kinds.truncate(count);
-    Ok(())
 }
 
-/// What each of the words is behind a front.
-pub fn words_behind(alloc: Global, front: &[u8]) -> Result<String> {
-    let mut kinds = kinds_in(alloc, front)?;
-    let mut row = String::new(alloc);
+/// Tells what each of the words is behind a front.
+pub fn tell_words(told: &mut Sheet, front: &[u8]) {
+    let mut kinds = kinds_in(told, front);
     for word in WORDS.split(' ') {
-        put_word(alloc, &mut row, &mut kinds, word)?;
+        put_word(told, &mut kinds, word);
     }
-    Ok(row)
 }
 
-/// The token and the reason of the first fault, as `7:1`.
-pub fn fault_shown(alloc: Global, text: &[u8]) -> Result<String> {
-    let (token, reason) = fault(alloc, &kinds_in(alloc, text)?)?;
-    Ok(format!(in alloc; "{token}:{reason}")?)
+/// Tells the token and the reason of the first fault, as `7:1`.
+pub fn tell_fault(told: &mut Sheet, text: &[u8]) {
+    let kinds = kinds_in(told, text);
+    let (token, reason) = fault(told.alloc(), &kinds);
+    told.put_number("", token as u64);
+    told.put_text(":");
+    told.put_text(reason);
 }
 
-/// `.` of a text of the grammar whose fronts all begin one; else the first front that doesn't, or the reason of the
-/// fault.
-pub fn sentence_shown(alloc: Global, text: &[u8]) -> Result<String> {
-    let kinds = kinds_in(alloc, text)?;
+/// How many tokens the first front has that no text begins with, if there is one.
+fn first_odd_front(alloc: Global, kinds: &[Kind]) -> Option<usize> {
     for count in 1..kinds.len() {
-        if last_token(alloc, &kinds[..count])? != "." {
-            return Ok(format!(in alloc; "a front of {count} tokens")?);
+        if last_token(alloc, &kinds[..count]) != "." {
+            return Some(count);
         }
     }
-    Ok(fault(alloc, &kinds)?.1.to_string(alloc)?)
+    None
 }
 
-/// What is kept, each token with its role and its text.
-fn shown(alloc: Global, tokens: &Tokens<'_>, kept: &[Kept]) -> Result<String> {
-    let mut all = String::new(alloc);
+/// Tells `.` of a text of the grammar whose fronts all begin one; else the first front that doesn't, or the reason of
+/// the fault.
+pub fn tell_sentence(told: &mut Sheet, text: &[u8]) {
+    let kinds = kinds_in(told, text);
+    match first_odd_front(told.alloc(), &kinds) {
+        Some(count) => {
+            told.put_number("a front of ", count as u64);
+            told.put_text(" tokens");
+        }
+        None => told.put_text(fault(told.alloc(), &kinds).1),
+    }
+}
+
+/// Puts a kept token, with its role and its text.
+fn put_kept_token(told: &mut Sheet, tokens: &[Token<'_>], kept: &Kept) {
+    let Some(token) = tokens.get(kept.at) else {
+        told.note("no such token");
+        return;
+    };
+    if !told.is_empty() {
+        told.put_text(", ");
+    }
+    told.put_debug(&kept.role);
+    told.put_text(" ");
+    told.put_text(token.text);
+}
+
+/// Puts what is kept.
+fn put_kept(told: &mut Sheet, tokens: &[Token<'_>], kept: &[Kept]) {
     for one in kept {
-        if let Some(token) = tokens.as_slice().get(one.at) {
-            let role = one.role;
-            let comma = if all.is_empty() { "" } else { ", " };
-            let part = format!(in alloc; "{comma}{role:?} {}", token.text)?;
-            all.push_str(part.as_str())?;
-        }
+        put_kept_token(told, tokens, one);
     }
-    Ok(all)
 }
 
-/// The kept tokens of a text, each with its role.
-pub fn roles_shown(alloc: Global, text: &[u8]) -> Result<String> {
-    let tokens = tokens_of(alloc, text)?;
-    let kinds = kinds_of(alloc, tokens.as_slice())?;
-    match kept_tokens(alloc, LIMIT, &kinds) {
-        Ok(kept) => shown(alloc, &tokens, &kept),
-        Err(_) => bail!("the grammar refuses the text"),
+/// Puts what is kept of tokens.
+fn put_roles(told: &mut Sheet, tokens: &Tokens<'_>) {
+    let mut kinds = Vec::new(told.alloc());
+    push_kinds(told, &mut kinds, tokens.as_slice());
+    match kept_tokens(told.alloc(), LIMIT, &kinds) {
+        Ok(kept) => put_kept(told, tokens.as_slice(), &kept),
+        Err(_) => told.note("the grammar refuses the text"),
+    }
+}
+
+/// Tells the kept tokens of a text, each with its role.
+pub fn tell_roles(told: &mut Sheet, text: &[u8]) {
+    match lex(told.alloc(), text) {
+        Ok(tokens) => put_roles(told, &tokens),
+        Err(_) => told.note("the text has no tokens"),
     }
 }

@@ -1,7 +1,7 @@
 //! What the grammar says of a text whose tokens are kept.
 
-use crate::told::rendered;
-use anyhow::Result;
+use crate::sheet::Sheet;
+use crate::told::tell_refusal;
 use std::alloc::Global;
 use wc_canon::{Refusal, normalise};
 use wc_parse::{SynFault, parse};
@@ -41,27 +41,29 @@ fn is_refused(alloc: Global, text: &[u8]) -> bool {
     matches!(normalise(alloc, text), Err(Refusal::Syntax { .. }))
 }
 
+/// Whether a refusal is told so.
+fn is_told(alloc: Global, refusal: &Refusal, told: Option<&str>) -> bool {
+    let mut text = Sheet::new(alloc);
+    tell_refusal(&mut text, refusal);
+    told == Some(text.as_text())
+}
+
 /// Whether the tokens of a text are refused so, or taken where it is, as where none is kept.
-fn tokens_agree(
-    alloc: Global,
-    text: &[u8],
-    tokens: &Tokens<'_>,
-    told: Option<&str>,
-) -> Result<bool> {
+fn tokens_agree(alloc: Global, text: &[u8], tokens: &Tokens<'_>, told: Option<&str>) -> bool {
     match refusal_by(tokens, text.len(), parse(alloc, tokens)) {
-        Some(refusal) => Ok(told == Some(rendered(alloc, &refusal)?.as_str())),
-        None => Ok(!is_refused(alloc, text)),
+        Some(refusal) => is_told(alloc, &refusal, told),
+        None => !is_refused(alloc, text),
     }
 }
 
 /// Whether the grammar says the same of a text whose tokens are kept; of a binary, and of a text that has none,
 /// nothing is asked. `told` is why the input is refused, if it is.
-pub fn kept_agree(alloc: Global, input: &[u8], told: Option<&str>) -> Result<bool> {
+pub fn kept_agree(alloc: Global, input: &[u8], told: Option<&str>) -> bool {
     if input.first() == Some(&0) {
-        return Ok(true);
+        return true;
     }
     match lex(alloc, input) {
         Ok(tokens) => tokens_agree(alloc, input, &tokens, told),
-        Err(_) => Ok(true),
+        Err(_) => true,
     }
 }

@@ -1,42 +1,78 @@
 //! What the words of a command line ask for.
 
-use anyhow::Result;
-use std::alloc::Global;
+use crate::sheet::Sheet;
 use wc_canon::VERSION;
-use wc_cli::{lines, status_of};
+use wc_cli::{Line, lines, status_of};
 
-/// The lines that the words of a text name, or the status of their error.
-pub fn lines_shown(alloc: Global, text: &str) -> Result<String> {
-    let words: Vec<&str> = text.split(' ').collect(alloc)?;
-    match lines(alloc, words.as_slice()) {
-        Ok(Some(lines)) => Ok(format!(in alloc; "{lines:?}")?),
-        Ok(None) => Ok("none".to_string(alloc)?),
-        Err(error) => Ok(format!(in alloc; "status {}", status_of(&error))?),
-    }
-}
-
-/// Whether bytes that aren't text would go to standard output, for each of these lines.
-pub fn raw_shown(alloc: Global, text: &str) -> Result<String> {
-    let words: Vec<&str> = text.split(' ').collect(alloc)?;
-    match lines(alloc, words.as_slice()) {
-        Ok(Some(lines)) => {
-            let are_raw: Vec<bool> = lines.iter().map(|line| line.is_raw()).collect(alloc)?;
-            Ok(format!(in alloc; "{are_raw:?}")?)
+/// The words of a text.
+pub fn words_of<'a>(told: &mut Sheet, text: &'a str) -> Vec<&'a str> {
+    match text.split(' ').collect(told.alloc()) {
+        Ok(words) => words,
+        Err(_) => {
+            told.refuse();
+            Vec::new(told.alloc())
         }
-        _ => Ok("no lines".to_string(alloc)?),
     }
 }
 
-/// The text of the error that the words are, and none where they are none.
-pub fn error_shown(alloc: Global, text: &str) -> Result<String> {
-    let words: Vec<&str> = text.split(' ').collect(alloc)?;
-    match lines(alloc, words.as_slice()) {
-        Ok(_) => Ok(String::new(alloc)),
-        Err(error) => Ok(format!(in alloc; "{error}")?),
+/// Tells the lines that words name, or the status of their error.
+fn tell_lines_of(told: &mut Sheet, words: &[&str]) {
+    match lines(told.alloc(), words) {
+        Ok(Some(lines)) => told.put_debug(&lines),
+        Ok(None) => told.put_text("none"),
+        Err(error) => told.put_number("status ", u64::from(status_of(&error))),
     }
 }
 
-/// What `--version` tells.
-pub fn version_line(alloc: Global) -> Result<String> {
-    Ok(format!(in alloc; "wcanon {VERSION}\n")?)
+/// Tells the lines that the words of a text name, or the status of their error.
+pub fn tell_lines(told: &mut Sheet, text: &str) {
+    let words = words_of(told, text);
+    tell_lines_of(told, words.as_slice());
+}
+
+/// Tells for each of these lines whether bytes that aren't text would go to standard output.
+fn tell_which_are_raw(told: &mut Sheet, lines: &[Line<'_>]) {
+    told.put_text("[");
+    for line in lines {
+        if told.len() > 1 {
+            told.put_text(", ");
+        }
+        told.put_debug(&line.is_raw());
+    }
+    told.put_text("]");
+}
+
+/// The same of the lines that words name.
+fn tell_raw_of(told: &mut Sheet, words: &[&str]) {
+    match lines(told.alloc(), words) {
+        Ok(Some(lines)) => tell_which_are_raw(told, lines.as_slice()),
+        _ => told.put_text("no lines"),
+    }
+}
+
+/// The same of the lines that the words of a text name.
+pub fn tell_raw(told: &mut Sheet, text: &str) {
+    let words = words_of(told, text);
+    tell_raw_of(told, words.as_slice());
+}
+
+/// Tells the text of the error that words are, and nothing where they are none.
+fn tell_error_of(told: &mut Sheet, words: &[&str]) {
+    if let Err(error) = lines(told.alloc(), words) {
+        told.put_shown(&error);
+    }
+}
+
+/// The same of the words of a text.
+pub fn tell_error(told: &mut Sheet, text: &str) {
+    let words = words_of(told, text);
+    tell_error_of(told, words.as_slice());
+}
+
+/// Whether this is what `--version` tells.
+pub fn is_version_line(text: &str) -> bool {
+    match text.strip_prefix("wcanon ") {
+        Some(rest) => rest.strip_suffix('\n') == Some(VERSION),
+        None => false,
+    }
 }

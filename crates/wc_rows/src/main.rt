@@ -16,6 +16,7 @@ mod pieces;
 mod readers;
 mod rows;
 mod runs;
+mod sheet;
 mod told;
 mod words;
 

@@ -3,8 +3,7 @@
 //! A row writes one as `5`, where a call moves at most so many bytes, and as `5!3`, where the third call fails. Of a
 //! writer `5?` is one whose flush fails.
 
-use anyhow::{Context, Result};
-use std::alloc::Global;
+use crate::sheet::Sheet;
 use std::io::{self, Error, ErrorKind, Read, Write};
 
 /// How many bytes a call moves at most, and which call fails, counted from 1: none where that is 0.
@@ -14,13 +13,24 @@ pub struct Pace {
     pub fails_at: u32,
 }
 
-/// The pace of a word.
-pub fn pace_of(word: &str) -> Result<Pace> {
+/// The number of digits. Where they are none, `asking` notes it.
+fn number_of(asking: &mut Sheet, digits: &str) -> u32 {
+    match digits.parse::<u32>() {
+        Ok(number) => number,
+        Err(_) => {
+            asking.note("reading a pace");
+            0
+        }
+    }
+}
+
+/// The pace of a word. Where it can't be read, `asking` notes it.
+pub fn pace_of(asking: &mut Sheet, word: &str) -> Pace {
     let (piece, fails_at) = word.split_once('!').unwrap_or((word, "0"));
-    Ok(Pace {
-        piece: piece.parse::<usize>().context("reading a pace")?,
-        fails_at: fails_at.parse::<u32>().context("reading a pace")?,
-    })
+    Pace {
+        piece: number_of(asking, piece) as usize,
+        fails_at: number_of(asking, fails_at),
+    }
 }
 
 /// Gives its bytes at a pace.
@@ -42,6 +52,11 @@ impl<'a> Pieces<'a> {
     }
 }
 
+/// A reader of an input at the pace of a word.
+pub fn pieces_of<'a>(asking: &mut Sheet, input: &'a [u8], word: &str) -> Pieces<'a> {
+    Pieces::new(input, pace_of(asking, word))
+}
+
 impl Read for Pieces<'_> {
     fn read(&mut self, buf: &mut [u8]) -> io::Result<usize> {
         self.calls = self.calls.saturating_add(1);
@@ -59,7 +74,7 @@ impl Read for Pieces<'_> {
 /// Takes bytes at a pace.
 #[derive(Drop)]
 pub struct Taker {
-    pub taken: Vec<u8>,
+    pub taken: Sheet,
     pace: Pace,
     flush_fails: bool,
     pub calls: u32,
@@ -67,18 +82,18 @@ pub struct Taker {
 }
 
 /// The writer of a word, which took nothing yet.
-pub fn taker_of(alloc: Global, word: &str) -> Result<Taker> {
+pub fn taker_of(asking: &mut Sheet, word: &str) -> Taker {
     let (pace, flush_fails) = match word.strip_suffix('?') {
         Some(pace) => (pace, true),
         None => (word, false),
     };
-    Ok(Taker {
-        taken: Vec::new(alloc),
-        pace: pace_of(pace)?,
+    Taker {
+        taken: Sheet::new(asking.alloc()),
+        pace: pace_of(asking, pace),
         flush_fails,
         calls: 0,
         flushes: 0,
-    })
+    }
 }
 
 impl Write for Taker {
@@ -88,7 +103,7 @@ impl Write for Taker {
             return Err(Error::from(ErrorKind::Interrupted));
         }
         let most = self.pace.piece.min(buf.len());
-        self.taken.extend_from_slice(&buf[..most])?;
+        self.taken.put(&buf[..most]);
         Ok(most)
     }
 

@@ -6,11 +6,10 @@
 //! - `decoded READER`, `fronted READER`: what is decoded of it, where the first read comes before that or not, whether
 //!   at most 4,096 bytes were read behind the fault's place, and how the device was left.
 
-use crate::input::bytes_of;
-use crate::pieces::{Pieces, Taker, pace_of, taker_of};
-use crate::readers::{fault_words, words_of};
-use anyhow::{Context, Result, bail};
-use std::alloc::Global;
+use crate::input::{input_of, parts_of};
+use crate::pieces::{Pieces, Taker, pieces_of, taker_of};
+use crate::readers::{tell_fault, tell_outcome};
+use crate::sheet::Sheet;
 use std::io::Read;
 use wc_ast::Module;
 use wc_binary::{BinFault, decode_from};
@@ -18,159 +17,204 @@ use wc_canon::{Job, accept_from, compare_from, normalise, normalise_from, run, t
 use wc_device::Device;
 
 /// The job of a word.
-fn job_of(word: &str) -> Result<Job> {
+fn job_of(told: &mut Sheet, word: &str) -> Job {
     match word {
-        "binary" => Ok(Job::Binary),
-        "text" => Ok(Job::Text),
-        _ => bail!("no such job"),
+        "binary" => Job::Binary,
+        "text" => Job::Text,
+        _ => {
+            told.note("no such job");
+            Job::Binary
+        }
+    }
+}
+
+/// Puts the canonical bytes of an input, and no byte where it is refused.
+fn put_bytes(answer: &mut Sheet, input: &[u8]) {
+    if let Ok(bytes) = normalise(answer.alloc(), input) {
+        answer.put(&bytes);
+    }
+}
+
+/// Puts its printed text, and no byte where it is refused.
+fn put_printed(answer: &mut Sheet, input: &[u8]) {
+    if let Ok(text) = to_text(answer.alloc(), input) {
+        answer.put_text(text.as_str());
     }
 }
 
 /// What a job answers over memory, and no byte where the input is refused.
-fn answer_of(alloc: Global, job: Job, input: &[u8]) -> Result<Vec<u8>> {
-    let none = Vec::new(alloc);
+fn answer_of(told: &mut Sheet, job: Job, input: &[u8]) -> Sheet {
+    let mut answer = Sheet::new(told.alloc());
     match job {
-        Job::Binary => Ok(normalise(alloc, input).unwrap_or(none)),
-        Job::Text => match to_text(alloc, input) {
-            Ok(text) => Ok(Vec::from_slice(alloc, text.as_bytes())?),
-            Err(_) => Ok(none),
-        },
+        Job::Binary => put_bytes(&mut answer, input),
+        Job::Text => put_printed(&mut answer, input),
     }
+    told.note_of(&answer);
+    answer
 }
 
-/// What a writer took of an answer, and its flushes.
-fn taken_shown(alloc: Global, told: &str, taker: &Taker, answer: &[u8]) -> Result<String> {
-    let count = taker.taken.len();
-    let flushes = taker.flushes;
-    let what = match answer.get(..count) {
-        Some(front) if front == taker.taken.as_slice() => "bytes",
-        _ => "other bytes",
-    };
-    Ok(format!(in alloc; "{told}, {count} {what}, {flushes} flushes")?)
+/// Tells what a writer took of an answer, and its flushes.
+fn tell_taken(told: &mut Sheet, taker: &Taker, answer: &[u8]) {
+    let taken = taker.taken.as_slice();
+    told.put_number(", ", taken.len() as u64);
+    told.put_text(if answer.starts_with(taken) {
+        " bytes"
+    } else {
+        " other bytes"
+    });
+    told.put_number(", ", u64::from(taker.flushes));
+    told.put_text(" flushes");
 }
 
-/// What a run told, and what went out.
-fn ran(alloc: Global, job: Job, input: Pieces<'_>, taker: Taker, answer: &[u8]) -> Result<String> {
+/// Tells what a run told, and what went out.
+fn tell_run(told: &mut Sheet, job: Job, input: Pieces<'_>, taker: Taker, answer: &[u8]) {
     let mut reader = Device::new(input);
     let mut writer = Device::new(taker);
-    let told = words_of(alloc, run(alloc, job, &mut reader, &mut writer))?;
-    taken_shown(alloc, told.as_str(), writer.inner(), answer)
+    let outcome = run(told.alloc(), job, &mut reader, &mut writer);
+    tell_outcome(told, outcome);
+    tell_taken(told, writer.inner(), answer);
 }
 
 /// The same of the job, the reader and the writer that are asked for.
-fn run_shown(alloc: Global, input: &[u8], asked: &str) -> Result<String> {
-    let (job, devices) = asked.split_once(' ').context("reading a job")?;
-    let (reader, writer) = devices.split_once(' ').context("reading a writer")?;
-    let job = job_of(job)?;
-    let answer = answer_of(alloc, job, input)?;
-    let pieces = Pieces::new(input, pace_of(reader)?);
-    ran(alloc, job, pieces, taker_of(alloc, writer)?, &answer)
+fn tell_asked_run(told: &mut Sheet, input: &[u8], asked: &str) {
+    let (job, devices) = parts_of(told, asked, " ", "reading a job");
+    let (reader, writer) = parts_of(told, devices, " ", "reading a writer");
+    let job = job_of(told, job);
+    let answer = answer_of(told, job, input);
+    let pieces = pieces_of(told, input, reader);
+    let taker = taker_of(told, writer);
+    tell_run(told, job, pieces, taker, answer.as_slice());
 }
 
-/// Whether a reader is accepted, and how many bytes were read of it.
-fn accepted(alloc: Global, input: Pieces<'_>) -> Result<String> {
+/// Tells whether a reader is accepted, and how many bytes were read of it.
+fn tell_accepted(told: &mut Sheet, input: Pieces<'_>) {
     let mut reader = Device::new(input);
-    let told = match accept_from(alloc, &mut reader) {
-        Ok(()) => "ok".to_string(alloc)?,
-        Err(fault) => fault_words(alloc, fault)?,
-    };
-    Ok(format!(in alloc; "{told}, {} read", reader.count())?)
+    match accept_from(told.alloc(), &mut reader) {
+        Ok(()) => told.put_text("ok"),
+        Err(fault) => tell_fault(told, &fault),
+    }
+    told.put_number(", ", reader.count());
+    told.put_text(" read");
 }
 
-/// Whether a reader has the answer of an input.
-fn answered(alloc: Global, input: Pieces<'_>, answer: &[u8]) -> Result<String> {
-    match normalise_from(alloc, &mut Device::new(input)) {
-        Ok(bytes) if bytes.as_slice() == answer => Ok("the answer".to_string(alloc)?),
-        Ok(_) => Ok("another answer".to_string(alloc)?),
-        Err(fault) => fault_words(alloc, fault),
+/// Tells whether a reader has the answer of an input.
+fn tell_answered(told: &mut Sheet, input: Pieces<'_>, answer: &[u8]) {
+    match normalise_from(told.alloc(), &mut Device::new(input)) {
+        Ok(bytes) => told.put_text(if bytes.as_slice() == answer {
+            "the answer"
+        } else {
+            "another answer"
+        }),
+        Err(fault) => tell_fault(told, &fault),
     }
 }
 
-/// What a comparison of two readers tells.
-fn compared(alloc: Global, a: Pieces<'_>, b: Pieces<'_>) -> Result<String> {
-    match compare_from(alloc, &mut Device::new(a), &mut Device::new(b)) {
-        Ok(comparison) => Ok(format!(in alloc; "{comparison:?}")?),
+/// The same of the answer of these bytes.
+fn tell_asked_answer(told: &mut Sheet, input: &[u8], asked: &str) {
+    let answer = answer_of(told, Job::Binary, input);
+    let pieces = pieces_of(told, input, asked);
+    tell_answered(told, pieces, answer.as_slice());
+}
+
+/// Tells what a comparison of two readers tells.
+fn tell_compared(told: &mut Sheet, a: Pieces<'_>, b: Pieces<'_>) {
+    match compare_from(told.alloc(), &mut Device::new(a), &mut Device::new(b)) {
+        Ok(comparison) => told.put_debug(&comparison),
         Err((side, fault)) => {
-            let text = fault_words(alloc, fault)?;
-            Ok(format!(in alloc; "{side:?}: {text}")?)
+            told.put_debug(&side);
+            told.put_text(": ");
+            tell_fault(told, &fault);
         }
     }
 }
 
 /// The same of the readers and the other input that are asked for.
-fn compared_shown(alloc: Global, input: &[u8], asked: &str) -> Result<String> {
-    let (first, rest) = asked.split_once(' ').context("reading a reader")?;
-    let (second, other) = rest.split_once(' ').context("reading a reader")?;
-    let other = bytes_of(alloc, other)?;
-    let a = Pieces::new(input, pace_of(first)?);
-    compared(alloc, a, Pieces::new(&other, pace_of(second)?))
+fn tell_asked_comparison(told: &mut Sheet, input: &[u8], asked: &str) {
+    let (first, rest) = parts_of(told, asked, " ", "reading a reader");
+    let (second, other) = parts_of(told, rest, " ", "reading a reader");
+    let other = input_of(told, other);
+    let a = pieces_of(told, input, first);
+    let b = pieces_of(told, other.as_slice(), second);
+    tell_compared(told, a, b);
 }
 
-/// How many types a module has.
-fn type_count(module: &Module) -> usize {
-    module.types.len()
-}
-
-/// What was decoded, and whether at most 4,096 bytes were read behind the place of a fault.
-fn decoded_shown(
-    alloc: Global,
-    decoded: Result<Module, BinFault>,
-    device: &Device<Pieces<'_>>,
-) -> Result<String> {
-    let told = match decoded {
-        Ok(module) => format!(in alloc; "{} types", type_count(&module))?,
-        Err(BinFault::Bad { at, why }) if device.count() <= at.saturating_add(4097) => {
-            format!(in alloc; "near byte {at} {why:?}")?
+/// Tells why nothing was decoded, and whether at most 4,096 bytes were read behind the place of a fault.
+fn tell_decode_fault(told: &mut Sheet, fault: &BinFault, count: u64) {
+    match fault {
+        BinFault::Bad { at, why } => {
+            let is_near = count <= at.saturating_add(4097);
+            told.put_text(if is_near { "near" } else { "far from" });
+            told.put_number(" byte ", *at);
+            told.put_text(" ");
+            told.put_debug(why);
         }
-        Err(BinFault::Bad { at, why }) => format!(in alloc; "far from byte {at} {why:?}")?,
-        Err(BinFault::Read { at }) => format!(in alloc; "read {at}")?,
-        Err(BinFault::Memory) => "memory".to_string(alloc)?,
-    };
-    left_shown(alloc, told.as_str(), device)
-}
-
-/// What was told, and how the device was left: where it failed, and whether it ended, and was asked again behind that.
-fn left_shown(alloc: Global, told: &str, device: &Device<Pieces<'_>>) -> Result<String> {
-    let failed = device.failed_at();
-    let ended = if device.ended() { ", ended" } else { "" };
-    let again = if device.asked_again() {
-        ", asked again"
-    } else {
-        ""
-    };
-    match failed {
-        Some(at) => Ok(format!(in alloc; "{told}, failed at {at}{ended}{again}")?),
-        None => Ok(format!(in alloc; "{told}{ended}{again}")?),
+        BinFault::Read { at } => told.put_number("read ", *at),
+        BinFault::Memory => told.put_text("memory"),
     }
 }
 
-/// What is decoded of a reader.
-fn decoded(alloc: Global, input: Pieces<'_>) -> Result<String> {
+/// Tells what was decoded while so many bytes were read.
+fn tell_module(told: &mut Sheet, decoded: Result<Module, BinFault>, count: u64) {
+    match decoded {
+        Ok(module) => {
+            told.put_number("", module.types.len() as u64);
+            told.put_text(" types");
+        }
+        Err(fault) => tell_decode_fault(told, &fault, count),
+    }
+}
+
+/// Tells how a device was left: where it failed, and whether it ended, and was asked again behind that.
+fn tell_left(told: &mut Sheet, device: &Device<Pieces<'_>>) {
+    if let Some(at) = device.failed_at() {
+        told.put_number(", failed at ", at);
+    }
+    if device.ended() {
+        told.put_text(", ended");
+    }
+    if device.asked_again() {
+        told.put_text(", asked again");
+    }
+}
+
+/// Tells what was decoded, and how the device was left.
+fn tell_decoding(told: &mut Sheet, decoded: Result<Module, BinFault>, device: &Device<Pieces<'_>>) {
+    tell_module(told, decoded, device.count());
+    tell_left(told, device);
+}
+
+/// Tells what is decoded of a reader.
+fn tell_decoded(told: &mut Sheet, input: Pieces<'_>) {
     let mut device = Device::new(input);
-    let decoded = decode_from(alloc, &[], &mut device);
-    decoded_shown(alloc, decoded, &device)
+    let decoded = decode_from(told.alloc(), &[], &mut device);
+    tell_decoding(told, decoded, &device);
 }
 
 /// The same where its first read came before.
-fn fronted(alloc: Global, input: Pieces<'_>) -> Result<String> {
+fn tell_fronted(told: &mut Sheet, input: Pieces<'_>) {
     let mut device = Device::new(input);
     let mut front = [0u8; 16];
-    let count = device.read(&mut front)?;
-    let decoded = decode_from(alloc, &front[..count], &mut device);
-    decoded_shown(alloc, decoded, &device)
+    let Ok(count) = device.read(&mut front) else {
+        told.note("the first read failed");
+        return;
+    };
+    let decoded = decode_from(told.alloc(), &front[..count], &mut device);
+    tell_decoding(told, decoded, &device);
 }
 
-/// What is told of the input where this is asked.
-pub fn asked_shown(alloc: Global, input: &[u8], word: &str, asked: &str) -> Result<String> {
+/// Tells of the input what is asked.
+pub fn tell_asked(told: &mut Sheet, input: &[u8], word: &str, asked: &str) {
     match word {
-        "run" => run_shown(alloc, input, asked),
-        "compared" => compared_shown(alloc, input, asked),
-        "accepted" => accepted(alloc, Pieces::new(input, pace_of(asked)?)),
-        "decoded" => decoded(alloc, Pieces::new(input, pace_of(asked)?)),
-        "fronted" => fronted(alloc, Pieces::new(input, pace_of(asked)?)),
+        "run" => tell_asked_run(told, input, asked),
+        "compared" => tell_asked_comparison(told, input, asked),
+        "answered" => tell_asked_answer(told, input, asked),
         _ => {
-            let answer = answer_of(alloc, Job::Binary, input)?;
-            answered(alloc, Pieces::new(input, pace_of(asked)?), &answer)
+            let pieces = pieces_of(told, input, asked);
+            match word {
+                "accepted" => tell_accepted(told, pieces),
+                "decoded" => tell_decoded(told, pieces),
+                _ => tell_fronted(told, pieces),
+            }
         }
     }
 }

@@ -1,42 +1,54 @@
 //! What the tokens of a text are.
 
-use anyhow::{Result, bail};
-use std::alloc::Global;
+ghost use Rattle.wc_tokens.specs.Standard.Tokens.{InOrder, lexemes_of};
+
+use crate::sheet::Sheet;
 use wc_symbols::{Symbol, symbol_of};
-use wc_tokens::{Token, Tokens, lex};
+use wc_tokens::{Token, lex};
 
-/// The tokens of a text.
-pub fn tokens_of(alloc: Global, text: &[u8]) -> Result<Tokens<'_>> {
-    match lex(alloc, text) {
-        Ok(tokens) => Ok(tokens),
-        Err(_) => bail!("the text has no tokens"),
+/// Puts the kind of a token, and the places where it begins and stops.
+fn put_token(told: &mut Sheet, token: &Token<'_>) {
+    if !told.is_empty() {
+        told.put_text(", ");
     }
+    told.put_debug(&token.kind);
+    told.put_number(" ", token.start as u64);
+    told.put_number(" ", token.stop as u64);
 }
 
-/// The kinds of the tokens, and the places where they begin and stop.
-fn shown(alloc: Global, tokens: &[Token<'_>]) -> Result<String> {
-    let mut all = String::new(alloc);
-    for token in tokens {
-        let kind = token.kind;
-        let comma = if all.is_empty() { "" } else { ", " };
-        let one = format!(in alloc; "{comma}{kind:?} {} {}", token.start, token.stop)?;
-        all.push_str(one.as_str())?;
-    }
-    Ok(all)
-}
-
-/// What the only token of a text is to the grammar: its kind and its value.
-pub fn symbol_shown(alloc: Global, text: &[u8]) -> Result<String> {
-    let tokens = tokens_of(alloc, text)?;
-    let [token] = tokens.as_slice() else {
-        bail!("the text is not one token");
+/// Puts what the only token is to the grammar: its kind and its value.
+fn put_only_symbol(told: &mut Sheet, tokens: &[Token<'_>])
+    requires { InOrder 0 (lexemes_of tokens.now) }
+{
+    let [token] = tokens else {
+        told.note("the text is not one token");
+        return;
     };
     let Symbol { kind, value } = symbol_of(token);
-    Ok(format!(in alloc; "{kind:?} {value:?}")?)
+    told.put_debug(&kind);
+    told.put_text(" ");
+    told.put_debug(&value);
 }
 
-/// The tokens of a text, each by its kind and its places: `Word 0 1`.
-pub fn tokens_shown(alloc: Global, text: &[u8]) -> Result<String> {
-    let tokens = tokens_of(alloc, text)?;
-    shown(alloc, tokens.as_slice())
+/// Tells what the only token of a text is to the grammar.
+pub fn tell_symbol(told: &mut Sheet, text: &[u8]) {
+    match lex(told.alloc(), text) {
+        Ok(tokens) => put_only_symbol(told, tokens.as_slice()),
+        Err(_) => told.note("the text has no tokens"),
+    }
+}
+
+/// Puts tokens.
+fn put_tokens(told: &mut Sheet, tokens: &[Token<'_>]) {
+    for token in tokens {
+        put_token(told, token);
+    }
+}
+
+/// Tells the tokens of a text, each by its kind and its places: `Word 0 1`.
+pub fn tell_tokens(told: &mut Sheet, text: &[u8]) {
+    match lex(told.alloc(), text) {
+        Ok(tokens) => put_tokens(told, tokens.as_slice()),
+        Err(_) => told.note("the text has no tokens"),
+    }
 }

@@ -1,5 +1,5 @@
 use Rattle.wc_symbols.proofs.Forms.{form-at}
-use Rattle.wc_rows.proofs.grammar.kinds_of.Goals as goal
+use Rattle.wc_rows.proofs.grammar.push_kinds.Goals as goal
 
 pub symbol_of-requires : goal.symbol_of-requires
 symbol_of-requires c =
