@@ -205,8 +205,12 @@ fn is_done(found: &mut Sheet, text: &str, rest: &str) -> bool {
 /// Whether help has such a part.
 fn has_help(found: &mut Sheet, text: &str, part: &str) -> bool {
     let wanted = text_of(found, part);
+    let Ok(wanted) = str::from_utf8(wanted.as_slice()) else {
+        found.note("reading a part of help");
+        return false;
+    };
     tell_error(found, text);
-    found.as_text().contains(wanted.as_text())
+    found.as_text().contains(wanted)
 }
 
 /// Whether `--version` tells what it is to tell.
