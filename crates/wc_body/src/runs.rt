@@ -1,9 +1,8 @@
 //! Runs of entries, told from the bytes that spell them, so that most are kept without a copy of each. An instruction
 //! that is told by itself is added in `builder/fitting`. The words for what is told:
 //! - `front`: an entry that bytes begin with, spelled as it is kept; what follows it is answered;
-//! - `usual`: such an entry that is no else, table of labels, call through a table, size or growth of memory, nor a
-//!   block whose type is an index, with at most two bytes for an index or an offset, one for an alignment and four for
-//!   a constant;
+//! - `usual`: such an entry that is no else, table of labels, nor a block whose type is an index, with one byte for an
+//!   alignment and at most nine for a constant;
 //! - `light`: a usual instruction whose integers have one byte each, which needs no label beyond the enclosing blocks
 //!   and no alignment above the width of the access, so that a row of a table tells all of it;
 //! - `long`: an index or a constant of two bytes or more, of which those of two are taken along with light entries;
@@ -19,5 +18,6 @@
 
 pub(crate) mod free;
 pub(crate) mod front;
+pub(crate) mod integers;
 pub(crate) mod light;
 pub(crate) mod spelled;

@@ -7,3 +7,4 @@ pub mod FrontRun
 pub mod HandedLemmas
 pub mod FreeIntegers
 pub mod FreeRun
+pub mod IntegerFronts

@@ -7,7 +7,7 @@ use Rattle.wc_ops.specs.declared.op.IndexOp.{IndexOp}
 use Rattle.wc_ops.specs.declared.op.MemOp.{MemOp}
 use Rattle.wc_body.specs.declared.instr.BlockType.{BlockType}
 use Rattle.wc_body.specs.declared.instr.Instr.{Instr}
-use Rattle.wc_body.specs.declared.instr.Instr.TheVariants.{Mem}
+use Rattle.wc_body.specs.declared.instr.Instr.TheVariants.{Mem, CallIndirect}
 use Rattle.wc_body.specs.declared.instr.MemArg.{MemArg}
 use Rattle.wc_body.specs.declared.entry.Kind.{Kind}
 use Rattle.wc_body.specs.declared.entry.Entry.{Entry}
@@ -32,14 +32,33 @@ abbrev pub AreLast : ℕ → ℕ → Type 0
 AreLast b c =
     (s : Bool) × (n : ℕ) × (b ∷ c ∷ [] ≡ signed_bytes (signed_of s n)) × (64 ≤ n) × (n < 2 ^ 13)
 
+-- the same where three bytes in front of them are as many bits as 32 leave
+abbrev pub AreLastOf32 : ℕ → ℕ → Type 0
+AreLastOf32 b c =
+    (s : Bool) × (n : ℕ) × (b ∷ c ∷ [] ≡ signed_bytes (signed_of s n)) × (64 ≤ n) × (n < 2 ^ 10)
+
 -- the bytes begin with those of an integer that both widths hold; these follow
 abbrev pub IsSplit : List ℕ → List ℕ → Type 0
 IsSplit x rest = (y : List ℕ) × (x ≡ y ++ rest) × IsSpelled y
+
+-- these are the canonical bytes of a signed integer that 64 bits hold
+abbrev pub IsLongSpelled : List ℕ → Type 0
+IsLongSpelled x = (z : ℤ) × (x ≡ signed_bytes z) × HoldsSigned 64 z
+
+-- the bytes begin with those of one; these follow
+abbrev pub IsLongSplit : List ℕ → List ℕ → Type 0
+IsLongSplit x rest = (y : List ℕ) × (x ≡ y ++ rest) × IsLongSpelled y
 
 -- the bytes begin with an index, and it was noted what its instruction needs
 abbrev pub NotesIndex : IndexOp → ℕ → List ℕ → List ℕ → Needs → Needs → Type 0
 NotesIndex op enclosing x rest s t =
     (n : ℕ) × (x ≡ unsigned_bytes n ++ rest) × Fits32 n × (t ≡ with_index s enclosing op n)
+
+-- the same of a call through a table
+abbrev pub NotesIndirect : ℕ → List ℕ → List ℕ → Needs → Needs → Type 0
+NotesIndirect k x rest s t =
+    (n : ℕ) × (x ≡ rest_bytes (CallIndirect n) ++ rest) × FitsInstr (CallIndirect n)
+    × (t ≡ with_instr s k (CallIndirect n))
 
 -- the same of an alignment and an offset
 abbrev pub NotesAccess : MemOp → List ℕ → List ℕ → Needs → Needs → Type 0

@@ -1,91 +1,21 @@
 //! Entries that bytes begin with, spelled as they are kept: as most are, so they can be kept without a copy of each.
 
-ghost use Rattle.std.specs.Prelude.{◌≡◌, ◌≤◌, ◌++◌, ◌∷◌, [], IsTrue, IfSome, IsNone};
-ghost use Rattle.wc_leb128.specs.Writing.Bytes.{unsigned_bytes};
-ghost use Rattle.wc_body.specs.Standard.ValueBytes.{Fits32};
-ghost use Rattle.wc_body.specs.Drafting.AtFront.{NotesIndex, NotesAccess, NotesBegin, NotesPlain, Notes};
-ghost use Rattle.wc_body.specs.Drafting.AtFront.{AreLast, IsSplit, IsBare, IsWholeType};
+ghost use Rattle.std.specs.Prelude.{◌≡◌, ◌++◌, ◌∷◌, [], IsTrue, IfSome, IsNone};
+ghost use Rattle.wc_body.specs.Drafting.AtFront.{NotesIndex, NotesIndirect, NotesAccess};
+ghost use Rattle.wc_body.specs.Drafting.AtFront.{NotesBegin, NotesPlain, Notes};
+ghost use Rattle.wc_body.specs.Standard.InstructionBytes.{simple_rest};
+ghost use Rattle.wc_body.specs.Standard.Needed.{with_simple};
+ghost use Rattle.wc_body.specs.Drafting.AtFront.{IsBare, IsWholeType};
 ghost use Rattle.wc_body.specs.Drafting.AtFront.{NotesMark, NotesMarks, NotesUsual};
 ghost use Rattle.wc_body.specs.Writing.EntryBytes.{opening_bytes};
 
 use crate::builder::{Part, first_part_of};
 use crate::entry::Kind;
+use crate::instr::Instr;
 use crate::kept::body::NESTING_LIMIT;
 use crate::needs::Needs;
+use crate::runs::integers::{behind_i32, behind_i64, behind_zero, unsigned_front};
 use wc_ops::{IndexOp, MemOp, Op, OpByte, SimpleOp, ValType};
-
-/// The unsigned integer that the bytes begin with, where it has one byte or two, and no more than it needs; and what
-/// follows it.
-#[inline(always)]
-fn unsigned_front(bytes: &[u8]) -> Option<(u32, &[u8])>
-    ensures { IfSome result (λ f. (bytes.now ≡ unsigned_bytes f.0 ++ f.1.now) × Fits32 f.0) }
-{
-    let (first, rest) = bytes.split_first()?;
-    if *first < 128 {
-        return Some((u32::from(*first), rest));
-    }
-    let (second, rest) = rest.split_first()?;
-    if *second == 0 || *second >= 128 {
-        return None;
-    }
-    Some((u32::from(*first - 128) + 128 * u32::from(*second), rest))
-}
-
-/// What follows the signed integer that the bytes begin with, where it has at most four bytes, and no more than it
-/// needs.
-#[inline(always)]
-fn behind_signed(bytes: &[u8]) -> Option<&[u8]>
-    ensures { IfSome result (λ rest. IsSplit bytes.now rest.now) }
-{
-    let (first, rest) = bytes.split_first()?;
-    if *first < 128 {
-        return Some(rest);
-    }
-    behind_long_signed(*first, rest)
-}
-
-/// The same of one of two bytes or more, the first of which was taken.
-#[inline(never)]
-fn behind_long_signed(first: u8, bytes: &[u8]) -> Option<&[u8]>
-    requires { 128 ≤ first }
-    ensures { IfSome result (λ rest. IsSplit (first ∷ bytes.now) rest.now) }
-{
-    let (second, rest) = bytes.split_first()?;
-    if *second < 128 {
-        return behind_last(first, *second, rest);
-    }
-    let (third, rest) = rest.split_first()?;
-    if *third < 128 {
-        return behind_last(*second, *third, rest);
-    }
-    let (fourth, rest) = rest.split_first()?;
-    behind_last(*third, *fourth, rest)
-}
-
-/// What follows the last two bytes of a signed integer, where the last one is wanted.
-#[inline(always)]
-fn behind_last(last_but_one: u8, last: u8, rest: &[u8]) -> Option<&[u8]>
-    requires { 128 ≤ last_but_one }
-    ensures { IfSome result (λ left. (left.now ≡ rest.now) × AreLast last_but_one last) }
-{
-    if are_last(last_but_one, last) {
-        Some(rest)
-    } else {
-        None
-    }
-}
-
-/// Whether the bytes spell a signed integer together that one byte can't.
-#[inline(always)]
-pub(crate) fn are_last(first: u8, second: u8) -> bool
-    requires { 128 ≤ first }
-    ensures { IsTrue result → AreLast first second }
-{
-    if second < 64 {
-        return u16::from(first - 128) + 128 * u16::from(second) >= 64;
-    }
-    second < 128 && u16::from(255 - first) + 128 * u16::from(127 - second) >= 64
-}
 
 /// Notes the instruction of an index that these bytes begin with. What follows it is answered.
 #[inline(always)]
@@ -154,7 +84,40 @@ fn is_bare(op: SimpleOp) -> bool
     !matches!(op, SimpleOp::MemorySize | SimpleOp::MemoryGrow)
 }
 
-/// The same of an instruction by its meaning, where it is one that nothing follows, or an access.
+/// The same of an instruction behind whose opcode a byte 0 stands.
+#[inline(never)]
+fn sized_front<'a>(op: SimpleOp, bytes: &'a [u8], needs: &mut Needs) -> Option<&'a [u8]>
+    ensures some { IfSome result (λ rest.
+        (bytes.now ≡ simple_rest op ++ rest.now) × (needs.new ≡ with_simple needs.old op)) }
+    ensures none { IsNone result → needs.new ≡ needs.old }
+{
+    let rest = behind_zero(bytes)?;
+    match op {
+        SimpleOp::MemorySize => {
+            needs.memory = true;
+            Some(rest)
+        }
+        SimpleOp::MemoryGrow => {
+            needs.memory = true;
+            Some(rest)
+        }
+        _ => None,
+    }
+}
+
+/// The same of a call through a table.
+#[inline(never)]
+fn indirect_front<'a>(enclosing: usize, bytes: &'a [u8], needs: &mut Needs) -> Option<&'a [u8]>
+    ensures some { IfSome result (λ rest. NotesIndirect enclosing bytes.now rest.now needs.old needs.new) }
+    ensures none { IsNone result → needs.new ≡ needs.old }
+{
+    let (ty, rest) = unsigned_front(bytes)?;
+    let rest = behind_zero(rest)?;
+    needs.note_instr(enclosing, &Instr::CallIndirect(ty));
+    Some(rest)
+}
+
+/// The same of an instruction by its meaning, where it is one without an immediate, or an access.
 #[inline(always)]
 fn meant_front<'a>(byte: u8, bytes: &'a [u8], needs: &mut Needs) -> Option<&'a [u8]>
     ensures some { IfSome result (λ rest. NotesPlain byte bytes.now rest.now needs.old needs.new) }
@@ -163,7 +126,7 @@ fn meant_front<'a>(byte: u8, bytes: &'a [u8], needs: &mut Needs) -> Option<&'a [
     match Op::of_byte(byte) {
         OpByte::Known(Op::Simple(op)) => {
             if !is_bare(op) {
-                return None;
+                return sized_front(op, bytes, needs);
             }
             Some(bytes)
         }
@@ -190,13 +153,14 @@ pub(crate) fn instr_front<'a>(
         0x0c => index_front(IndexOp::Br, enclosing, rest, needs),
         0x0d => index_front(IndexOp::BrIf, enclosing, rest, needs),
         0x10 => index_front(IndexOp::Call, enclosing, rest, needs),
+        0x11 => indirect_front(enclosing, rest, needs),
         0x20 => index_front(IndexOp::LocalGet, enclosing, rest, needs),
         0x21 => index_front(IndexOp::LocalSet, enclosing, rest, needs),
         0x22 => index_front(IndexOp::LocalTee, enclosing, rest, needs),
         0x23 => index_front(IndexOp::GlobalGet, enclosing, rest, needs),
         0x24 => index_front(IndexOp::GlobalSet, enclosing, rest, needs),
-        0x41 => behind_signed(rest),
-        0x42 => behind_signed(rest),
+        0x41 => behind_i32(rest),
+        0x42 => behind_i64(rest),
         _ => meant_front(*byte, rest, needs),
     }
 }

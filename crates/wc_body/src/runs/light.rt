@@ -12,7 +12,7 @@ ghost use Rattle.wc_body.specs.declared.runs.light.LightNeeds.{LightNeeds};
 ghost use Rattle.wc_body.specs.declared.needs.Needs.{Needs};
 
 use crate::needs::{Needs, low_bit};
-use crate::runs::front::are_last;
+use crate::runs::integers::are_last;
 
 /// What an opcode's light entries are like.
 struct Light {

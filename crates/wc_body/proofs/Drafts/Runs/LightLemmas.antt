@@ -30,7 +30,7 @@ use Rattle.wc_body.specs.Standard.InstructionBytes.{instr_bytes}
 use Rattle.wc_body.specs.Standard.Needed.{enough, with_index}
 use Rattle.wc_body.specs.Drafting.AtFront.{NotesInstr}
 use Rattle.wc_body.specs.Drafting.LightRows.{light_at, meant_light, op_light, with_light, with_noted}
-use Rattle.wc_body.proofs.Drafts.Runs.FrontLemmas.{spelled-one, unsigned-two}
+use Rattle.wc_body.proofs.Drafts.Runs.IntegerFronts.{spelled-one, unsigned-two}
 
 -- ---- the table
 

@@ -24,7 +24,7 @@ use Rattle.wc_body.specs.Standard.Needed.{with_index}
 use Rattle.wc_body.specs.Drafting.AtFront.{NotesInstr, AreLast}
 use Rattle.wc_body.specs.Drafting.LightRows.{light_at, meant_light, op_light, with_noted}
 use Rattle.wc_body.specs.Drafting.LightRows.{IsOuter, IsOuterAt, NotesOuter, IsConstantAt}
-use Rattle.wc_body.proofs.Drafts.Runs.FrontLemmas.{signed-held, unsigned-two}
+use Rattle.wc_body.proofs.Drafts.Runs.IntegerFronts.{signed-held, unsigned-two}
 use Rattle.wc_body.proofs.Drafts.Runs.LightLemmas.{width}
 
 -- ---- which opcode it is

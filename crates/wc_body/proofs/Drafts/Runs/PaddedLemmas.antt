@@ -29,7 +29,7 @@ use Rattle.wc_body.specs.Standard.InstructionBytes.{instr_bytes}
 use Rattle.wc_body.specs.Standard.Needed.{with_index}
 use Rattle.wc_body.specs.Drafting.FreeEntries.{IsAlone, padded, NotesTwo, NotesPadded}
 use Rattle.wc_body.specs.Drafting.LightRows.{light_at, meant_light, op_light, with_light}
-use Rattle.wc_body.proofs.Drafts.Runs.FrontLemmas.{signed-held}
+use Rattle.wc_body.proofs.Drafts.Runs.IntegerFronts.{signed-held}
 use Rattle.wc_body.proofs.Drafts.Runs.LightLemmas.{label-noted, local-noted, none-noted, light-noted}
 
 -- an integer below 64 by five bytes

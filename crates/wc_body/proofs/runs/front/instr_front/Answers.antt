@@ -1,6 +1,6 @@
 use Rattle.std.proofs.Common.{refl, ap, ◌∷◌, ◌∙◌, rules, ◌≡◌, length}
 use Rattle.wc_ops.specs.declared.op.IndexOp.TheVariants as index
-use Rattle.wc_body.proofs.Drafts.Runs.FrontLemmas.{index-notes, i32-notes, i64-notes, plain-notes}
+use Rattle.wc_body.proofs.Drafts.Runs.FrontLemmas.{index-notes, indirect-notes, i32-notes, i64-notes, plain-notes}
 use Rattle.wc_body.proofs.runs.front.instr_front.Goals as goal
 
 pub returns-in-12-clause-some : goal.returns-in-12-clause-some
@@ -23,6 +23,12 @@ returns-in-16-clause-some c =
     index-notes _ _ 16 _ _ _ c.args.parts.now.items (c.in_ok-byte.ensures.cases.0
     ∙ ap (λ b. b ∷ c.in_ok-byte.rest.now) c.in-16.is)
     index.Call refl _ open_ c.index_front-in-16.result c.index_front-in-16.ensures.some
+
+pub returns-in-17-clause-some : goal.returns-in-17-clause-some
+returns-in-17-clause-some c =
+    indirect-notes _ _ 17 _ _ _ c.args.parts.now.items (c.in_ok-byte.ensures.cases.0
+    ∙ ap (λ b. b ∷ c.in_ok-byte.rest.now) c.in-17.is)
+    refl c.len-enclosing.result c.indirect_front.result c.indirect_front.ensures.some
 
 pub returns-in-32-clause-some : goal.returns-in-32-clause-some
 returns-in-32-clause-some c =
@@ -63,13 +69,13 @@ pub returns-in-65-clause-some : goal.returns-in-65-clause-some
 returns-in-65-clause-some c =
     i32-notes _ _ 65 _ c.args.needs.now _ c.args.parts.now.items (c.in_ok-byte.ensures.cases.0
     ∙ ap (λ b. b ∷ c.in_ok-byte.rest.now) c.in-65.is)
-    refl c.behind_signed.result c.behind_signed.ensures
+    refl c.behind_i32.result c.behind_i32.ensures
 
 pub returns-in-66-clause-some : goal.returns-in-66-clause-some
 returns-in-66-clause-some c =
     i64-notes _ _ 66 _ c.args.needs.now _ c.args.parts.now.items (c.in_ok-byte.ensures.cases.0
     ∙ ap (λ b. b ∷ c.in_ok-byte.rest.now) c.in-66.is)
-    refl c.behind_signed-in-66.result c.behind_signed-in-66.ensures
+    refl c.behind_i64.result c.behind_i64.ensures
 
 pub returns-in_default-clause-some : goal.returns-in_default-clause-some
 returns-in_default-clause-some c =

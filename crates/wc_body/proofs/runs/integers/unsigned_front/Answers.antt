@@ -1,6 +1,6 @@
-use Rattle.wc_body.proofs.Drafts.Runs.FrontLemmas.{unsigned-one, unsigned-two}
+use Rattle.wc_body.proofs.Drafts.Runs.IntegerFronts.{unsigned-one, unsigned-two}
 use Rattle.std.proofs.Common.{◌<◌, arith, rules}
-use Rattle.wc_body.proofs.runs.front.unsigned_front.Goals as goal
+use Rattle.wc_body.proofs.runs.integers.unsigned_front.Goals as goal
 
 pub returns-then-first-lt128 : goal.returns-then-first-lt128
 returns-then-first-lt128 c =

@@ -1,7 +1,7 @@
 use Rattle.std.proofs.Common.{◌-◌, ◌*◌, ◌+◌, ◌/◌, ◌%◌, ◌≡◌, ◌<◌, ◌≤◌, true, false, arith, rules}
 use Rattle.std.proofs.lemmas.Bool.{leb-true}
-use Rattle.wc_body.proofs.Drafts.Runs.FrontLemmas.{last-two}
-use Rattle.wc_body.proofs.runs.front.are_last.Goals as goal
+use Rattle.wc_body.proofs.Drafts.Runs.IntegerFronts.{last-two}
+use Rattle.wc_body.proofs.runs.integers.are_last.Goals as goal
 
 pub returns-then-second-lt64 : goal.returns-then-second-lt64
 returns-then-second-lt64 c is =
