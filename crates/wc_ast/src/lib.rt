@@ -47,7 +47,8 @@ pub use crate::name::Name;
 pub use crate::segment::{Data, Elem};
 pub use wc_body::{
     BlockType, Body, BodyBuilder, BodyRef, Brief, BuildFault, Constant, Entries, Entry, Instr,
-    Kind, Labels, MemArg, NESTING_LIMIT, Needs, OwnNeeds, Short, TryClone, entries_tell_bodies,
+    Kind, Labels, MemArg, NESTING_LIMIT, Needs, Numbered, OwnNeeds, Short, TryClone,
+    entries_tell_bodies,
 };
 pub use wc_ops::{
     IndexOp, MemOp, Op, OpByte, OpName, SimpleOp, ValType, leads_back, one_meaning, rows_differ,

@@ -20,6 +20,11 @@ impl<T> Model for List<T> {
 }
 
 impl<T> List<T> {
+    /// What its memory comes from.
+    pub(crate) fn allocator(&self) -> Global {
+        *self.items.allocator()
+    }
+
     /// The empty list. It takes no memory.
     pub fn new(alloc: Global) -> List<T>
         ensures { result ≡ [] }

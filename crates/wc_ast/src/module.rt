@@ -1,6 +1,6 @@
 //! Modules.
 
-ghost use Rattle.std.specs.Prelude.{◌≡◌, [], IfOk};
+ghost use Rattle.std.specs.Prelude.{◌≡◌, [], IfOk, OnOk};
 
 use crate::exports::Exports;
 use crate::func::Global;
@@ -64,17 +64,26 @@ impl Module {
     pub fn try_clone(&self) -> Result<Module, AllocError>
         ensures { IfOk result (λ copy. copy ≡ self.now) }
     {
-        Ok(Module {
-            types: self.types.try_clone()?,
-            imports: self.imports.try_clone()?,
-            funcs: self.funcs.try_clone()?,
-            tables: self.tables.try_copy()?,
-            mems: self.mems.try_copy()?,
-            globals: self.globals.try_clone()?,
-            exports: self.exports.try_clone()?,
-            start: self.start,
-            elems: self.elems.try_clone()?,
-            datas: self.datas.try_clone()?,
-        })
+        let mut copy = Module::new(self.types.allocator());
+        self.copy_into(&mut copy)?;
+        Ok(copy)
+    }
+
+    /// Makes another module equal to this one. The error is want of memory.
+    // What is copied so far stands in the other one, so nothing has to be let go where memory is refused.
+    fn copy_into(&self, copy: &mut Module) -> Result<(), AllocError>
+        ensures { OnOk result (copy.new ≡ self.now) }
+    {
+        copy.types = self.types.try_clone()?;
+        copy.imports = self.imports.try_clone()?;
+        copy.funcs = self.funcs.try_clone()?;
+        copy.tables = self.tables.try_copy()?;
+        copy.mems = self.mems.try_copy()?;
+        copy.globals = self.globals.try_clone()?;
+        copy.exports = self.exports.try_clone()?;
+        copy.start = self.start;
+        copy.elems = self.elems.try_clone()?;
+        copy.datas = self.datas.try_clone()?;
+        Ok(())
     }
 }

@@ -28,4 +28,5 @@ pub use crate::needs::{Needs, OwnNeeds};
 pub use crate::try_clone::TryClone;
 pub use crate::walks::brief::Brief;
 pub use crate::walks::entries::Entries;
+pub use crate::walks::numbered::Numbered;
 pub use crate::walks::short::Short;

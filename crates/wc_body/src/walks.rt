@@ -1,10 +1,13 @@
-//! Walks over the entries of a body that is kept. `next` gives whichever comes first; two calls give what they can tell
-//! faster, most of a body, and leave the rest to it:
+//! Walks over the entries of a body that is kept. `next` gives whichever comes first; three calls give what they can
+//! tell faster, most of a body, and leave the rest to it:
 //! - `short`: an instruction of its opcode and at most one byte more;
 //! - `brief`: an entry whose integers have one byte each, whose alignment is the natural one and whose block type is
-//!   the empty one, by its opcode and one number.
+//!   the empty one, by its opcode and one number;
+//! - `numbered`: an instruction of an index, a constant or an access of memory, whatever its integers are.
 
 pub mod brief;
 pub mod entries;
+pub mod numbered;
+pub(crate) mod numbered_front;
 pub mod short;
 pub(crate) mod short_front;

@@ -1,7 +1,7 @@
 //! The subcommands, their arguments and their help.
 
 ghost use Rattle.std.specs.Prelude.{◌≡◌, IfOk, IfSome, false, codes};
-ghost use Rattle.clap.specs.Words.{app_of, rule_of};
+ghost use Rattle.clap.specs.Words.{App, app_of, rule_of, with_subcommand};
 ghost use Rattle.clap.specs.declared.Command.TheViews.{out-Command as fields_of};
 ghost use Rattle.wc_cli.specs.Standard.Program.{path_rule, paths_rule, output_rule, top_app, make_app};
 ghost use Rattle.wc_cli.specs.Standard.Program.{each_app, compare_app, program};
@@ -123,15 +123,27 @@ fn top<'a>(alloc: Global) -> Command<'a>
         .subcommand_required(true)
 }
 
+/// A command with one more subcommand. The error is want of memory, which either may have met.
+// Here alone is a way out, so that `wcanon`, which puts six together, has none.
+fn with<'a>(
+    command: Result<Command<'a>, AllocError>,
+    subcommand: Result<Command<'a>, AllocError>,
+) -> Result<Command<'a>, AllocError>
+    ensures { (a b : App) → IfOk command.entry (λ c. app_of c ≡ a)
+        → IfOk subcommand.entry (λ c. app_of c ≡ b) → IfOk subcommand.entry (λ c. (fields_of c).has_globals ≡ false)
+        → IfOk result (λ c. app_of c ≡ with_subcommand a b.top) }
+{
+    command?.subcommand(subcommand?)
+}
+
 /// The program's command, with its subcommands.
 pub(crate) fn wcanon<'a>(alloc: Global) -> Result<Command<'a>, AllocError>
     ensures { IfOk result (λ c. app_of c ≡ program) }
 {
-    top(alloc)
-        .subcommand(binary(alloc)?)?
-        .subcommand(text(alloc)?)?
-        .subcommand(check(alloc)?)?
-        .subcommand(canonical(alloc)?)?
-        .subcommand(hash(alloc)?)?
-        .subcommand(compare(alloc)?)
+    let command = with(Ok(top(alloc)), binary(alloc));
+    let command = with(command, text(alloc));
+    let command = with(command, check(alloc));
+    let command = with(command, canonical(alloc));
+    let command = with(command, hash(alloc));
+    with(command, compare(alloc))
 }

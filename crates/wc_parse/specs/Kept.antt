@@ -4,3 +4,4 @@ pub mod Folds
 pub mod SaidSoFar
 pub mod Refusing
 pub mod Passing
+pub mod AllRead

@@ -12,21 +12,22 @@ use std::alloc::Global;
 use wc_surface::Surface;
 use wc_syntax::{Reading, SynWhy};
 
-/// The fields of a text of which so many tokens were read, and none is left; or that one more has to follow.
+/// The fields of a text of which so many tokens were read, and none is left; or that one more has to follow. They are
+/// taken out of the draft.
 pub(crate) fn ended<'a>(
     alloc: Global,
     reading: &Reading,
-    draft: TextDraft<'a>,
+    draft: &mut TextDraft<'a>,
     count: usize,
 ) -> Result<Surface<'a>, SynFault>
-    requires { (ts : List Lexeme) × IsAllSaid ts count reading.now draft }
+    requires { (ts : List Lexeme) × IsAllSaid ts count reading.now draft.old }
     ensures ok { IfOk result (λ fields. (ts : List Lexeme)
-        → IsAllSaid ts count reading.now draft.entry → Syn ts fields) }
+        → IsAllSaid ts count reading.now draft.old → Syn ts fields) }
     ensures fault { IfErr result (λ fault. (ts : List Lexeme)
-        → IsAllSaid ts count reading.now draft.entry → IsFault ts fault) }
+        → IsAllSaid ts count reading.now draft.old → IsFault ts fault) }
 {
     if reading.is_text() {
-        Ok(Surface::new(draft.into_fields(alloc)))
+        Ok(Surface::new(draft.take_fields(alloc)))
     } else {
         Err(SynFault::Bad {
             token: count as u64,

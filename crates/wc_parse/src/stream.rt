@@ -1,12 +1,16 @@
 //! From a text to its fields, with no token kept.
 
-ghost use Rattle.std.specs.Prelude.{◌≡◌, ◌⊎◌, List, IfOk, IfErr, IsErrAnd, MatchResult};
+ghost use Rattle.std.specs.Prelude.{◌≡◌, ◌⊎◌, [], List, IfOk, IfErr, IsErrAnd, MatchResult};
+ghost use Rattle.wc_body.specs.Standard.Nested.{nesting_limit};
+ghost use Rattle.wc_syntax.specs.Standard.Reading.{IsRead};
 ghost use Rattle.wc_surface.specs.declared.field.Field.{Field};
 ghost use Rattle.wc_parse.specs.declared.fault.SynFault.TheVariants.{Bad};
 ghost use Rattle.wc_parse.specs.declared.refusal.TextRefusal.{TextRefusal as Refusal};
 ghost use Rattle.wc_parse.specs.declared.refusal.TextRefusal.TheVariants.{Memory};
 ghost use Rattle.wc_parse.specs.Standard.Wholes.{SaysText, FirstRefusal, IsRefused};
+ghost use Rattle.wc_parse.specs.Kept.AllRead.{IsAllRead};
 ghost use Rattle.wc_parse.specs.Kept.Refusing.{RefusesBy};
+ghost use Rattle.wc_parse.specs.Kept.Texts.{nothing};
 
 use crate::ending::ended;
 use crate::fault::SynFault;
@@ -45,26 +49,47 @@ fn refused(lexer: Lexer<'_>, fault: SynFault) -> TextRefusal
     }
 }
 
-/// The fields, or the first fault.
-fn fields_or_refusal<'a>(alloc: Global, text: &'a [u8]) -> Result<Surface<'a>, TextRefusal>
-    ensures ok { IfOk result (λ fields. SaysText text.now fields) }
+/// Takes all tokens of a text, and answers what is left of it then and how many they were, or the first fault.
+// What they say stands elsewhere, so that nothing has to be let go where the text has a fault.
+#[inline(always)]
+fn take_all<'a>(
+    alloc: Global,
+    text: &'a [u8],
+    reading: &mut Reading,
+    draft: &mut TextDraft<'a>,
+) -> Result<(Lexer<'a>, usize), TextRefusal>
+    requires reading { IsRead nesting_limit [] [] reading.old }
+    requires draft { draft.old ≡ nothing }
+    ensures ok { IfOk result (λ r. IsAllRead text.now r.1 r.0 reading.new draft.new) }
     ensures fault { IfErr result (λ refusal. IsRefused text.now refusal) }
 {
     let mut lexer = Lexer::new(text)?;
-    let mut reading = Reading::new(alloc, NESTING_LIMIT);
-    let mut draft = TextDraft::new(alloc);
     let mut at: usize = 0;
     while let Some(token) = lexer.next()? {
-        match take_token(alloc, &mut reading, &mut draft, at, &token) {
+        match take_token(alloc, reading, draft, at, &token) {
             Ok(false) => at += 1,
-            Ok(true) => match take_wholes(alloc, &mut lexer, &reading, &mut draft, at + 1) {
+            Ok(true) => match take_wholes(alloc, &mut lexer, reading, draft, at + 1) {
                 Ok(behind) => at = behind,
                 Err(_) => return Err(TextRefusal::Memory),
             },
             Err(fault) => return Err(refused(lexer, fault)),
         }
     }
-    match ended(alloc, &reading, draft, at) {
+    Ok((lexer, at))
+}
+
+/// The fields, or the first fault.
+fn fields_or_refusal<'a>(alloc: Global, text: &'a [u8]) -> Result<Surface<'a>, TextRefusal>
+    ensures ok { IfOk result (λ fields. SaysText text.now fields) }
+    ensures fault { IfErr result (λ refusal. IsRefused text.now refusal) }
+{
+    let mut reading = Reading::new(alloc, NESTING_LIMIT);
+    let mut draft = TextDraft::new(alloc);
+    let (lexer, count) = match take_all(alloc, text, &mut reading, &mut draft) {
+        Ok(read) => read,
+        Err(refusal) => return Err(refusal),
+    };
+    match ended(alloc, &reading, &mut draft, count) {
         Ok(fields) => Ok(fields),
         Err(fault) => Err(refused(lexer, fault)),
     }

@@ -83,12 +83,11 @@ impl<'a> TextDraft<'a> {
     }
 
     /// The fields so far. It takes no memory.
-    // They are taken out, and the rest is let go whole.
-    pub(crate) fn into_fields(self, alloc: Global) -> List<Field<'a>>
-        ensures { result ≡ self.entry.fields }
+    // They are taken out, so that who asks holds no draft where the text has a fault.
+    pub(crate) fn take_fields(&mut self, alloc: Global) -> List<Field<'a>>
+        ensures { result ≡ self.old.fields }
     {
-        let mut draft = self;
-        replace(&mut draft.fields, List::new(alloc))
+        replace(&mut self.fields, List::new(alloc))
     }
 
     /// The field ends. The error is want of memory.

@@ -5,7 +5,9 @@ ghost use Rattle.std.specs.Prelude.{◌≡◌, ◌≤◌, ◌<◌, ◌+◌, ◌�
 ghost use Rattle.std.specs.List.{flat_map};
 ghost use Rattle.wc_body.specs.declared.entry.Entry.{Entry};
 ghost use Rattle.wc_body.specs.Standard.Entries.{mark};
+ghost use Rattle.wc_body.specs.Standard.Nested.{plain};
 ghost use Rattle.wc_body.specs.Standard.Walks.Brief.{brief_entry};
+ghost use Rattle.wc_body.specs.Standard.Walks.Numbered.{numbered};
 ghost use Rattle.wc_print.specs.Standard.Printed.{below, closing};
 ghost use Rattle.wc_print.specs.Standard.Printable.{Put};
 ghost use Rattle.wc_print.specs.Standard.Going.{Puts, Behind};
@@ -18,7 +20,7 @@ use crate::integers::{write_access, write_constant, write_indexed};
 use crate::lines::{Row, line_of};
 use crate::operands::{Text, operand_text};
 use crate::sink::Sink;
-use wc_ast::{BodyRef, Brief, Entries, Entry, Instr, Op};
+use wc_ast::{BodyRef, Brief, Entries, Entry, Numbered, Op};
 
 /// How many bytes a page has.
 pub const PAGE: usize = 512;
@@ -101,7 +103,50 @@ fn put_all_brief<S: Sink>(
     at
 }
 
-/// Puts what is written on the page, and the line of an entry behind it.
+/// Writes the line of an instruction of numbers.
+#[inline(always)]
+fn write_numbered(page: &mut [u8; PAGE], at: usize, it: Numbered) -> usize
+    requires { at + 80 ≤ 512 }
+    ensures within { result ≤ 512 }
+    ensures put { Put (line_items (plain (numbered it))) (take at page.old) (take result page.new) }
+{
+    match it {
+        Numbered::Index(op, index) => write_indexed(page, at, op, index),
+        Numbered::Mem(op, arg) => write_access(page, at, op, arg),
+        Numbered::I32Const(n) => write_constant(page, at, Op::I32Const, i64::from(n)),
+        Numbered::I64Const(n) => write_constant(page, at, Op::I64Const, n),
+    }
+}
+
+/// The lines of the entries up to the first one that is neither brief nor an instruction of numbers, and where the next
+/// line begins.
+#[inline(always)]
+fn put_all_numbered<S: Sink>(
+    out: &mut S,
+    page: &mut [u8; PAGE],
+    from: usize,
+    entries: &mut Entries<'_>,
+) -> usize
+    requires { from + 80 ≤ 512 }
+    ensures room { result + 80 ≤ 512 }
+    ensures puts { LeavesLines (Behind S.Has) entries.new entries.old
+        (out.new, take result page.new) (out.old, take from page.old) }
+    ensures fewer { length entries.new ≤ length entries.old }
+{
+    let mut at = from;
+    'lines: loop {
+        at = put_all_brief(out, page, at, entries);
+        let Some(first) = entries.next_numbered() else {
+            break;
+        };
+        let end = write_numbered(page, at, first);
+        at = turn(out, page, end);
+    }
+    at
+}
+
+/// Puts what is written on the page, and the line of an entry behind it: of what has no bound, as a table of labels, or
+/// is rare.
 // Such entries are few, so they stay out of the loop.
 #[inline(never)]
 fn put_behind<S: Sink>(out: &mut S, page: &[u8; PAGE], at: usize, entry: Entry<'_>)
@@ -112,27 +157,6 @@ fn put_behind<S: Sink>(out: &mut S, page: &[u8; PAGE], at: usize, entry: Entry<'
     put_entry(out, Place::Line, entry);
 }
 
-/// Puts the line of an entry, and says where the page's last line ends. Those of integers are written on the page, and
-/// what has no bound, as a table of labels, or is rare goes behind it.
-#[inline(always)]
-fn put_line<S: Sink>(out: &mut S, page: &mut [u8; PAGE], at: usize, entry: Entry<'_>) -> usize
-    requires { at + 80 ≤ 512 }
-    ensures within { result ≤ 512 }
-    ensures put { Puts (Behind S.Has) (line_items (mark entry.entry))
-        (out.old, take at page.old) (out.new, take result page.new) }
-{
-    match entry {
-        Entry::Plain(Instr::Index(op, index)) => write_indexed(page, at, op, index),
-        Entry::Plain(Instr::Mem(op, arg)) => write_access(page, at, op, arg),
-        Entry::Plain(Instr::I32Const(n)) => write_constant(page, at, Op::I32Const, i64::from(n)),
-        Entry::Plain(Instr::I64Const(n)) => write_constant(page, at, Op::I64Const, n),
-        _ => {
-            put_behind(out, page, at, entry);
-            0
-        }
-    }
-}
-
 /// The instructions of a function, each on a line, and its end, behind what is written on the page.
 pub fn put_lines<S: Sink>(out: &mut S, page: &mut [u8; PAGE], from: usize, body: &BodyRef<'_>)
     requires { from + 80 ≤ 512 }
@@ -140,11 +164,14 @@ pub fn put_lines<S: Sink>(out: &mut S, page: &mut [u8; PAGE], from: usize, body:
         (out.old, take from page.old) (out.new, []) }
 {
     let mut entries = body.entries();
-    let mut at = put_all_brief(out, page, from, &mut entries);
-    while let Some(entry) = entries.next() {
-        let end = put_line(out, page, at, entry);
-        let next = turn(out, page, end);
-        at = put_all_brief(out, page, next, &mut entries);
+    let mut at = from;
+    'lines: loop {
+        at = put_all_numbered(out, page, at, &mut entries);
+        let Some(entry) = entries.next() else {
+            break;
+        };
+        put_behind(out, page, at, entry);
+        at = 0;
     }
     let end = write_row(page, at, b"\n  )                   \x04");
     out.put(&page[..end]);

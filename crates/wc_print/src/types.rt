@@ -3,7 +3,7 @@
 ghost use Rattle.std.specs.Prelude.{◌≡◌, ◌∷◌, [], ◌++◌, ℕ, true, List as Seq, codes, map, replicate};
 ghost use Rattle.wc_print.specs.Standard.Printed.{word, next, opening, closing, after, printed};
 ghost use Rattle.wc_print.specs.Standard.Printable.{is_word};
-ghost use Rattle.wc_print.specs.Standard.Going.{Puts};
+ghost use Rattle.wc_print.specs.Standard.Going.{Puts, Leaves};
 ghost use Rattle.wc_print.specs.Standard.Lines.{type_item, type_use_items};
 ghost use Rattle.wc_print.specs.Standard.Layout.{values_items, type_items, limits_items, global_type_items};
 ghost use Rattle.wc_ast.specs.Standard.LocalGroups.{written_out};
@@ -62,15 +62,52 @@ fn put_values<S: Sink>(out: &mut S, head: &'static str, value_types: &[ValType])
     out.put(b")");
 }
 
+/// A type sixteen times.
+fn sixteen_text(value_type: ValType) -> &'static str
+    ensures { result.now ≡ printed (map type_item (replicate 16 value_type)) }
+{
+    match value_type {
+        ValType::I32 => " i32 i32 i32 i32 i32 i32 i32 i32 i32 i32 i32 i32 i32 i32 i32 i32",
+        ValType::I64 => " i64 i64 i64 i64 i64 i64 i64 i64 i64 i64 i64 i64 i64 i64 i64 i64",
+    }
+}
+
+fn put_sixteen<S: Sink>(out: &mut S, value_type: ValType)
+    ensures { Puts S.Has (map type_item (replicate 16 value_type)) out.old out.new }
+{
+    out.put(sixteen_text(value_type).as_bytes());
+}
+
+/// Locals of one type by sixteens, and how many are left.
+fn put_sixteens<S: Sink>(out: &mut S, group: Group) -> u32
+    ensures { Leaves S.Has (map type_item (replicate result group.value_type))
+        (map type_item (replicate group.count group.value_type)) out.new out.old }
+{
+    let mut left = group.count;
+    while left >= 16 {
+        put_sixteen(out, group.value_type);
+        left -= 16;
+    }
+    left
+}
+
+/// So many locals of one type, one by one.
+fn put_few<S: Sink>(out: &mut S, value_type: ValType, count: u32)
+    ensures { Puts S.Has (map type_item (replicate count value_type)) out.old out.new }
+{
+    let mut left = count;
+    while left > 0 {
+        put_value_type(out, value_type);
+        left -= 1;
+    }
+}
+
 /// So many locals of one type.
 fn put_group<S: Sink>(out: &mut S, group: Group)
     ensures { Puts S.Has (map type_item (replicate group.count group.value_type)) out.old out.new }
 {
-    let mut left = group.count;
-    while left > 0 {
-        put_value_type(out, group.value_type);
-        left -= 1;
-    }
+    let left = put_sixteens(out, group);
+    put_few(out, group.value_type, left);
 }
 
 fn put_groups<S: Sink>(out: &mut S, groups: &[Group])

@@ -4,7 +4,7 @@ ghost use Rattle.std.specs.Prelude.{◌≡◌, IfSome, option_map};
 ghost use Rattle.wc_leb128.specs.Standard.Shortest.{HoldsSigned};
 ghost use Rattle.wc_body.specs.Reading.Fronts.{seen, unsigned_front, signed_front};
 
-use wc_leb128::{signed_at, signed_in_one, unsigned_at, unsigned_in_one};
+use wc_leb128::{signed_at, signed_in_one, u32_front, unsigned_at, unsigned_in_one};
 
 /// An unsigned integer of 32 bits, of any length.
 #[inline(never)]
@@ -25,6 +25,14 @@ pub(crate) fn u32_at(bytes: &[u8]) -> Option<(u32, &[u8])>
         Some(n) => Some((u32::from(n), rest)),
         None => long_u32_at(bytes),
     }
+}
+
+/// The same with no call, where most have two bytes or more.
+#[inline(always)]
+pub(crate) fn u32_in_place(bytes: &[u8]) -> Option<(u32, &[u8])>
+    ensures { option_map seen result ≡ unsigned_front 32 bytes.now }
+{
+    u32_front(bytes)
 }
 
 /// A signed integer of 32 bits, of any length.

@@ -7,6 +7,8 @@ ghost use Rattle.wc_body.specs.Standard.Entries.{mark};
 use crate::bytes::find::entry_at;
 use crate::entry::Entry;
 use crate::walks::brief::{Brief, brief_at};
+use crate::walks::numbered::Numbered;
+use crate::walks::numbered_front::numbered_at;
 use crate::walks::short::Short;
 use crate::walks::short_front::short_at;
 use std::marker::Model;
@@ -45,6 +47,7 @@ impl<'a> Entries<'a> {
     ghost use Rattle.wc_body.specs.Standard.Nested.{plain};
     ghost use Rattle.wc_body.specs.Standard.Walks.Short.{instruction};
     ghost use Rattle.wc_body.specs.Standard.Walks.Brief.{SaysFirst};
+    ghost use Rattle.wc_body.specs.Standard.Walks.Numbered.{numbered};
     ghost use Rattle.wc_body.specs.Reading.Unpacked.{unpacked, IsPacked};
 
     pub(crate) fn of_bytes(bytes: &'a [u8]) -> Entries<'a>
@@ -87,6 +90,19 @@ impl<'a> Entries<'a> {
         let (brief, left) = brief_at(self.bytes)?;
         self.bytes = left;
         Some(brief)
+    }
+
+    /// The first entry that is left, where it is an instruction of an index, a constant or an access of memory: it is
+    /// taken. So all but a few entries that aren't brief are had without a place for whatever an entry may have. Where
+    /// it answers none, nothing is taken, and `next` tells what is left.
+    #[inline(always)]
+    pub fn next_numbered(&mut self) -> Option<Numbered>
+        ensures some { IfSome result (λ n. self.old ≡ plain (numbered n) ∷ self.new) }
+        ensures none { IsNone result → self.new ≡ self.old }
+    {
+        let (first, after) = numbered_at(self.bytes)?;
+        self.bytes = after;
+        Some(first)
     }
 }
 

@@ -22,7 +22,8 @@ use Rattle.wc_parse.specs.Kept.Texts.{nothing}
 use Rattle.wc_parse.specs.Standard.Faults.{FirstFault, IsFault}
 use Rattle.wc_parse.specs.Standard.Wholes.{IsRefused}
 use Rattle.wc_parse.specs.Kept.Refusing.{RefusesBy}
-use Rattle.wc_parse.specs.Kept.SaidSoFar.{IsSaid, IsAllSaid, SaysMore, Refuses}
+use Rattle.wc_parse.specs.Kept.AllRead.{IsAllRead}
+use Rattle.wc_parse.specs.Kept.SaidSoFar.{IsSaid, SaysMore, Refuses}
 use Rattle.wc_parse.proofs.Saying.Said.{said-first}
 use Rattle.wc_parse.proofs.Tokens.Forms.{few}
 
@@ -117,15 +118,8 @@ past zero (y ∷ xs) e = absurd cc
 past (suc n) [] e = omega arith
 past (suc n) (y ∷ xs) e = let i = past n xs e in omega (arith, i)
 
--- all of the tokens were read
-pub record IsWhole (text : List ℕ) (at : ℕ) (u : Unread) (s : Standing) (d : TextDraft) : Type 0 where
-  pub tokens : List Lexeme
-  pub lexes : Lexes text tokens
-  pub all : IsAllSaid tokens at s d
-  pub refused : (f : SynFault) (r : TextRefusal) → IsFault tokens f → RefusesBy u f r → IsRefused text r
-
 all-read : {text : List ℕ} {at : ℕ} {u v : Unread} {s : Standing} {d : TextDraft} → IsStream text at u s d
-    → Gaps u.rest [] → v ≡ u → IsWhole text at v s d
+    → Gaps u.rest [] → v ≡ u → IsAllRead text at v s d
 all-read {text} {at} {u} {v} w g same =
     let e = IsReading-end w.reading g in
     let l = past at w.tokens e.all in
@@ -142,6 +136,6 @@ all-read {text} {at} {u} {v} w g same =
     }
 
 pub stream-end : {text : List ℕ} {at : ℕ} {u v : Unread} {s : Standing} {d : TextDraft} {o : Option Token}
-    → IsStream text at u s d → IsTaken u v (Ok o) → o ≡ None → IsWhole text at v s d
+    → IsStream text at u s d → IsTaken u v (Ok o) → o ≡ None → IsAllRead text at v s d
 stream-end {u = u} {v = v} w r e =
     let g : IsTaken u v (Ok None) = subst (λ (x : Option Token). IsTaken u v (Ok x)) e r in all-read w g.0 g.1

@@ -1,5 +1,5 @@
 -- The names of instructions are words.
-use Rattle.std.proofs.Common.{◌≡◌, true, refl}
+use Rattle.std.proofs.Common.{◌≡◌, ℕ, zero, suc, true, map, replicate, refl}
 use Rattle.wc_ops.specs.declared.op.SimpleOp.{SimpleOp}
 use Rattle.wc_ops.specs.declared.op.SimpleOp.TheVariants as simple_op
 use Rattle.wc_ops.specs.declared.op.IndexOp.{IndexOp}
@@ -15,7 +15,7 @@ use Rattle.wc_tokens.specs.Standard.Lexemes.{is_idchar}
 use Rattle.wc_ops.specs.declared.val_type.ValType.{ValType}
 use Rattle.wc_ops.specs.declared.val_type.ValType.TheVariants.{I32, I64}
 use Rattle.wc_print.specs.Standard.Printed.{token_of}
-use Rattle.wc_print.specs.Standard.Printable.{is_word, IsSpelled}
+use Rattle.wc_print.specs.Standard.Printable.{is_word, IsSpelled, AreSpelled}
 use Rattle.wc_print.specs.Standard.Lines.{head_word, type_item}
 use Rattle.wc_print.specs.Standard.Layout.{kind_word}
 
@@ -145,3 +145,8 @@ pub type-spelled : (t : ValType) → IsSpelled (token_of (type_item t))
 unfolding is_idchar
 type-spelled I32 = refl
 type-spelled I64 = refl
+
+-- so many of one type
+pub types-spelled : (n : ℕ) (t : ValType) → AreSpelled (map type_item (replicate n t))
+types-spelled zero t = tt
+types-spelled (suc n) t = (type-spelled t, types-spelled n t)

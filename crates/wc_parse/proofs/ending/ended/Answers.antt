@@ -11,17 +11,17 @@ use Rattle.wc_parse.proofs.ending.ended.Goals as goal
 pub new-requires : goal.new-requires
 new-requires c =
     let w = c.requires.1 in
-    rw c.into_fields.ensures (fewer-than-bytes c.requires.0 _ w.in_order
+    rw c.take_fields.ensures (fewer-than-bytes c.requires.0 _ w.in_order
     (said-whole w.said w.all
     (c.is_text.ensures.text nesting_limit w.said.kinds w.said.es w.said.read c.if-is_text.true)))
 
 pub returns-then-is_text-clause-ok : goal.returns-then-is_text-clause-ok
 returns-then-is_text-clause-ok c = λ ts w.
-    subst (λ (fields : List Field). Syn ts fields) (sym (c.new.ensures ∙ c.into_fields.ensures))
+    subst (λ (fields : List Field). Syn ts fields) (sym (c.new.ensures ∙ c.take_fields.ensures))
     (folds-say ts _ (few-tokens ts w.in_order) (said-whole w.said w.all
     (c.is_text.ensures.text nesting_limit w.said.kinds w.said.es w.said.read c.if-is_text.true)))
 
-pub returns-clause-fault : goal.returns-clause-fault
-returns-clause-fault c = λ ts w.
+pub returns-else-is_text-clause-fault : goal.returns-else-is_text-clause-fault
+returns-else-is_text-clause-fault c = λ ts w.
     said-unended w.said w.all
     (c.is_text.ensures.fault nesting_limit w.said.kinds w.said.es w.said.read c.if-is_text.false)

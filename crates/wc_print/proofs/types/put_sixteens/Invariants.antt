@@ -1,7 +1,7 @@
 use Rattle.std.proofs.Common.{map, replicate}
 use Rattle.wc_print.specs.Standard.Lines.{type_item}
 use Rattle.wc_print.specs.Standard.Going.{Leaves}
-use Rattle.wc_print.proofs.types.put_group.Given as goal
+use Rattle.wc_print.proofs.types.put_sixteens.Given as goal
 
 abbrev pub invariant-loop-left : goal.invariant-loop-left
 invariant-loop-left g l =

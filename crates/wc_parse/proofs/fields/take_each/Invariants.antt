@@ -1,7 +1,7 @@
 use Rattle.std.proofs.Common.{◌≤◌, ◌-◌, length}
 use Rattle.wc_tokens.specs.Standard.Tokens.{lexemes_of}
 use Rattle.wc_parse.specs.Kept.SaidSoFar.{IsSaid}
-use Rattle.wc_parse.proofs.fields.fields_or_fault.Given as goal
+use Rattle.wc_parse.proofs.fields.take_each.Given as goal
 
 abbrev pub invariant-loop-at : goal.invariant-loop-at
 invariant-loop-at l = record {
