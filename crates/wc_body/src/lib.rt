@@ -26,7 +26,7 @@ pub use crate::kept::constant::Constant;
 pub use crate::labels::Labels;
 pub use crate::needs::{Needs, OwnNeeds};
 pub use crate::try_clone::TryClone;
+pub use crate::walks::bounded::Bounded;
 pub use crate::walks::brief::Brief;
 pub use crate::walks::entries::Entries;
-pub use crate::walks::numbered::Numbered;
 pub use crate::walks::short::Short;

@@ -8,9 +8,10 @@
 //! - `long`: an index or a constant of two bytes or more, of which those of two are taken along with light entries;
 //! - `far`: an access of memory whose offset has two bytes, which is taken along with them too;
 //! - `outer`: a call or an access of a global;
-//! - `wide`: an index or a constant of five bytes or more, as linkers leave them;
-//! - `free`: an index or a constant in any spelling, which is kept by its shortest;
-//! - `alone`: an instruction that its opcode says by itself, told directly before a wide one;
+//! - `wide`: an index or a constant of five bytes or more, as linkers leave them, or an access of memory whose
+//!   alignment has as many;
+//! - `free`: an index, a constant or an access in any spelling, which is kept by its shortest;
+//! - `alone`: an instruction that its opcode says by itself, told shortly before a wide one;
 //! - `two`: a light instruction of two bytes, but no call nor access of a global, told there too;
 //! - `padded`: an integer that has more bytes than it needs, here one below 64 that has five;
 //! - `handed`: a call or an instruction of a local whose index has one byte, as where parameters are handed on;

@@ -3,11 +3,12 @@
 //! - `short`: an instruction of its opcode and at most one byte more;
 //! - `brief`: an entry whose integers have one byte each, whose alignment is the natural one and whose block type is
 //!   the empty one, by its opcode and one number;
-//! - `numbered`: an instruction of an index, a constant or an access of memory, whatever its integers are.
+//! - `bounded`: an entry whose bytes have a bound, whatever its integers are: any but a table of labels, and but `else`
+//!   and `end`, which are brief.
 
+pub mod bounded;
+pub(crate) mod bounded_front;
 pub mod brief;
 pub mod entries;
-pub mod numbered;
-pub(crate) mod numbered_front;
 pub mod short;
 pub(crate) mod short_front;

@@ -1,1 +1,2 @@
+pub mod Eight
 pub mod State

@@ -1,4 +1,4 @@
-ghost use Rattle.std.specs.Prelude.{◌≡◌, ◌<◌, [], ◌∷◌, ◌++◌, length};
+ghost use Rattle.std.specs.Prelude.{◌≡◌, ◌<◌, ◌≤◌, ◌+◌, [], ◌∷◌, ◌++◌, length, vec_len, vec_capacity};
 
 use std::marker::Model;
 
@@ -35,6 +35,18 @@ impl Leb {
     {
         self.bytes[self.len] = b;
         self.len += 1;
+    }
+
+    /// Puts the bytes behind others, which have room for ten more: as many as an integer has at most.
+    // All ten are copied, so that no branch depends on how many there are.
+    #[inline(always)]
+    pub fn put_behind(&self, out: &mut Vec<u8>)
+        requires { vec_len out.old + 10 ≤ vec_capacity out.old }
+        ensures { out.new.items ≡ out.old.items ++ self.now }
+    {
+        let count = out.len() + self.len;
+        let _ = out.extend_from_slice(&self.bytes);
+        out.truncate(count);
     }
 
     /// The bytes, in their order.

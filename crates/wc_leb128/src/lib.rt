@@ -2,6 +2,8 @@
 #![tactic(auto)]
 
 mod bits;
+mod eight;
+mod eight_front;
 mod front;
 mod law;
 mod leb;
@@ -12,6 +14,7 @@ mod signed;
 mod step;
 mod unsigned;
 
+pub use eight_front::signed_front;
 pub use front::{signed_at, unsigned_at};
 pub use law::{signed_answers, signed_spellings, unsigned_answers, unsigned_spellings};
 pub use leb::Leb;

@@ -6,6 +6,7 @@ ghost use Rattle.wc_print.specs.Standard.Printed.{number, integer, after};
 ghost use Rattle.wc_print.specs.Standard.Printable.{Put};
 ghost use Rattle.wc_print.specs.Writing.Numbers.{sign};
 
+use crate::rows::copy_row;
 use crate::thousands::{few_digits, last_three_digits};
 
 /// The first index that isn't short: one of more than six digits.
@@ -20,7 +21,7 @@ pub fn write_few_digits(room: &mut [u8], at: usize, n: u32) -> usize
     ensures bytes { take result room.new ≡ take at room.old ++ decimal n }
 {
     let row = few_digits(n);
-    room[at..at + 4].copy_from_slice(row);
+    copy_row(room, at, row);
     at + row[3] as usize
 }
 
@@ -33,7 +34,7 @@ fn write_three_more(room: &mut [u8], at: usize, n: u64) -> usize
     ensures bytes { (front : List ℕ) → 1000 ≤ n → take at room.old ≡ front ++ decimal (n / 1000)
         → take result room.new ≡ front ++ decimal n }
 {
-    room[at..at + 4].copy_from_slice(last_three_digits((n % 1000) as u32));
+    copy_row(room, at, last_three_digits((n % 1000) as u32));
     at + 3
 }
 

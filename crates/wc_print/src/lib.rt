@@ -18,11 +18,13 @@ mod operands;
 mod outlet;
 mod pages;
 mod printing;
+mod rows;
 mod segments;
 mod short;
 mod sink;
 mod strings;
 mod thousands;
+mod typed_lines;
 mod types;
 
 pub use laws::{printed_lexes, printed_values};

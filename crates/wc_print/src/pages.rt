@@ -5,9 +5,8 @@ ghost use Rattle.std.specs.Prelude.{◌≡◌, ◌≤◌, ◌<◌, ◌+◌, ◌�
 ghost use Rattle.std.specs.List.{flat_map};
 ghost use Rattle.wc_body.specs.declared.entry.Entry.{Entry};
 ghost use Rattle.wc_body.specs.Standard.Entries.{mark};
-ghost use Rattle.wc_body.specs.Standard.Nested.{plain};
+ghost use Rattle.wc_body.specs.Standard.Walks.Bounded.{bounded};
 ghost use Rattle.wc_body.specs.Standard.Walks.Brief.{brief_entry};
-ghost use Rattle.wc_body.specs.Standard.Walks.Numbered.{numbered};
 ghost use Rattle.wc_print.specs.Standard.Printed.{below, closing};
 ghost use Rattle.wc_print.specs.Standard.Printable.{Put};
 ghost use Rattle.wc_print.specs.Standard.Going.{Puts, Behind};
@@ -17,10 +16,12 @@ ghost use Rattle.wc_print.specs.Writing.Briefly.{told_text};
 
 use crate::bodies::{Place, put_entry};
 use crate::integers::{write_access, write_constant, write_indexed};
-use crate::lines::{Row, line_of};
+use crate::lines::{Row, line_of, op_line};
 use crate::operands::{Text, operand_text};
+use crate::rows::copy_row;
 use crate::sink::Sink;
-use wc_ast::{BodyRef, Brief, Entries, Entry, Numbered, Op};
+use crate::typed_lines::{write_begin, write_call_indirect};
+use wc_ast::{BodyRef, Bounded, Brief, Entries, Entry, Op};
 
 /// How many bytes a page has.
 pub const PAGE: usize = 512;
@@ -36,7 +37,7 @@ pub fn write_row(page: &mut [u8; PAGE], at: usize, row: &'static Row) -> usize
     ensures end { result ≡ at + slice_index row.now 23 }
     ensures bytes { take result page.new ≡ take at page.old ++ told row.now }
 {
-    page[at..at + 24].copy_from_slice(row);
+    copy_row(page, at, row);
     at + row[23] as usize
 }
 
@@ -48,7 +49,7 @@ fn write_text(page: &mut [u8; PAGE], at: usize, text: &'static Text) -> usize
     ensures end { result ≡ at + slice_index text.now 15 }
     ensures bytes { take result page.new ≡ take at page.old ++ told_text text.now }
 {
-    page[at..at + 16].copy_from_slice(text);
+    copy_row(page, at, text);
     at + text[15] as usize
 }
 
@@ -103,25 +104,27 @@ fn put_all_brief<S: Sink>(
     at
 }
 
-/// Writes the line of an instruction of numbers.
+/// Writes the line of an entry whose bytes have a bound.
 #[inline(always)]
-fn write_numbered(page: &mut [u8; PAGE], at: usize, it: Numbered) -> usize
+fn write_bounded(page: &mut [u8; PAGE], at: usize, it: Bounded) -> usize
     requires { at + 80 ≤ 512 }
     ensures within { result ≤ 512 }
-    ensures put { Put (line_items (plain (numbered it))) (take at page.old) (take result page.new) }
+    ensures put { Put (line_items (mark (bounded it))) (take at page.old) (take result page.new) }
 {
     match it {
-        Numbered::Index(op, index) => write_indexed(page, at, op, index),
-        Numbered::Mem(op, arg) => write_access(page, at, op, arg),
-        Numbered::I32Const(n) => write_constant(page, at, Op::I32Const, i64::from(n)),
-        Numbered::I64Const(n) => write_constant(page, at, Op::I64Const, n),
+        Bounded::Simple(op) => write_row(page, at, op_line(Op::Simple(op))),
+        Bounded::Index(op, index) => write_indexed(page, at, op, index),
+        Bounded::Mem(op, arg) => write_access(page, at, op, arg),
+        Bounded::CallIndirect(index) => write_call_indirect(page, at, index),
+        Bounded::I32Const(n) => write_constant(page, at, Op::I32Const, i64::from(n)),
+        Bounded::I64Const(n) => write_constant(page, at, Op::I64Const, n),
+        Bounded::Begin(kind, block_type) => write_begin(page, at, kind, block_type),
     }
 }
 
-/// The lines of the entries up to the first one that is neither brief nor an instruction of numbers, and where the next
-/// line begins.
+/// The lines of the entries up to the first one that is neither brief nor of a bound, and where the next line begins.
 #[inline(always)]
-fn put_all_numbered<S: Sink>(
+fn put_all_bounded<S: Sink>(
     out: &mut S,
     page: &mut [u8; PAGE],
     from: usize,
@@ -136,18 +139,17 @@ fn put_all_numbered<S: Sink>(
     let mut at = from;
     'lines: loop {
         at = put_all_brief(out, page, at, entries);
-        let Some(first) = entries.next_numbered() else {
+        let Some(first) = entries.next_bounded() else {
             break;
         };
-        let end = write_numbered(page, at, first);
+        let end = write_bounded(page, at, first);
         at = turn(out, page, end);
     }
     at
 }
 
-/// Puts what is written on the page, and the line of an entry behind it: of what has no bound, as a table of labels, or
-/// is rare.
-// Such entries are few, so they stay out of the loop.
+/// Puts what is written on the page, and the line of an entry behind it: of a table of labels, which has no bound.
+// Tables are few, so they stay out of the loop.
 #[inline(never)]
 fn put_behind<S: Sink>(out: &mut S, page: &[u8; PAGE], at: usize, entry: Entry<'_>)
     requires { at ≤ 512 }
@@ -166,7 +168,7 @@ pub fn put_lines<S: Sink>(out: &mut S, page: &mut [u8; PAGE], from: usize, body:
     let mut entries = body.entries();
     let mut at = from;
     'lines: loop {
-        at = put_all_numbered(out, page, at, &mut entries);
+        at = put_all_bounded(out, page, at, &mut entries);
         let Some(entry) = entries.next() else {
             break;
         };

@@ -5,7 +5,7 @@ use Rattle.wc_ops.specs.declared.op.SimpleOp.{SimpleOp}
 use Rattle.wc_ops.specs.Standard.Opcodes.{row}
 use Rattle.wc_body.specs.declared.instr.BlockType.{BlockType}
 use Rattle.wc_body.specs.declared.instr.Instr.{Instr}
-use Rattle.wc_body.specs.declared.instr.Instr.TheVariants.{Simple, Index, I32Const, I64Const}
+use Rattle.wc_body.specs.declared.instr.Instr.TheVariants.{Simple, Index, Mem, I32Const, I64Const}
 use Rattle.wc_body.specs.declared.entry.Entry.{Entry}
 use Rattle.wc_body.specs.declared.entry.Entry.TheVariants.{Plain}
 use Rattle.wc_body.specs.declared.needs.Needs.{Needs}
@@ -17,18 +17,20 @@ use Rattle.wc_body.specs.Standard.Needed.{with_instr}
 use Rattle.wc_body.specs.Writing.EntryBytes.{entry_bytes, FitsEntry}
 use Rattle.wc_body.specs.Drafting.FrontEntries.{AllStand}
 
--- these bytes spell the one integer behind the opcode of this instruction: an index, or a constant
-abbrev pub SpellsInteger : Instr → List ℕ → Type 0
-SpellsInteger (Index op n) x = U 32 x n
-SpellsInteger (I32Const z) x = S 32 x z
-SpellsInteger (I64Const z) x = S 64 x z
-SpellsInteger _ x = ⊥
+-- these bytes spell what stands behind the opcode of this instruction: an index, a constant, or an alignment and an
+-- offset
+abbrev pub SpellsIntegers : Instr → List ℕ → Type 0
+SpellsIntegers (Index op n) x = U 32 x n
+SpellsIntegers (I32Const z) x = S 32 x z
+SpellsIntegers (I64Const z) x = S 64 x z
+SpellsIntegers (Mem op arg) x = (y z : List ℕ) × (x ≡ y ++ z) × U 32 y arg.align × U 32 z arg.offset
+SpellsIntegers _ x = ⊥
 
--- these are the opcode of the instruction and bytes that spell its integer
+-- these are the opcode of the instruction and bytes that spell its integers
 abbrev pub IsFree : Instr → List ℕ → Type 0
-IsFree i x = (y : List ℕ) × (x ≡ (row (op_of i)).byte ∷ y) × SpellsInteger i y
+IsFree i x = (y : List ℕ) × (x ≡ (row (op_of i)).byte ∷ y) × SpellsIntegers i y
 
--- these bytes spell the entry: they are its canonical ones, or its integer has any spelling
+-- these bytes spell the entry: they are its canonical ones, or its integers have any spelling
 abbrev pub SpellsEntry : Entry → List ℕ → Type 0
 SpellsEntry e x = ((x ≡ entry_bytes e) × FitsEntry e) ⊎ ((i : Instr) × (e ≡ Plain i) × IsFree i x)
 

@@ -1,4 +1,4 @@
 -- What the ways over entries give that are faster than one entry at a time.
 pub mod Short
 pub mod Brief
-pub mod Numbered
+pub mod Bounded

@@ -8,14 +8,13 @@ ghost use Rattle.wc_body.specs.declared.instr.Instr.{Instr as AnInstr};
 ghost use Rattle.wc_body.specs.declared.entry.Entry.TheVariants.{Plain};
 
 use crate::builder::BodyBuilder;
+use crate::bytes::put::INTEGER_LIMIT;
 use crate::instr::Instr;
 use crate::runs::light::before::{is_alone, note_padded, note_two};
 
-/// How many bytes an opcode and an integer have at most.
-const INTEGER_LIMIT: usize = 11;
-
 impl BodyBuilder {
-    /// Adds an instruction of one integer where there is room for it, and answers whether it was added.
+    /// Adds an instruction of one integer, or an access of memory, where there is room for it, and answers whether it
+    /// was added.
     #[inline(always)]
     pub(crate) fn push_fitting(&mut self, instr: Instr<'_>) -> bool
         ensures added { result ≡ true → self.new ≡ step self.old (plain instr.entry) }

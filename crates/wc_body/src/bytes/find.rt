@@ -13,7 +13,8 @@ use crate::labels::{Items, Labels};
 use wc_ops::{IndexOp, MemOp, Op, OpByte, SimpleOp, ValType};
 
 /// What follows one byte.
-fn behind_byte(bytes: &[u8]) -> Option<&[u8]>
+#[inline(always)]
+pub(crate) fn behind_byte(bytes: &[u8]) -> Option<&[u8]>
     ensures { option_map (λ rest. rest.now) result ≡ behind_byte bytes.now }
 {
     let (_, rest) = bytes.split_first()?;
@@ -103,7 +104,8 @@ fn type_index_at(bytes: &[u8]) -> Option<(BlockType, &[u8])>
     Some((BlockType::Index(index as u32), rest))
 }
 
-fn block_type_at(bytes: &[u8]) -> Option<(BlockType, &[u8])>
+/// The block type that the bytes begin with, and what follows it.
+pub(crate) fn block_type_at(bytes: &[u8]) -> Option<(BlockType, &[u8])>
     ensures { option_map seen result ≡ block_type_front bytes.now }
 {
     let (first, rest) = bytes.split_first()?;

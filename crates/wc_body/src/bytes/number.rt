@@ -4,7 +4,7 @@ ghost use Rattle.std.specs.Prelude.{◌≡◌, IfSome, option_map};
 ghost use Rattle.wc_leb128.specs.Standard.Shortest.{HoldsSigned};
 ghost use Rattle.wc_body.specs.Reading.Fronts.{seen, unsigned_front, signed_front};
 
-use wc_leb128::{signed_at, signed_in_one, u32_front, unsigned_at, unsigned_in_one};
+use wc_leb128::{signed_at, signed_front, signed_in_one, u32_front, unsigned_at, unsigned_in_one};
 
 /// An unsigned integer of 32 bits, of any length.
 #[inline(never)]
@@ -35,21 +35,37 @@ pub(crate) fn u32_in_place(bytes: &[u8]) -> Option<(u32, &[u8])>
     u32_front(bytes)
 }
 
-/// A signed integer of 32 bits, of any length.
+/// A signed integer of 32 bits with no call, where most have two bytes or more.
+#[inline(always)]
+pub(crate) fn i32_in_place(bytes: &[u8]) -> Option<(i32, &[u8])>
+    ensures { option_map seen result ≡ signed_front 32 bytes.now }
+{
+    let (n, rest) = signed_front::<32>(bytes)?;
+    Some((n as i32, rest))
+}
+
+/// The same by a call.
 #[inline(never)]
 fn long_i32_at(bytes: &[u8]) -> Option<(i32, &[u8])>
     ensures { option_map seen result ≡ signed_front 32 bytes.now }
 {
-    let (n, rest) = signed_at::<32>(bytes)?;
-    Some((n as i32, rest))
+    i32_in_place(bytes)
 }
 
-/// A signed integer of 64 bits, of any length.
+/// A signed integer of 64 bits with no call, where most have two bytes or more.
+#[inline(always)]
+pub(crate) fn i64_in_place(bytes: &[u8]) -> Option<(i64, &[u8])>
+    ensures { option_map seen result ≡ signed_front 64 bytes.now }
+{
+    signed_front::<64>(bytes)
+}
+
+/// The same by a call.
 #[inline(never)]
 fn long_i64_at(bytes: &[u8]) -> Option<(i64, &[u8])>
     ensures { option_map seen result ≡ signed_front 64 bytes.now }
 {
-    signed_at::<64>(bytes)
+    i64_in_place(bytes)
 }
 
 /// A signed integer of 32 bits. Most have one byte, so that case comes first and is inlined.

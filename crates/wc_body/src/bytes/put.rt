@@ -13,8 +13,11 @@ use crate::entry::Kind;
 use crate::instr::{BlockType, Instr, MemArg};
 use crate::labels::Labels;
 use std::alloc::AllocError;
-use wc_leb128::{shortest_s, shortest_u};
+use wc_leb128::{Leb, shortest_s, shortest_u};
 use wc_ops::{IndexOp, MemOp, SimpleOp};
+
+/// How many bytes an opcode has together with its integer, or with the two of an access of memory, at most.
+pub(crate) const INTEGER_LIMIT: usize = 11;
 
 /// Puts two bytes.
 #[inline(always)]
@@ -75,6 +78,20 @@ fn put_all(bytes: &mut Vec<u8>, byte: u8, one: &[u8], other: &[u8]) -> Result<()
     Ok(())
 }
 
+/// Puts a byte, and then an integer of any length.
+#[inline(never)]
+fn put_long(bytes: &mut Vec<u8>, byte: u8, integer: &Leb) -> Result<(), AllocError>
+    ensures ok { OnOk result (bytes.new.items ≡ bytes.old.items ++ byte ∷ integer.now) }
+    ensures err { OnErr result (bytes.new.items ≡ bytes.old.items) }
+{
+    if bytes.capacity() - bytes.len() < INTEGER_LIMIT {
+        return put_all(bytes, byte, integer.as_slice(), &[]);
+    }
+    bytes.push_reserved(byte);
+    integer.put_behind(bytes);
+    Ok(())
+}
+
 /// Puts a byte and an unsigned integer. Most have one byte or two.
 #[inline(always)]
 fn put_unsigned(bytes: &mut Vec<u8>, byte: u8, n: u32) -> Result<(), AllocError>
@@ -87,7 +104,7 @@ fn put_unsigned(bytes: &mut Vec<u8>, byte: u8, n: u32) -> Result<(), AllocError>
     if n < 16_384 {
         return put_three(bytes, byte, 128 + (n % 128) as u8, (n / 128) as u8);
     }
-    put_all(bytes, byte, shortest_u(u64::from(n)).as_slice(), &[])
+    put_long(bytes, byte, &shortest_u(u64::from(n)))
 }
 
 /// Seven bits of a byte, turned over in a negative number.
@@ -126,7 +143,7 @@ fn put_signed(bytes: &mut Vec<u8>, byte: u8, n: i64) -> Result<(), AllocError>
     if -8_193 < n && n < 0 {
         return put_groups(bytes, byte, true, (-1 - n) as u64);
     }
-    put_all(bytes, byte, shortest_s(n).as_slice(), &[])
+    put_long(bytes, byte, &shortest_s(n))
 }
 
 #[inline(always)]

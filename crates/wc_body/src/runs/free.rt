@@ -1,4 +1,4 @@
-//! Instructions that bytes begin with, whose integer may be spelled longer than it is kept.
+//! Instructions that bytes begin with, whose integers may be spelled longer than they are kept.
 
 ghost use Rattle.std.specs.Prelude.{◌≡◌, ◌<◌, ◌≤◌, ◌∷◌, get_or, length, IfSome, IsNone};
 ghost use Rattle.wc_ops.specs.Standard.Opcodes.{row};
@@ -7,18 +7,22 @@ ghost use Rattle.wc_body.specs.Drafting.FreeEntries.{AddsOne, AddsFree};
 ghost use Rattle.wc_body.specs.Drafting.FrontEntries.{AddsFront};
 
 use crate::builder::BodyBuilder;
-use crate::bytes::number::{i32_at, i64_at};
-use crate::instr::Instr;
+use crate::bytes::number::{i32_in_place, i64_in_place};
+use crate::instr::{Instr, MemArg};
 use wc_leb128::u32_front;
-use wc_ops::IndexOp;
+use wc_ops::{IndexOp, Op, OpByte};
 
-/// Whether these bytes begin with an index or a constant that has five bytes or more.
+/// Whether this is the opcode of an instruction of an index, of a constant, or of an access of memory.
+#[inline(always)]
+fn is_of_integers(opcode: u8) -> bool {
+    matches!(opcode, 0x0c | 0x0d | 0x10 | 0x20..=0x24 | 0x28 | 0x29 | 0x2c..=0x37 | 0x3a..=0x3e | 0x41 | 0x42)
+}
+
+/// Whether these bytes begin with an index, a constant or an alignment that has five bytes or more.
 // Linkers leave such integers, where they put one in place of another.
 #[inline(always)]
 fn is_wide(bytes: &[u8]) -> bool {
-    bytes.len() >= 6
-        && bytes[1] & bytes[2] & bytes[3] & bytes[4] >= 128
-        && matches!(bytes[0], 0x0c | 0x0d | 0x10 | 0x20..=0x24 | 0x41 | 0x42)
+    bytes.len() >= 6 && bytes[1] & bytes[2] & bytes[3] & bytes[4] >= 128 && is_of_integers(bytes[0])
 }
 
 impl BodyBuilder {
@@ -43,7 +47,7 @@ impl BodyBuilder {
         ensures some { IfSome result (λ rest. AddsOne self.old self.new (0x41 ∷ bytes.now) rest.now) }
         ensures none { IsNone result → self.new ≡ self.old }
     {
-        let (n, rest) = i32_at(bytes)?;
+        let (n, rest) = i32_in_place(bytes)?;
         if !self.push_fitting(Instr::I32Const(n)) {
             return None;
         }
@@ -56,15 +60,33 @@ impl BodyBuilder {
         ensures some { IfSome result (λ rest. AddsOne self.old self.new (0x42 ∷ bytes.now) rest.now) }
         ensures none { IsNone result → self.new ≡ self.old }
     {
-        let (n, rest) = i64_at(bytes)?;
+        let (n, rest) = i64_in_place(bytes)?;
         if !self.push_fitting(Instr::I64Const(n)) {
             return None;
         }
         Some(rest)
     }
 
-    /// Adds the instruction that these bytes begin with, where it is an index's or a constant, and fits the memory at
-    /// hand. What follows it is answered.
+    /// The same of an access of memory, whose opcode is this one.
+    // A call, so that it takes no registers where most are none.
+    #[inline(never)]
+    fn push_access<'a>(&mut self, opcode: u8, bytes: &'a [u8]) -> Option<&'a [u8]>
+        ensures some { IfSome result (λ rest. AddsOne self.old self.new (opcode ∷ bytes.now) rest.now) }
+        ensures none { IsNone result → self.new ≡ self.old }
+    {
+        let OpByte::Known(Op::Mem(op)) = Op::of_byte(opcode) else {
+            return None;
+        };
+        let (align, rest) = u32_front(bytes)?;
+        let (offset, rest) = u32_front(rest)?;
+        if !self.push_fitting(Instr::Mem(op, MemArg { align, offset })) {
+            return None;
+        }
+        Some(rest)
+    }
+
+    /// Adds the instruction that these bytes begin with, where it is an index's, a constant or an access, and fits the
+    /// memory at hand. What follows it is answered.
     // An arm for each, so that it isn't told apart once more when it is added.
     #[inline(always)]
     fn push_free<'a>(&mut self, bytes: &'a [u8]) -> Option<&'a [u8]>
@@ -83,12 +105,12 @@ impl BodyBuilder {
             0x24 => self.push_index(IndexOp::GlobalSet, rest),
             0x41 => self.push_i32(rest),
             0x42 => self.push_i64(rest),
-            _ => None,
+            opcode => self.push_access(opcode, rest),
         }
     }
 
-    /// Adds the instruction that these bytes begin with, of one byte or two, where the second byte behind it is 128 or
-    /// more, as in a long integer. What follows it is answered.
+    /// Adds the instruction that these bytes begin with, of one byte or two, where the third byte or the fourth is 128
+    /// or more, as in a long integer that stands behind it or behind the next one. What follows it is answered.
     // No look for a run that would mostly end at once.
     #[inline(always)]
     fn push_before<'a>(&mut self, bytes: &'a [u8]) -> Option<&'a [u8]>
@@ -96,16 +118,18 @@ impl BodyBuilder {
         ensures some { IfSome result (λ rest. AddsOne self.old self.new bytes.now rest.now) }
         ensures none { IsNone result → self.new ≡ self.old }
     {
-        if bytes[2] >= 128 {
-            if !self.push_alone(bytes[0]) {
+        if bytes[2] < 128 {
+            if bytes[3] < 128 {
                 return None;
             }
-            return Some(&bytes[1..]);
+            if self.push_two(bytes[0], bytes[1]) {
+                return Some(&bytes[2..]);
+            }
         }
-        if bytes[3] < 128 || !self.push_two(bytes[0], bytes[1]) {
+        if !self.push_alone(bytes[0]) {
             return None;
         }
-        Some(&bytes[2..])
+        Some(&bytes[1..])
     }
 
     /// Adds the instruction that these bytes begin with, where it seems to stand before a long integer; or where its
@@ -142,8 +166,8 @@ impl BodyBuilder {
         self.push_front(bytes)
     }
 
-    /// Adds the instruction that these bytes begin with, where its integer has five bytes or more. What follows it is
-    /// answered.
+    /// Adds the instruction that these bytes begin with, where its first integer has five bytes or more. What follows
+    /// it is answered.
     // No jump by the opcode where a run ends for another reason.
     #[inline(always)]
     fn push_wide<'a>(&mut self, bytes: &'a [u8]) -> Option<&'a [u8]>
@@ -157,8 +181,8 @@ impl BodyBuilder {
     }
 
     /// Adds the entries that these bytes begin with, as many as are usual and fit the memory at hand. Each is spelled
-    /// as it is kept, but for an index or a constant of five bytes or more, whose spelling may be any. Answers how many
-    /// bytes they have. No end is added at which none is open.
+    /// as it is kept, but for an index or a constant of five bytes or more, or an access whose alignment has as many:
+    /// the spelling of these may be any. Answers how many bytes they have. No end is added at which none is open.
     // A call, so that its loops have registers of their own.
     #[inline(never)]
     pub fn push_ahead(&mut self, bytes: &[u8]) -> usize

@@ -6,9 +6,9 @@ ghost use Rattle.wc_body.specs.Standard.Entries.{mark};
 
 use crate::bytes::find::entry_at;
 use crate::entry::Entry;
+use crate::walks::bounded::Bounded;
+use crate::walks::bounded_front::bounded_at;
 use crate::walks::brief::{Brief, brief_at};
-use crate::walks::numbered::Numbered;
-use crate::walks::numbered_front::numbered_at;
 use crate::walks::short::Short;
 use crate::walks::short_front::short_at;
 use std::marker::Model;
@@ -47,7 +47,7 @@ impl<'a> Entries<'a> {
     ghost use Rattle.wc_body.specs.Standard.Nested.{plain};
     ghost use Rattle.wc_body.specs.Standard.Walks.Short.{instruction};
     ghost use Rattle.wc_body.specs.Standard.Walks.Brief.{SaysFirst};
-    ghost use Rattle.wc_body.specs.Standard.Walks.Numbered.{numbered};
+    ghost use Rattle.wc_body.specs.Standard.Walks.Bounded.{bounded};
     ghost use Rattle.wc_body.specs.Reading.Unpacked.{unpacked, IsPacked};
 
     pub(crate) fn of_bytes(bytes: &'a [u8]) -> Entries<'a>
@@ -92,15 +92,15 @@ impl<'a> Entries<'a> {
         Some(brief)
     }
 
-    /// The first entry that is left, where it is an instruction of an index, a constant or an access of memory: it is
-    /// taken. So all but a few entries that aren't brief are had without a place for whatever an entry may have. Where
-    /// it answers none, nothing is taken, and `next` tells what is left.
+    /// The first entry that is left, where its bytes have a bound: it is taken. So all entries but tables of labels
+    /// that aren't brief are had without a place for whatever an entry may have. Where it answers none, nothing is
+    /// taken, and `next` tells what is left.
     #[inline(always)]
-    pub fn next_numbered(&mut self) -> Option<Numbered>
-        ensures some { IfSome result (λ n. self.old ≡ plain (numbered n) ∷ self.new) }
+    pub fn next_bounded(&mut self) -> Option<Bounded>
+        ensures some { IfSome result (λ b. self.old ≡ mark (bounded b) ∷ self.new) }
         ensures none { IsNone result → self.new ≡ self.old }
     {
-        let (first, after) = numbered_at(self.bytes)?;
+        let (first, after) = bounded_at(self.bytes)?;
         self.bytes = after;
         Some(first)
     }

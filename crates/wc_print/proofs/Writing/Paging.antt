@@ -1,6 +1,6 @@
 -- Lines as they are written on a page.
-use Rattle.std.proofs.Common.{◌≡◌, ◌≢◌, ℕ, ◌+◌, ◌/◌, ◌%◌, ◌<◌, ◌≤◌, ◌^◌, List, [], ◌∷◌, ◌++◌, length, set, take}
-use Rattle.std.proofs.Common.{drop, refl, ap, ◌∙◌, arith, append_assoc, codes}
+use Rattle.std.proofs.Common.{◌≡◌, ◌≢◌, ℕ, zero, suc, ◌+◌, ◌/◌, ◌%◌, ◌<◌, ◌≤◌, ◌^◌, List, [], ◌∷◌, ◌++◌, length, set}
+use Rattle.std.proofs.Common.{take, drop, refl, sym, ap, ◌∙◌, arith, append_assoc, codes}
 use Rattle.std.specs.Fmt.{decimal}
 use Rattle.std.proofs.lemmas.Fmt.{decimal_step}
 use Rattle.std.proofs.lemmas.List.{append-nil, length-append, length-take-le, take_at, take-append-le}
@@ -67,14 +67,20 @@ pub behind-space : (page new ds : List ℕ) (at end : ℕ) → at + 1 ≤ length
 behind-space page new ds at end fits e =
     e ∙ ap (λ (x : List ℕ). x ++ ds) (one-written page at 32 fits) ∙ append_assoc (take at page) (32 ∷ []) ds
 
+take-less : (m n : ℕ) (xs : List ℕ) → m ≤ n → take m (take n xs) ≡ take m xs
+take-less zero n xs le = refl
+take-less (suc m) zero xs le = absurd (omega arith)
+take-less (suc m) (suc n) [] le = refl
+take-less (suc m) (suc n) (x ∷ xs) le = ap (λ (l : List ℕ). x ∷ l) (take-less m n xs (omega arith))
+
 -- a whole row is copied to a place, and so much of it is kept
-pub row-kept : (page row copied rest : List ℕ) (at n size : ℕ) → at + size ≤ length page → length row ≡ size → n ≤ size
-    → copied ≡ row → take (at + n) (take at page ++ (copied ++ rest)) ≡ take at page ++ take n row
-row-kept page row copied rest at n size fits long short same =
-    let front : length (take at page) ≡ at = length-take-le at page (omega (arith, fits)) in
-    let cut : take (at + n) (take at page ++ (row ++ rest)) ≡ take at page ++ take n (row ++ rest) =
-    rw front at (take-append-add (take at page) (row ++ rest) n) in
-    rw same cut ∙ ap (λ (x : List ℕ). take at page ++ x) (take-append-le n row rest (omega (arith, long, short)))
+pub row-kept : (old new row : List ℕ) (at n size : ℕ) → at + size ≤ length old → n ≤ size
+    → take (at + size) new ≡ take at old ++ row → take (at + n) new ≡ take at old ++ take n row
+row-kept old new row at n size fits short e =
+    let front : length (take at old) ≡ at = length-take-le at old (omega (arith, fits)) in
+    let cut : take (at + n) (take at old ++ row) ≡ take at old ++ take n row =
+    rw front at (take-append-add (take at old) row n) in
+    sym (take-less (at + n) (at + size) new (omega (arith, short))) ∙ ap (λ (x : List ℕ). take (at + n) x) e ∙ cut
 
 -- bytes are copied to a place
 pub all-kept : (page bytes copied rest : List ℕ) (at n : ℕ) → n ≡ at + length bytes → at ≤ length page → copied ≡ bytes

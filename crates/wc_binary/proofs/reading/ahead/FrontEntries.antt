@@ -20,7 +20,7 @@ use Rattle.wc_body.specs.Standard.Entries.{mark, marks}
 use Rattle.wc_body.specs.Standard.InstructionBytes.{op_of, rest_bytes, block_type_bytes, FitsBlockType}
 use Rattle.wc_body.specs.Writing.EntryBytes.{entry_bytes, FitsEntry}
 use Rattle.wc_body.specs.Drafting.FrontEntries.{AllStand}
-use Rattle.wc_body.specs.Drafting.FreeEntries.{SpellsInteger, SpellsEntry, SpellEntries, AddsFree}
+use Rattle.wc_body.specs.Drafting.FreeEntries.{SpellsIntegers, SpellsEntry, SpellEntries, AddsFree}
 use Rattle.wc_binary.specs.Reading.Reading.{got, read, is_last}
 use Rattle.wc_binary.specs.Reading.NextMark.{mark_behind, AddsAhead}
 use Rattle.wc_binary.specs.Reading.Source.{Input, AreAhead, Passes}
@@ -69,16 +69,17 @@ instr-read d i o z f =
     let u = op_of i in
     spelled-read d i (rest_bytes i) o z (freed (follows u) (rest_bytes i) i ((follows-writes u).written i (f, refl)))
 
--- an integer in any spelling
-integer-spelled : (i : Instr) (x : List ℕ) → SpellsInteger i x → Spells (follows (op_of i)) x i
+-- integers in any spelling
+integers-spelled : (i : Instr) (x : List ℕ) → SpellsIntegers i x → Spells (follows (op_of i)) x i
 unfolding follows u32 s32 s64
-integer-spelled (Index op n) x s = (x, [], n, sym (append-nil x), s, (refl, refl))
-integer-spelled (I32Const n) x s = (x, [], n, sym (append-nil x), s, (refl, refl))
-integer-spelled (I64Const n) x s = (x, [], n, sym (append-nil x), s, (refl, refl))
-integer-spelled (Simple op) x s = absurd s
-integer-spelled (Mem op arg) x s = absurd s
-integer-spelled (BrTable default labels) x s = absurd s
-integer-spelled (CallIndirect ty) x s = absurd s
+integers-spelled (Index op n) x s = (x, [], n, sym (append-nil x), s, (refl, refl))
+integers-spelled (I32Const n) x s = (x, [], n, sym (append-nil x), s, (refl, refl))
+integers-spelled (I64Const n) x s = (x, [], n, sym (append-nil x), s, (refl, refl))
+integers-spelled (Simple op) x s = absurd s
+integers-spelled (Mem op arg) x (y, z, is, align, offset) =
+    (y, z, arg.align, is, align, (z, [], arg.offset, sym (append-nil z), offset, (refl, refl)))
+integers-spelled (BrTable default labels) x s = absurd s
+integers-spelled (CallIndirect ty) x s = absurd s
 
 -- what begins a block, a loop or an if, where one more may be open
 module _ (d : Draft Instr BlockType) (t : BlockType) (o : ℕ) (z : List ℕ) (f : FitsBlockType t)
@@ -115,7 +116,7 @@ free-read : (d : Draft Instr BlockType) (e : Entry) (w : List ℕ) (o : ℕ) (z 
     → IsRead d e w o z
 free-read d e w o z (inl (is, f)) s = rw is (entry-read d e o z f s)
 free-read d e w o z (inr (i, same, f)) s =
-    rw (same, f.1) (spelled-read d i f.0 o z (integer-spelled i f.0 f.2))
+    rw (same, f.1) (spelled-read d i f.0 o z (integers-spelled i f.0 f.2))
 
 -- ---- many entries
 

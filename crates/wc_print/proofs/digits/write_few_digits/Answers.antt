@@ -4,6 +4,6 @@ use Rattle.wc_print.proofs.digits.write_few_digits.Goals as goal
 
 pub returns-clause-bytes : goal.returns-clause-bytes
 returns-clause-bytes c =
-    row-kept c.args.room.now c.few_digits-row.result.now _ _ c.args.at _ 4 (omega arith) (omega arith)
-    (omega (arith, c.few_digits-row.ensures.few)) c.copy_from_slice.ensures.after
+    row-kept c.args.room.now _ c.few_digits-row.result.now c.args.at _ 4 (omega arith)
+    (omega (arith, c.few_digits-row.ensures.few)) c.copy_row.ensures
     ∙ ap (λ x. take c.args.at c.args.room.now ++ x) c.few_digits-row.ensures.digits

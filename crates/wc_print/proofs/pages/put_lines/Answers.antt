@@ -10,7 +10,7 @@ lines-preserved g c = record {
   page = search rules;
   puts =
       leaves-less c.put_behind.ensures
-      (rw c.in-Some.ensures.steps at (leaves-then c.put_all_numbered-at.ensures.puts c.lines.invariant.puts));
+      (rw c.in-Some.ensures.steps at (leaves-then c.put_all_bounded-at.ensures.puts c.lines.invariant.puts));
 }
 
 pub returns : goal.returns
@@ -18,5 +18,5 @@ returns g c =
     let end = text (below 2 closing ∷ []) (tt, tt) refl c.write_row-end.ensures.bytes in
     chain
     (leaves-none
-    (rw c.in_default.ensures.steps.0 at (leaves-then c.put_all_numbered-at.ensures.puts c.lines.invariant.puts)))
+    (rw c.in_default.ensures.steps.0 at (leaves-then c.put_all_bounded-at.ensures.puts c.lines.invariant.puts)))
     (then-out (on-page _ end) c.put.ensures)

@@ -4,8 +4,5 @@ use Rattle.wc_print.proofs.pages.write_text.Goals as goal
 
 pub returns-clause-bytes : goal.returns-clause-bytes
 returns-clause-bytes c =
-    row-kept c.args.page.now c.args.text.now _ _ c.args.at _ 16 (omega arith) (omega arith) (omega (
-      arith,
-      c.requires.short,
-    ))
-    c.copy_from_slice.ensures.after
+    row-kept c.args.page.now _ c.args.text.now c.args.at _ 16 (omega arith) (omega (arith, c.requires.short))
+    c.copy_row.ensures
