@@ -9,4 +9,5 @@ pub mod BodyRow
 pub mod AtFront
 pub mod LightRows
 pub mod FrontEntries
+pub mod WideRows
 pub mod FreeEntries

@@ -9,11 +9,11 @@
 //! - `far`: an access of memory whose offset has two bytes, which is taken along with them too;
 //! - `outer`: a call or an access of a global;
 //! - `wide`: an index or a constant of five bytes or more, as linkers leave them, or an access of memory whose
-//!   alignment has as many;
+//!   alignment has as many; of the first two the rows of a table tell most (`wide`);
+//! - `respelled`: the same with its shortest spelling, where it ends among the eight bytes behind the opcode;
 //! - `free`: an index, a constant or an access in any spelling, which is kept by its shortest;
 //! - `alone`: an instruction that its opcode says by itself, told shortly before a wide one;
 //! - `two`: a light instruction of two bytes, but no call nor access of a global, told there too;
-//! - `padded`: an integer that has more bytes than it needs, here one below 64 that has five;
 //! - `handed`: a call or an instruction of a local whose index has one byte, as where parameters are handed on;
 //! - `spelled`: a whole body by its canonical bytes, with the byte that ends it.
 
@@ -22,3 +22,4 @@ pub(crate) mod front;
 pub(crate) mod integers;
 pub(crate) mod light;
 pub(crate) mod spelled;
+pub(crate) mod wide;

@@ -5,9 +5,4 @@ pub mod Push
 pub mod AtFront
 pub mod ShortFront
 pub mod OneByte
-pub mod EightFront
-pub mod Ends
 pub mod Front
-pub mod Groups
-pub mod Masks
-pub mod Sevens

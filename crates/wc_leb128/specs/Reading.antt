@@ -1,2 +1,3 @@
 pub mod Eight
+pub mod Respelled
 pub mod State

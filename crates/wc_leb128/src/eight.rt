@@ -1,15 +1,15 @@
 //! Eight bytes that are looked at together. Most integers end among them (Core 1.0, 5.2.2), and no branch depends on
 //! where.
 
-ghost use Rattle.std.specs.Prelude.{◌≡◌, ◌≤◌, ◌<◌, ◌+◌, ◌*◌, ◌^◌, ℕ, List, IfSome, length, take};
+ghost use Rattle.std.specs.Prelude.{◌≡◌, ◌≤◌, ◌<◌, ◌+◌, ◌*◌, ◌^◌, ℕ, List, IfSome, IsNone, length, take};
 ghost use Rattle.std.specs.Simd.Lanes.{number_l};
-ghost use Rattle.wc_leb128.specs.Reading.Eight.{AreBytes, IsWhole, EndsAmong, groups, signed_groups};
+ghost use Rattle.wc_leb128.specs.Reading.Eight.{AreBytes, AreHigh, NoneEnds, IsWhole, EndsAmong, groups, signed_groups};
 
 /// The top bit of each byte.
-const TOPS: u64 = 0x8080_8080_8080_8080;
+pub(crate) const TOPS: u64 = 0x8080_8080_8080_8080;
 
 /// The low seven bits of each byte.
-const SEVENS: u64 = 0x7f7f_7f7f_7f7f_7f7f;
+pub(crate) const SEVENS: u64 = 0x7f7f_7f7f_7f7f_7f7f;
 
 /// The low seven bits of the bytes of a word, as one number.
 #[inline(always)]
@@ -26,8 +26,10 @@ fn groups_of(word: u64) -> u64
 /// How many bytes of a word there are up to the first one below 128; none where each is 128 or more.
 #[inline(always)]
 fn count_to_end(word: u64) -> Option<u32>
-    ensures { (bytes : List ℕ) → length bytes ≡ 8 → AreBytes bytes → word ≡ number_l 256 bytes
+    ensures some { (bytes : List ℕ) → length bytes ≡ 8 → AreBytes bytes → word ≡ number_l 256 bytes
         → IfSome result (λ n. (n ≤ 8) × IsWhole (take n bytes)) }
+    ensures none { (bytes : List ℕ) → length bytes ≡ 8 → AreBytes bytes → word ≡ number_l 256 bytes
+        → IsNone result → AreHigh bytes }
 {
     let ends = (word & TOPS) ^ TOPS;
     if ends == 0 {
@@ -40,7 +42,8 @@ fn count_to_end(word: u64) -> Option<u32>
 /// ends an integer; none where none of the eight does, or fewer are at hand.
 #[inline(always)]
 pub(crate) fn eight_at(bytes: &[u8]) -> Option<(u64, usize)>
-    ensures { IfSome result (λ f. EndsAmong bytes.now f.0 f.1) }
+    ensures some { IfSome result (λ f. EndsAmong bytes.now f.0 f.1) }
+    ensures none { IsNone result → NoneEnds bytes.now }
 {
     let chunk = bytes.first_chunk::<8>()?;
     let word = u64::from_le_bytes(*chunk);

@@ -1,4 +1,4 @@
-ghost use Rattle.std.specs.Prelude.{◌≡◌, ◌<◌, ◌≤◌, ◌+◌, [], ◌∷◌, ◌++◌, length, vec_len, vec_capacity};
+ghost use Rattle.std.specs.Prelude.{◌≡◌, ◌<◌, ◌≤◌, [], ◌∷◌, ◌++◌, length, take};
 
 use std::marker::Model;
 
@@ -37,16 +37,13 @@ impl Leb {
         self.len += 1;
     }
 
-    /// Puts the bytes behind others, which have room for ten more: as many as an integer has at most.
-    // All ten are copied, so that no branch depends on how many there are.
+    /// Ten bytes, and how many of these are the integer's, which come first.
+    // Who copies all ten branches by no length.
     #[inline(always)]
-    pub fn put_behind(&self, out: &mut Vec<u8>)
-        requires { vec_len out.old + 10 ≤ vec_capacity out.old }
-        ensures { out.new.items ≡ out.old.items ++ self.now }
+    pub fn padded(&self) -> (&[u8; 10], usize)
+        ensures { (result.1 ≤ 10) × (take result.1 result.0.now ≡ self.now) }
     {
-        let count = out.len() + self.len;
-        let _ = out.extend_from_slice(&self.bytes);
-        out.truncate(count);
+        (&self.bytes, self.len)
     }
 
     /// The bytes, in their order.

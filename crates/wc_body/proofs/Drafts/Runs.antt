@@ -2,7 +2,8 @@
 pub mod FrontLemmas
 pub mod LightLemmas
 pub mod LongLemmas
-pub mod PaddedLemmas
+pub mod BeforeLemmas
+pub mod WideLemmas
 pub mod FrontRun
 pub mod HandedLemmas
 pub mod FreeIntegers

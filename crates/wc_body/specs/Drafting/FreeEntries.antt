@@ -1,5 +1,5 @@
 -- Entries that were added by bytes that spell them, where an integer may be longer than it is kept (Core 1.0, 5.2.2).
-use Rattle.std.specs.Prelude.{◌≡◌, ◌+◌, ◌≤◌, ◌⊎◌, ℕ, List, [], ◌∷◌, ◌++◌, length, take}
+use Rattle.std.specs.Prelude.{◌≡◌, ◌≤◌, ◌⊎◌, ℕ, List, [], ◌∷◌, ◌++◌, length, take}
 use Rattle.wc_leb128.specs.Standard.Integers.{U, S}
 use Rattle.wc_ops.specs.declared.op.SimpleOp.{SimpleOp}
 use Rattle.wc_ops.specs.Standard.Opcodes.{row}
@@ -47,15 +47,6 @@ IsAlone a =
 -- it was noted what the instruction needs that these two bytes are, where so many blocks enclose it
 abbrev pub NotesTwo : ℕ → ℕ → ℕ → Needs → Needs → Type 0
 NotesTwo k a b s t = (i : Instr) × (a ∷ b ∷ [] ≡ instr_bytes i) × FitsInstr i × (t ≡ with_instr s k i)
-
--- an integer below 64, unsigned or signed, by five bytes
-abbrev pub padded : ℕ → List ℕ
-padded b = (128 + b) ∷ 128 ∷ 128 ∷ 128 ∷ 0 ∷ []
-
--- it was noted what the instruction of this opcode and of this integer needs, where so many blocks enclose it
-abbrev pub NotesPadded : ℕ → ℕ → ℕ → Needs → Needs → Type 0
-NotesPadded k a b s t =
-    (i : Instr) × (a ∷ b ∷ [] ≡ instr_bytes i) × FitsInstr i × IsFree i (a ∷ padded b) × (t ≡ with_instr s k i)
 
 -- these bytes spell the entries, one after the other
 abbrev pub SpellEntries : List Entry → List ℕ → Type 0

@@ -1,16 +1,17 @@
 //! Instructions that are added only where the memory at hand has room for them.
 
-ghost use Rattle.std.specs.Prelude.{[], ◌∷◌, ◌≡◌, ◌<◌, false, true};
+ghost use Rattle.std.specs.Prelude.{[], ◌∷◌, ◌≡◌, ◌<◌, false, true, IfSome, IsNone};
 ghost use Rattle.wc_body.specs.Standard.Draft.{step};
 ghost use Rattle.wc_body.specs.Standard.Nested.{plain};
-ghost use Rattle.wc_body.specs.Drafting.FreeEntries.{padded, SpellsEntry};
+ghost use Rattle.wc_body.specs.Drafting.FreeEntries.{SpellsEntry, AddsOne};
 ghost use Rattle.wc_body.specs.declared.instr.Instr.{Instr as AnInstr};
 ghost use Rattle.wc_body.specs.declared.entry.Entry.TheVariants.{Plain};
 
 use crate::builder::BodyBuilder;
-use crate::bytes::put::INTEGER_LIMIT;
+use crate::bytes::put::{INTEGER_LIMIT, put_cut};
 use crate::instr::Instr;
-use crate::runs::light::before::{is_alone, note_padded, note_two};
+use crate::runs::light::before::{is_alone, note_two};
+use crate::runs::wide::{integer_of, note_wide, wide_of};
 
 impl BodyBuilder {
     /// Adds an instruction of one integer, or an access of memory, where there is room for it, and answers whether it
@@ -63,23 +64,23 @@ impl BodyBuilder {
         true
     }
 
-    /// Adds the instruction of this opcode whose integer is so low, where it is light but for its length and there is
-    /// room for it, and answers whether it was added. The integer has five bytes where it stands.
+    /// Adds the instruction of one integer that these bytes begin with, where a row of a table tells what it is like,
+    /// it ends among the eight bytes behind the opcode, and there is room for it. What follows it is answered.
+    // No branch by the opcode or by how many bytes there are.
     #[inline(always)]
-    pub(crate) fn push_padded(&mut self, opcode: u8, low: u8) -> bool
-        ensures added { result ≡ true → (i : AnInstr) × SpellsEntry (Plain i) (opcode ∷ padded low)
-            × (self.new ≡ step self.old (plain i)) }
-        ensures same { result ≡ false → self.new ≡ self.old }
+    pub(crate) fn push_respelled<'a>(&mut self, bytes: &'a [u8]) -> Option<&'a [u8]>
+        ensures some { IfSome result (λ rest. AddsOne self.old self.new bytes.now rest.now) }
+        ensures none { IsNone result → self.new ≡ self.old }
     {
-        if self.bytes.capacity() - self.bytes.len() < 2 {
-            return false;
+        let (opcode, rest) = bytes.split_first()?;
+        if self.bytes.capacity() - self.bytes.len() < INTEGER_LIMIT {
+            return None;
         }
-        if !note_padded(opcode, low, self.parts.len(), &mut self.needs) {
-            return false;
-        }
-        self.bytes.push_reserved(opcode);
-        self.bytes.push_reserved(low);
+        let row = wide_of(*opcode);
+        let integer = integer_of(row, rest)?;
+        note_wide(&mut self.needs, row, integer.value);
+        put_cut(&mut self.bytes, *opcode, &integer.bytes, integer.length);
         self.after_else = false;
-        true
+        Some(&rest[integer.count..])
     }
 }

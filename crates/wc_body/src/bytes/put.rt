@@ -1,6 +1,7 @@
 //! Canonical bytes put behind others: all of an entry's, or none (Core 1.0, 5.4; Core 2.0 for block types).
 
-ghost use Rattle.std.specs.Prelude.{◌≡◌, ◌<◌, ◌++◌, ◌∷◌, [], OnOk, OnErr};
+ghost use Rattle.std.specs.Prelude.{◌≡◌, ◌<◌, ◌≤◌, ◌+◌, ◌++◌, ◌∷◌, [], length, take, OnOk, OnErr};
+ghost use Rattle.std.specs.Prelude.{vec_len, vec_capacity};
 ghost use Rattle.wc_leb128.specs.Writing.Bytes.{unsigned_bytes, signed_bytes, signed_of, group_of};
 ghost use Rattle.wc_body.specs.Standard.ValueBytes.{value_type_bytes};
 ghost use Rattle.wc_body.specs.Standard.InstructionBytes.{instr_bytes, block_type_bytes, FitsInstr, FitsBlockType};
@@ -78,6 +79,20 @@ fn put_all(bytes: &mut Vec<u8>, byte: u8, one: &[u8], other: &[u8]) -> Result<()
     Ok(())
 }
 
+/// Puts a byte, and then the first ones of these, so many: there is room for all of them.
+// All are copied and then cut, so that no branch depends on how many are wanted.
+#[inline(always)]
+pub(crate) fn put_cut(bytes: &mut Vec<u8>, byte: u8, padded: &[u8], count: usize)
+    requires room { vec_len bytes.old + 1 + length padded.now ≤ vec_capacity bytes.old }
+    requires few { count ≤ length padded.now }
+    ensures { bytes.new.items ≡ bytes.old.items ++ byte ∷ take count padded.now }
+{
+    bytes.push_reserved(byte);
+    let end = bytes.len() + count;
+    let _ = bytes.extend_from_slice(padded);
+    bytes.truncate(end);
+}
+
 /// Puts a byte, and then an integer of any length.
 #[inline(never)]
 fn put_long(bytes: &mut Vec<u8>, byte: u8, integer: &Leb) -> Result<(), AllocError>
@@ -87,8 +102,8 @@ fn put_long(bytes: &mut Vec<u8>, byte: u8, integer: &Leb) -> Result<(), AllocErr
     if bytes.capacity() - bytes.len() < INTEGER_LIMIT {
         return put_all(bytes, byte, integer.as_slice(), &[]);
     }
-    bytes.push_reserved(byte);
-    integer.put_behind(bytes);
+    let (padded, count) = integer.padded();
+    put_cut(bytes, byte, padded, count);
     Ok(())
 }
 

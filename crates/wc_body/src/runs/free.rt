@@ -132,8 +132,8 @@ impl BodyBuilder {
         Some(&bytes[1..])
     }
 
-    /// Adds the instruction that these bytes begin with, where it seems to stand before a long integer; or where its
-    /// integer is below 64 and has five bytes. What follows it is answered.
+    /// Adds the instruction that these bytes begin with, where it seems to stand before a long integer, or where its
+    /// own integer has two bytes or more and a row of a table tells what it is like. What follows it is answered.
     // No jump by the opcode.
     #[inline(always)]
     fn push_light<'a>(&mut self, bytes: &'a [u8]) -> Option<&'a [u8]>
@@ -146,13 +146,7 @@ impl BodyBuilder {
         if bytes[1] < 128 {
             return self.push_before(bytes);
         }
-        if bytes[2] != 0x80 || bytes[3] != 0x80 || bytes[4] != 0x80 || bytes[5] != 0 {
-            return None;
-        }
-        if !self.push_padded(bytes[0], bytes[1] - 128) {
-            return None;
-        }
-        Some(&bytes[6..])
+        self.push_respelled(bytes)
     }
 
     /// Adds the entries that these bytes begin with, as `push_front` does, or none where it would take none.
@@ -181,8 +175,8 @@ impl BodyBuilder {
     }
 
     /// Adds the entries that these bytes begin with, as many as are usual and fit the memory at hand. Each is spelled
-    /// as it is kept, but for an index or a constant of five bytes or more, or an access whose alignment has as many:
-    /// the spelling of these may be any. Answers how many bytes they have. No end is added at which none is open.
+    /// as it is kept, but for an index or a constant, or an access whose alignment has five bytes or more: the spelling
+    /// of these may be any. Answers how many bytes they have. No end is added at which none is open.
     // A call, so that its loops have registers of their own.
     #[inline(never)]
     pub fn push_ahead(&mut self, bytes: &[u8]) -> usize

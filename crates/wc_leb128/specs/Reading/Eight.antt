@@ -1,4 +1,4 @@
--- Bytes up to the end of an integer, and the seven bits of each.
+-- Bytes up to the end of an integer, and the seven bits of each (Core 1.0, 5.2.2).
 use Rattle.std.specs.Prelude.{◌≡◌, ℕ, ◌+◌, ◌*◌, ◌%◌, ◌<◌, ◌≤◌, nat_lt, ℤ, pos, ◌+ℤ◌, ◌-ℤ◌, ◌*ℤ◌, List, [], ◌∷◌}
 use Rattle.std.specs.Prelude.{◌⊎◌, if◌then◌else◌, length, take, ⊤}
 
@@ -6,6 +6,15 @@ use Rattle.std.specs.Prelude.{◌⊎◌, if◌then◌else◌, length, take, ⊤}
 abbrev pub AreBytes : List ℕ → Type 0
 AreBytes [] = ⊤
 AreBytes (b ∷ bs) = (b < 256) × AreBytes bs
+
+-- none of these ends an integer
+abbrev pub AreHigh : List ℕ → Type 0
+AreHigh [] = ⊤
+AreHigh (b ∷ bs) = (128 ≤ b) × AreHigh bs
+
+-- no integer ends among the first eight bytes, or there are fewer
+abbrev pub NoneEnds : List ℕ → Type 0
+NoneEnds bytes = (length bytes < 8) ⊎ AreHigh (take 8 bytes)
 
 -- the last alone is below 128
 abbrev pub IsWhole : List ℕ → Type 0

@@ -1,8 +1,7 @@
-//! What may stand directly before an integer of five bytes or more: an opcode alone, two bytes, and a low integer by
-//! five bytes.
+//! What may stand directly before an integer of five bytes or more: an opcode alone, and two bytes.
 
 ghost use Rattle.std.specs.Prelude.{◌≡◌, ◌<◌, true, false};
-ghost use Rattle.wc_body.specs.Drafting.FreeEntries.{IsAlone, NotesTwo, NotesPadded};
+ghost use Rattle.wc_body.specs.Drafting.FreeEntries.{IsAlone, NotesTwo};
 
 use crate::needs::Needs;
 use crate::runs::light::{LightNeeds, light_of, note_pair};
@@ -29,23 +28,6 @@ pub(crate) fn note_two(opcode: u8, second: u8, enclosing: usize, needs: &mut Nee
     }
     let mut noted = LightNeeds::of(needs);
     note_pair(&mut noted, light, second);
-    noted.give_back(needs);
-    true
-}
-
-/// The same of an integer below 64 that has five bytes where it stands.
-// A constant from 64 on needs two bytes.
-#[inline(always)]
-pub(crate) fn note_padded(opcode: u8, low: u8, enclosing: usize, needs: &mut Needs) -> bool
-    ensures noted { result ≡ true → NotesPadded enclosing opcode low needs.old needs.new }
-    ensures same { result ≡ false → needs.new ≡ needs.old }
-{
-    let light = light_of(opcode);
-    if light.length != 2 || low >= 64 || enclosing < usize::from(low & light.label) {
-        return false;
-    }
-    let mut noted = LightNeeds::of(needs);
-    note_pair(&mut noted, light, low);
     noted.give_back(needs);
     true
 }

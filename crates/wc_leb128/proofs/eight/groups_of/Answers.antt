@@ -1,4 +1,4 @@
-use Rattle.wc_leb128.proofs.Reading.Sevens.{groups-together}
+use Rattle.wc_leb128.proofs.Words.Sevens.{groups-together}
 use Rattle.wc_leb128.proofs.eight.groups_of.Goals as goal
 
 pub returns : goal.returns

@@ -4,8 +4,8 @@ use Rattle.std.proofs.lemmas.Int.{ints, to_z_pos, to_z-of_z}
 use Rattle.std.proofs.lemmas.Nat.{mod_below}
 use Rattle.std.proofs.Math.Pow.{pow_pos}
 use Rattle.wc_leb128.specs.Reading.Eight.{groups, signed_groups}
-use Rattle.wc_leb128.proofs.Reading.Groups.{groups-below, Halves, halves, under-halves, IsSigned, signed-cases}
-use Rattle.wc_leb128.proofs.Reading.Groups.{turned-back}
+use Rattle.wc_leb128.proofs.Words.Groups.{groups-below, Halves, halves, under-halves, IsSigned, signed-cases}
+use Rattle.wc_leb128.proofs.Words.Groups.{turned-back}
 use Rattle.wc_leb128.proofs.eight.signed_of.Goals as goal
 
 known : (c : goal.Start) → Halves c.args.count

@@ -3,14 +3,14 @@ use Rattle.std.proofs.lemmas.Int.{to_z-of_z}
 use Rattle.std.proofs.lemmas.List.{take-append-drop}
 use Rattle.wc_leb128.specs.Standard.Shortest.{HoldsSigned}
 use Rattle.wc_leb128.specs.Reading.Eight.{signed_groups}
-use Rattle.wc_leb128.proofs.Reading.EightFront.{signed-spelled, only-signed, rest-is, parts-of}
+use Rattle.wc_leb128.proofs.Words.EightFront.{signed-spelled, only-signed, rest-is, parts-of}
 use Rattle.wc_leb128.proofs.eight_front.signed_front.Goals as goal
 
 pub returns : goal.returns
 returns g c =
     let xs = c.args.bytes.now in
     let n = c.in-Some.count in
-    let p = parts-of xs c.in-Some.all n c.in-Some.ensures in
+    let p = parts-of xs c.in-Some.all n c.in-Some.ensures.some in
     let value : c.signed_of-n.result ≡ signed_groups (take n xs) =
     c.signed_of-n.ensures (take n xs) _ p.whole p.long p.split in
     let fits : SFits w64 c.signed_of-n.result = search rules in

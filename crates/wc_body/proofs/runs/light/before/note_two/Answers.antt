@@ -1,6 +1,6 @@
 use Rattle.std.proofs.Common.{◌≡◌, ◌<◌, arith}
 use Rattle.wc_body.proofs.Drafts.Runs.LightLemmas.{IsKind, light-kind, pair-needs}
-use Rattle.wc_body.proofs.Drafts.Runs.PaddedLemmas.{light-two, light-pair}
+use Rattle.wc_body.proofs.Drafts.Runs.BeforeLemmas.{light-two, light-pair}
 use Rattle.wc_body.proofs.runs.light.before.note_two.Goals as goal
 
 pub returns-clause-noted : goal.returns-clause-noted

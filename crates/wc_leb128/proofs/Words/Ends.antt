@@ -8,8 +8,8 @@ use Rattle.std.proofs.lemmas.Bool.{cases_lt, lt-ltb, le-ltb}
 use Rattle.std.proofs.lemmas.Nat.Bits.{and_pow}
 use Rattle.std.proofs.lemmas.Nat.{and_le_r}
 use native.Mathlib.Nat.{two-pow-succ}
-use Rattle.wc_leb128.specs.Reading.Eight.{AreBytes, IsWhole}
-use Rattle.wc_leb128.proofs.Reading.Masks.{AreBelow, digits-under, digits-turned}
+use Rattle.wc_leb128.specs.Reading.Eight.{AreBytes, AreHigh, IsWhole}
+use Rattle.wc_leb128.proofs.Words.Masks.{AreBelow, digits-under, digits-turned}
 
 -- the top bit, turned
 abbrev mark : ℕ → ℕ
@@ -112,16 +112,34 @@ tops-below (b ∷ bs) h = (omega (arith, and_le_r b 128), tops-below bs h.1)
 abbrev tops : ℕ
 tops = 0x8080_8080_8080_8080
 
-pub counted-to-end : (word : ℕ) → (bit_xor (bit_and word tops) tops ≡ 0 → ⊥) → (bytes : List ℕ) → length bytes ≡ 8
-    → AreBytes bytes → word ≡ number_l 256 bytes
-    → let n = count_trailing_zeros 64 (bit_xor (bit_and word tops) tops) / 8 + 1 in (n ≤ 8) × IsWhole (take n bytes)
-counted-to-end word some (b0 ∷ b1 ∷ b2 ∷ b3 ∷ b4 ∷ b5 ∷ b6 ∷ b7 ∷ []) n h e =
+marks-are : (word : ℕ) (bytes : List ℕ) → length bytes ≡ 8 → AreBytes bytes → word ≡ number_l 256 bytes
+    → bit_xor (bit_and word tops) tops ≡ marks bytes
+marks-are word (b0 ∷ b1 ∷ b2 ∷ b3 ∷ b4 ∷ b5 ∷ b6 ∷ b7 ∷ []) n h e =
     let bs = b0 ∷ b1 ∷ b2 ∷ b3 ∷ b4 ∷ b5 ∷ b6 ∷ b7 ∷ [] in
     let under = ap (λ x. bit_and x tops) e ∙ digits-under 8 128 bs (omega arith) (are-below bs h) in
     let turned = ap (λ x. bit_xor x tops) under
     ∙ digits-turned 8 128 (map (λ x. bit_and x 128) bs) (omega arith) (tops-below bs h) in
-    let found : bit_xor (bit_and word tops) tops ≡ marks bs = turned ∙ ap (number_l 256) (marks-found bs h) in
-    let more : 0 < marks bs = let s = rw found at some in omega (arith, s) in
-    let r = first-end bs 64 _ h (omega arith) more refl in
-    rw (found, add-one) (omega (arith, r.0), r.1)
-counted-to-end word some bytes n h e = absurd cc
+    turned ∙ ap (number_l 256) (marks-found bs h)
+marks-are word bytes n h e = absurd cc
+
+pub counted-to-end : (word : ℕ) → (bit_xor (bit_and word tops) tops ≡ 0 → ⊥) → (bytes : List ℕ) → length bytes ≡ 8
+    → AreBytes bytes → word ≡ number_l 256 bytes
+    → let n = count_trailing_zeros 64 (bit_xor (bit_and word tops) tops) / 8 + 1 in (n ≤ 8) × IsWhole (take n bytes)
+counted-to-end word some bytes n h e =
+    let found = marks-are word bytes n h e in
+    let more : 0 < marks bytes = let s = rw found at some in omega (arith, s) in
+    let r = first-end bytes 64 _ h (omega (arith, n)) more refl in
+    rw (found, add-one) (omega (arith, r.0, n), r.1)
+
+-- where nothing is marked no byte is below 128
+none-marked : (bs : List ℕ) → marks bs ≡ 0 → AreHigh bs
+none-marked [] none = tt
+none-marked (b ∷ bs) none =
+    elim (cases_lt b 128) [
+      | inl lt ↦ let s = rw (lt-ltb b 128 lt) at none in absurd (omega (arith, s))
+      | inr ge ↦ let s = rw (le-ltb b 128 ge) at none in (ge, none-marked bs (omega (arith, s)))
+    ]
+
+pub none-ends : (word : ℕ) → bit_xor (bit_and word tops) tops ≡ 0 → (bytes : List ℕ) → length bytes ≡ 8
+    → AreBytes bytes → word ≡ number_l 256 bytes → AreHigh bytes
+none-ends word none bytes n h e = none-marked bytes (rw (marks-are word bytes n h e) at none)

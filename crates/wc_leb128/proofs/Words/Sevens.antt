@@ -4,7 +4,7 @@ use Rattle.std.proofs.Common.{arith}
 use Rattle.std.specs.Simd.Lanes.{number_l}
 use Rattle.std.proofs.lemmas.Nat.{and_mask}
 use Rattle.wc_leb128.specs.Reading.Eight.{AreBytes, groups}
-use Rattle.wc_leb128.proofs.Reading.Masks.{AreBelow, digits-masked}
+use Rattle.wc_leb128.proofs.Words.Masks.{AreBelow, digits-masked}
 
 -- two neighbours of each pair
 pairs-of : (low g0 g1 g2 g3 g4 g5 g6 g7 : ℕ) → AreBelow 128 (g0 ∷ g1 ∷ g2 ∷ g3 ∷ g4 ∷ g5 ∷ g6 ∷ g7 ∷ [])

@@ -13,7 +13,7 @@ use Rattle.wc_leb128.proofs.Laws.SignedLaws.{one-value}
 use Rattle.wc_leb128.proofs.Reading.Digits.{power_up}
 use Rattle.wc_leb128.proofs.Reading.Front.{take-taken}
 
-power_down : (k : ℕ) → 7 ≤ k → 2 ^ k ≡ 128 * 2 ^ (k - 7)
+pub power_down : (k : ℕ) → 7 ≤ k → 2 ^ k ≡ 128 * 2 ^ (k - 7)
 power_down k le = let e : k ≡ 7 + (k - 7) = omega (arith, le) in ap (λ x. 2 ^ x) e ∙ pow-add 2 7 (k - 7)
 
 -- ---- what is whole and fits is spelled

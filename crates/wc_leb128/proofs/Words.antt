@@ -1,0 +1,5 @@
+pub mod EightFront
+pub mod Ends
+pub mod Groups
+pub mod Masks
+pub mod Sevens
