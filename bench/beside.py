@@ -10,11 +10,12 @@ writes, to bytes; the same with its expressions folded; the module to text; and 
 canonical bytes, beside the pipe of wasm2wat and wat2wasm over the one and over the other, and `cmp`. With --deep, for a
 module of deep nesting, whose lines wasm2wat indents, the program's own text is the flat one, and wasm2wat isn't run.
 
-Each run is a process of its own, which reads files and writes its output to a file. For each program: milliseconds by
-the clock and of the processor (user and system), each the least of the rounds; the median of the processor's; millions
-of input bytes a second of the processor's least; peak memory as a multiple of the input, for small files that of this
-script; and the processor's least as a multiple of that of the first of its part. A program that fails is told as such:
-wasm-as and wasm-dis don't take every module.
+Each run is a process of its own, which reads files and writes its output over that of its run before, a file that no
+other program writes: what that left is let go at its cost. For each program: milliseconds by the clock and of the
+processor (user and system), each the least of the rounds; the median of the processor's; millions of input bytes a
+second of the processor's least; peak memory as a multiple of the input, for small files that of this script; and the
+processor's least as a multiple of that of the first of its part. A program that fails is told as such: wasm-as and
+wasm-dis don't take every module.
 """
 
 import argparse
@@ -31,28 +32,28 @@ PROGRAM = os.path.join(os.path.dirname(os.path.abspath(__file__)), "..", "crates
 def bytes_of(path, out):
     """What reads a binary and judges it or writes one, by its name."""
     return {
-        "wcanon binary": [PROGRAM, "binary", path, "-o", out],
+        "wcanon binary": [PROGRAM, "binary", path, "-o", out + ".wcanon"],
         "wcanon check": [PROGRAM, "check", path],
-        "wasm-strip": ["wasm-strip", path, "-o", out],
+        "wasm-strip": ["wasm-strip", path, "-o", out + ".strip"],
         "wasm-validate": ["wasm-validate", path],
-        "wasm-opt -O0": ["wasm-opt", "--all-features", "-O0", path, "-o", out],
+        "wasm-opt -O0": ["wasm-opt", "--all-features", "-O0", path, "-o", out + ".opt"],
         "true": ["true"],
     }
 
 
 def text_to_bytes(path, out):
     return {
-        "wcanon binary": [PROGRAM, "binary", path, "-o", out],
-        "wat2wasm": ["wat2wasm", "--no-check", path, "-o", out],
-        "wasm-as": ["wasm-as", "--all-features", path, "-o", out],
+        "wcanon binary": [PROGRAM, "binary", path, "-o", out + ".wcanon"],
+        "wat2wasm": ["wat2wasm", "--no-check", path, "-o", out + ".wat2wasm"],
+        "wasm-as": ["wasm-as", "--all-features", path, "-o", out + ".as"],
     }
 
 
 def bytes_to_text(path, out):
     return {
-        "wcanon text": [PROGRAM, "text", path, "-o", out],
-        "wasm2wat": ["wasm2wat", "--no-check", path, "-o", out],
-        "wasm-dis": ["wasm-dis", "--all-features", path, "-o", out],
+        "wcanon text": [PROGRAM, "text", path, "-o", out + ".wcanon"],
+        "wasm2wat": ["wasm2wat", "--no-check", path, "-o", out + ".wasm2wat"],
+        "wasm-dis": ["wasm-dis", "--all-features", path, "-o", out + ".dis"],
     }
 
 

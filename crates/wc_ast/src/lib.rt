@@ -47,7 +47,7 @@ pub use crate::name::Name;
 pub use crate::segment::{Data, Elem};
 pub use wc_body::{
     BlockType, Body, BodyBuilder, BodyRef, Bounded, Brief, BuildFault, Constant, Entries, Entry,
-    Instr, Kind, Labels, MemArg, NESTING_LIMIT, Needs, OwnNeeds, Short, TryClone,
+    Instr, Kind, Labels, MemArg, NESTING_LIMIT, Needs, Numbered, OwnNeeds, Short, TryClone,
     entries_tell_bodies,
 };
 pub use wc_ops::{

@@ -8,3 +8,4 @@ pub mod EntryBytes
 pub mod PlaceLemmas
 pub mod BodyRowLemmas
 pub mod BriefLemmas
+pub mod NumberedLemmas

@@ -3,3 +3,4 @@ pub mod Fronts
 pub mod Unpacked
 pub mod LabelItems
 pub mod Briefly
+pub mod Numbering

@@ -29,4 +29,5 @@ pub use crate::try_clone::TryClone;
 pub use crate::walks::bounded::Bounded;
 pub use crate::walks::brief::Brief;
 pub use crate::walks::entries::Entries;
+pub use crate::walks::numbered::Numbered;
 pub use crate::walks::short::Short;

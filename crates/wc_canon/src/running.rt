@@ -45,9 +45,9 @@ fn send<W: Write>(w: &mut Device<W>, bytes: &[u8]) -> Result<u64, RunFault>
     }
 }
 
-/// Writes the text of a module, and then flushes once. It takes no memory, so that nothing but the writer can fail.
-/// Behind a failure the writer isn't asked.
-fn send_text<W: Write>(w: &mut Device<W>, module: Module) -> Result<u64, RunFault>
+/// Writes the text of a module, and then flushes once. Where memory is short, so are the pieces: nothing but the writer
+/// can fail. Behind a failure the writer isn't asked.
+fn send_text<W: Write>(alloc: Global, w: &mut Device<W>, module: Module) -> Result<u64, RunFault>
     requires { has_failed w.old ≡ false }
     ensures ok { IfOk result (λ n. n ≡ length (text (layout «module»))) }
     ensures appends { OnOk result (Appends (W.contents (device_inner w.old)) (W.contents (device_inner w.new))
@@ -59,7 +59,7 @@ fn send_text<W: Write>(w: &mut Device<W>, module: Module) -> Result<u64, RunFaul
     ensures flushes { FlushesBehind (length (text (layout «module»))) w.old w.new result }
     ensures again { was_asked_again w.new ≡ was_asked_again w.old }
 {
-    match print_to(w, &module) {
+    match print_to(alloc, w, &module) {
         Ok(n) => Ok(n),
         Err(n) => Err(RunFault::Write { written: n }),
     }
@@ -69,7 +69,7 @@ fn send_text<W: Write>(w: &mut Device<W>, module: Module) -> Result<u64, RunFaul
 /// Where the answer isn't written whole, nothing is flushed.
 ///
 /// Nothing is written before the whole answer stands; a text stands with its module, and goes out in pieces as it is
-/// printed, which wants no memory. Where a binary is refused before its end, the rest isn't read: at
+/// printed, by shorter ones where memory is short. Where a binary is refused before its end, the rest isn't read: at
 /// most 4,096 bytes are read past the byte where the fault shows. A text is read to its end, and then judged.
 ///
 /// # Errors
@@ -116,6 +116,6 @@ pub fn run<R: Read, W: Write>(
 {
     match job {
         Job::Binary => send(w, &normalise_from(alloc, r)?),
-        Job::Text => send_text(w, accepted_from(alloc, r)?),
+        Job::Text => send_text(alloc, w, accepted_from(alloc, r)?),
     }
 }

@@ -4,3 +4,4 @@ pub mod BriefTables
 pub mod DigitTables
 pub mod EscapeTable
 pub mod RowTests
+pub mod NumberedLines

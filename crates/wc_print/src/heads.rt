@@ -29,7 +29,7 @@ fn write_head(page: &mut [u8; PAGE], index: u32) -> usize
 /// Begins a function of the type with this index, on the page if that is short, and says where the page's text ends.
 #[inline(always)]
 pub fn begin_func<S: Sink>(out: &mut S, page: &mut [u8; PAGE], index: u32) -> usize
-    ensures room { result + 80 ≤ 512 }
+    ensures room { result + 80 ≤ 4096 }
     ensures put { Puts (Behind S.Has) (function_head index) (out.old, []) (out.new, take result page.new) }
 {
     if index < LIMIT {
@@ -48,8 +48,8 @@ pub fn put_locals_behind<S: Sink>(
     at: usize,
     locals: &LocalsRef<'_>,
 ) -> usize
-    requires { at + 80 ≤ 512 }
-    ensures room { result + 80 ≤ 512 }
+    requires { at + 80 ≤ 4096 }
+    ensures room { result + 80 ≤ 4096 }
     ensures put { Puts (Behind S.Has) (values_items (codes "local") locals.now)
         (out.old, take at page.now) (out.new, take result page.now) }
 {

@@ -1,6 +1,6 @@
 //! A text on its way to a writer.
 
-ghost use Rattle.std.specs.Prelude.{◌≡◌, ◌≤◌, [], ℕ, List, Option, length, is_err, OnOk, IfErr, false};
+ghost use Rattle.std.specs.Prelude.{◌≡◌, [], ◌++◌, ℕ, List, Option, length, is_err, OnOk, IfErr, true, false};
 ghost use Rattle.wc_device.specs.Standard.Device.{device_inner, has_failed, was_asked_again, FlushedOnce};
 ghost use Rattle.wc_device.specs.Standard.Device.{FlushedBehindAll};
 ghost use Rattle.wc_device.specs.declared.io_device.Device.{Device};
@@ -12,41 +12,24 @@ ghost use Rattle.wc_print.specs.Standard.Layout.{layout};
 
 use crate::printing::put_module;
 use crate::sink::Sink;
+use std::alloc::Global;
 use std::io::Write;
 use wc_ast::Module;
 use wc_device::Device;
 
-/// How many bytes go out at once, unless more of them are put together.
-const ROOM: usize = 65536;
+/// The most bytes that wait, so that they go out at once. The system takes in long pieces faster than short ones.
+const ROOM: usize = 262_144;
 
-/// Bytes that wait for their turn.
-#[derive(Drop)]
-pub struct Waiting {
-    bytes: [u8; ROOM],
-    count: usize,
-    ghost within: { count ≤ 65536 },
-}
-
-impl Waiting {
-    ghost use Rattle.std.specs.Prelude.{◌≡◌, ◌≤◌, ◌+◌, ◌++◌, length, take};
-
-    /// Those that wait.
-    fn bytes(&self) -> &[u8]
-        ensures { result.now ≡ take self.now.count self.now.bytes }
-    {
-        &self.bytes[..self.count]
+/// Lets bytes wait behind the others, where they are few enough and there is memory for it, and answers whether they do.
+#[inline(always)]
+fn keep(waiting: &mut Vec<u8>, bytes: &[u8]) -> bool
+    ensures kept { result ≡ true → waiting.new.items ≡ waiting.old.items ++ bytes.now }
+    ensures same { result ≡ false → waiting.new.items ≡ waiting.old.items }
+{
+    if waiting.len().saturating_add(bytes.len()) > ROOM {
+        return false;
     }
-
-    /// Lets bytes wait behind the others.
-    #[inline(always)]
-    fn keep(&mut self, bytes: &[u8])
-        requires { self.old.count + length bytes.now ≤ 65536 }
-        ensures { take self.new.count self.new.bytes ≡ take self.old.count self.old.bytes ++ bytes.now }
-    {
-        let end = self.count + bytes.len();
-        self.bytes[self.count..end].copy_from_slice(bytes);
-        self.count = end;
-    }
+    waiting.extend_from_slice(bytes).is_ok()
 }
 
 /// Sends bytes behind so many that went out, unless the writer failed, and tells how many went out then.
@@ -65,16 +48,16 @@ fn send_behind<W: Write>(device: &mut Device<W>, sent: u64, bytes: &[u8]) -> u64
     }
 }
 
-/// A writer, how many bytes went out to it, and those that wait. Where the writer fails, what waits is lost, and so is
-/// what follows.
+/// A writer, how many bytes went out to it, and those that wait for their turn. They wait where there is memory for it,
+/// and else go out at once. Where the writer fails, what waits is lost, and so is what follows.
 #[derive(Drop)]
 pub struct Outlet<'a, W> {
     device: &'a mut Device<W>,
     sent: u64,
-    waiting: Waiting,
+    waiting: &'a mut Vec<u8>,
 }
 
-impl<W: Write> Outlet<'_, W> {
+impl<'a, W: Write> Outlet<'a, W> {
     ghost use Rattle.std.specs.Prelude.{◌≡◌, ℕ, List, [], length, is_err, OnOk, IfErr};
     ghost use Rattle.wc_device.specs.Standard.Device.{device_inner, has_failed, was_asked_again, FlushedOnce};
     ghost use Rattle.wc_device.specs.Standard.Device.{FlushedBehindAll};
@@ -83,26 +66,40 @@ impl<W: Write> Outlet<'_, W> {
     ghost use Rattle.wc_print.specs.Standard.Sending.{Sends};
     ghost use Rattle.wc_print.specs.Writing.Outlet.{HasSent};
 
+    /// An outlet to a writer that didn't fail, before anything is put.
+    #[inline(always)]
+    fn new(device: &'a mut Device<W>, waiting: &'a mut Vec<u8>) -> Outlet<'a, W>
+        requires writer { has_failed device.old ≡ false }
+        requires none { waiting.old.items ≡ [] }
+        ensures begun { HasSent W.contents result result [] }
+        ensures writer { result.device.now ≡ device.old }
+        ensures same { result.device.ghost_name ≡ device.entry.ghost_name }
+    {
+        Outlet {
+            device,
+            sent: 0,
+            waiting,
+        }
+    }
+
     /// Sends those that wait.
     fn empty(&mut self)
-        ensures none { self.new.waiting.count ≡ 0 }
+        ensures none { self.new.waiting.now.items ≡ [] }
         ensures says { Says (HasSent W.contents) [] self.old self.new }
         ensures same { self.new.device.ghost_name ≡ self.old.device.ghost_name }
     {
-        self.sent = send_behind(self.device, self.sent, self.waiting.bytes());
-        self.waiting.count = 0;
+        self.sent = send_behind(self.device, self.sent, self.waiting.as_slice());
+        self.waiting.clear();
     }
 
-    /// Puts bytes that have no room behind those that wait.
+    /// Puts bytes that have no room behind those that wait, which go out first.
     #[inline(never)]
     fn put_behind(&mut self, bytes: &[u8])
         ensures { Says (HasSent W.contents) bytes.now self.old self.new }
     {
         self.empty();
-        if bytes.len() > ROOM {
+        if !keep(self.waiting, bytes) {
             self.sent = send_behind(self.device, self.sent, bytes);
-        } else {
-            self.waiting.keep(bytes);
         }
     }
 
@@ -138,20 +135,19 @@ impl<W: Write> Sink for Outlet<'_, W> {
 
     #[inline(always)]
     fn put(&mut self, bytes: &[u8]) {
-        if bytes.len() > ROOM - self.waiting.count {
+        if !keep(self.waiting, bytes) {
             self.put_behind(bytes);
-        } else {
-            self.waiting.keep(bytes);
         }
     }
 }
 
-/// Writes the text of a module, as `print` gives it, and flushes once. It takes no memory.
+/// Writes the text of a module, as `print` gives it, and flushes once. It goes out in pieces, which take less than a
+/// MiB of memory; where there is less, they are shorter, and want of memory is no failure.
 ///
 /// # Errors
 /// How many bytes of the text went out before a write failed, or all of them where the flush did. Nothing is tried
 /// again.
-pub fn print_to<W: Write>(w: &mut Device<W>, module: &Module) -> Result<u64, u64>
+pub fn print_to<W: Write>(alloc: Global, w: &mut Device<W>, module: &Module) -> Result<u64, u64>
     requires { has_failed w.old ≡ false }
     ensures sends { Sends (W.contents (device_inner w.old)) (W.contents (device_inner w.new))
         (text (layout «module».now)) result }
@@ -162,14 +158,8 @@ pub fn print_to<W: Write>(w: &mut Device<W>, module: &Module) -> Result<u64, u64
         (λ n. FlushedBehindAll n (length (text (layout «module».now))) w.old w.new) }
     ensures printable { IsPrintable (layout «module».now) }
 {
-    let mut out = Outlet {
-        device: w,
-        sent: 0,
-        waiting: Waiting {
-            bytes: [0; ROOM],
-            count: 0,
-        },
-    };
+    let mut waiting = Vec::new(alloc);
+    let mut out = Outlet::new(w, &mut waiting);
     put_module(&mut out, module);
     out.finish()
 }

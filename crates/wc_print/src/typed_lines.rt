@@ -16,7 +16,7 @@ use wc_ast::{BlockType, Kind, Op, ValType};
 /// Writes a type by its index, and says where it ends.
 #[inline(always)]
 fn write_type_use(page: &mut [u8; PAGE], at: usize, index: u32) -> usize
-    requires { at + 29 ≤ 512 }
+    requires { at + 29 ≤ 4096 }
     ensures end { result ≤ at + 29 }
     ensures put { Put (type_use_items index) (take at page.old) (take result page.new) }
 {
@@ -41,7 +41,7 @@ fn result_row(value_type: ValType) -> &'static Row
 /// Writes a block type, unless it is the empty one, and says where it ends.
 #[inline(always)]
 fn write_block_type(page: &mut [u8; PAGE], at: usize, block_type: BlockType) -> usize
-    requires { at + 29 ≤ 512 }
+    requires { at + 29 ≤ 4096 }
     ensures end { result ≤ at + 29 }
     ensures put { Put (block_items block_type) (take at page.old) (take result page.new) }
 {
@@ -55,8 +55,8 @@ fn write_block_type(page: &mut [u8; PAGE], at: usize, block_type: BlockType) -> 
 /// Writes the line of a call through a table.
 #[inline(always)]
 pub fn write_call_indirect(page: &mut [u8; PAGE], at: usize, index: u32) -> usize
-    requires { at + 80 ≤ 512 }
-    ensures within { result ≤ 512 }
+    requires { at + 80 ≤ 4096 }
+    ensures within { result ≤ 4096 }
     ensures put { Put (below 4 (word (row ops.CallIndirect).name) ∷ type_use_items index)
         (take at page.old) (take result page.new) }
 {
@@ -67,8 +67,8 @@ pub fn write_call_indirect(page: &mut [u8; PAGE], at: usize, index: u32) -> usiz
 /// Writes the head of a block, a loop or an if.
 #[inline(always)]
 pub fn write_begin(page: &mut [u8; PAGE], at: usize, kind: Kind, block_type: BlockType) -> usize
-    requires { at + 80 ≤ 512 }
-    ensures within { result ≤ 512 }
+    requires { at + 80 ≤ 4096 }
+    ensures within { result ≤ 4096 }
     ensures put { Put (below 4 (word (head_word kind)) ∷ block_items block_type)
         (take at page.old) (take result page.new) }
 {

@@ -2,3 +2,4 @@
 pub mod Short
 pub mod Brief
 pub mod Bounded
+pub mod Numbered

@@ -9,6 +9,7 @@ use crate::entry::Entry;
 use crate::walks::bounded::Bounded;
 use crate::walks::bounded_front::bounded_at;
 use crate::walks::brief::{Brief, brief_at};
+use crate::walks::numbered::{Numbered, numbered_at};
 use crate::walks::short::Short;
 use crate::walks::short_front::short_at;
 use std::marker::Model;
@@ -47,6 +48,7 @@ impl<'a> Entries<'a> {
     ghost use Rattle.wc_body.specs.Standard.Nested.{plain};
     ghost use Rattle.wc_body.specs.Standard.Walks.Short.{instruction};
     ghost use Rattle.wc_body.specs.Standard.Walks.Brief.{SaysFirst};
+    ghost use Rattle.wc_body.specs.Standard.Walks.Numbered.{SaysNumbered};
     ghost use Rattle.wc_body.specs.Standard.Walks.Bounded.{bounded};
     ghost use Rattle.wc_body.specs.Reading.Unpacked.{unpacked, IsPacked};
 
@@ -90,6 +92,20 @@ impl<'a> Entries<'a> {
         let (brief, left) = brief_at(self.bytes)?;
         self.bytes = left;
         Some(brief)
+    }
+
+    /// The first entry that is left, where it is an instruction of one integer that has at most eight bytes, a read of
+    /// a global or any other of an index but a branch, or a constant, and nine bytes are at hand: it is taken. So most
+    /// that aren't brief are had without a test of what each is. Where it answers none, nothing is taken, and `next`
+    /// tells what is left.
+    #[inline(always)]
+    pub fn next_numbered(&mut self) -> Option<Numbered>
+        ensures some { IfSome result (λ it. SaysNumbered it self.old self.new) }
+        ensures none { IsNone result → self.new ≡ self.old }
+    {
+        let (first, following) = numbered_at(self.bytes)?;
+        self.bytes = following;
+        Some(first)
     }
 
     /// The first entry that is left, where its bytes have a bound: it is taken. So all entries but tables of labels

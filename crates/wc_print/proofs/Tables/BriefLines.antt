@@ -31,7 +31,7 @@ use Rattle.wc_print.proofs.Writing.Paging.{line-put}
 use Rattle.wc_print.proofs.Writing.Putting.{chain, text}
 
 -- the name of an instruction is a word
-op-word : (op : Op) → is_word (row op).name ≡ true
+pub op-word : (op : Op) → is_word (row op).name ≡ true
 unfolding is_idchar
 op-word (ops.Simple op) = simple-word op
 op-word (ops.Index op) = index-word op

@@ -153,9 +153,9 @@ asked-last first old new sent n more f g lt again flushes unflushed lost h =
 -- ---- an outlet
 
 -- nothing was put
-pub none-put : (failed : Bool) (first : Option (List ℕ)) (sent count : ℕ) (bytes : List ℕ) → failed ≡ false → sent ≡ 0
-    → count ≡ 0 → FlowsUnless failed first first sent (take count bytes) []
-none-put failed first sent count bytes f e z =
+pub none-put : (failed : Bool) (first : Option (List ℕ)) (sent : ℕ) (bytes : List ℕ) → failed ≡ false → sent ≡ 0
+    → bytes ≡ [] → FlowsUnless failed first first sent bytes []
+none-put failed first sent bytes f e z =
     let none : Flows first first 0 [] [] = record {
       out = [];
       appends = Appends-nil first;
@@ -166,16 +166,16 @@ none-put failed first sent count bytes f e z =
     rw (f, e, z) none
 
 pub begun : {W : Type 0} (contents : W → Option (List ℕ)) (o : Outlet W) → has_failed o.device.now ≡ false → o.sent ≡ 0
-    → o.waiting.count ≡ 0 → HasSent contents o o []
+    → o.waiting.now.items ≡ [] → HasSent contents o o []
 begun contents o f e z = record {
   same = refl;
-  flows = none-put _ _ o.sent o.waiting.count o.waiting.bytes f e z;
+  flows = none-put _ _ o.sent o.waiting.now.items f e z;
   calls = not-asked o.device.now o.sent f e;
 }
 
 -- nothing waits
 pub emptied : {W : Type 0} (contents : W → Option (List ℕ)) (first now : Outlet W) (said : List ℕ)
-    → now.waiting.count ≡ 0
+    → now.waiting.now.items ≡ []
     → HasSent contents first now (said ++ [])
     → FlowsUnless (has_failed now.device.now) (contents (device_inner first.device.now))
     (contents (device_inner now.device.now)) now.sent [] said

@@ -3,14 +3,14 @@ use Rattle.std.proofs.Common.{◌≡◌, ◌≢◌, ℕ, zero, suc, ◌+◌, ◌
 use Rattle.std.proofs.Common.{take, drop, refl, sym, ap, ◌∙◌, arith, append_assoc, codes}
 use Rattle.std.specs.Fmt.{decimal}
 use Rattle.std.proofs.lemmas.Fmt.{decimal_step}
-use Rattle.std.proofs.lemmas.List.{append-nil, length-append, length-take-le, take_at, take-append-le}
+use Rattle.std.proofs.lemmas.List.{append-nil, length-append, length-take-le, take_at}
 use Rattle.std.proofs.lemmas.List.Edits.{sets, sets-eq}
 use Rattle.std.proofs.Math.Seq.{take-append-add}
 use Rattle.wc_tokens.specs.Standard.Lexemes.{is_idchar}
 use Rattle.wc_print.specs.Standard.Printed.{Printed, below, printed}
 use Rattle.wc_print.specs.Standard.Printable.{IsSpelled, Put}
 use Rattle.wc_print.specs.Standard.Lines.{offset_items, align_items, bytes_of}
-use Rattle.wc_print.specs.Writing.Numbers.{three_digits}
+use Rattle.wc_print.specs.Writing.Numbers.{three_digits, front_digits, last_digits}
 use Rattle.wc_print.proofs.Writing.Putting.{text}
 use Rattle.wc_print.proofs.Writing.Instructions.{unequal, bytes-few}
 
@@ -53,6 +53,13 @@ three-more page front old n ge low written more =
     let third : decimal n ≡ decimal (n / 10) ++ (48 + n % 10) ∷ [] =
     decimal_step n (omega (arith, ge)) (omega (arith, low)) in
     more ∙ rw (last-three n, written, third, second, first) (simp append_assoc)
+
+-- a number is its digits before the last three, and the last three behind them
+pub digits-apart : (n k : ℕ) → k ≡ n / 1000 → n < 2 ^ 64 → front_digits k ++ last_digits k n ≡ decimal n
+digits-apart n zero e lt = refl
+digits-apart n (suc k) e lt =
+    let more : decimal (suc k) ≡ [] ++ decimal (n / 1000) = ap decimal e in
+    three-more (decimal (suc k) ++ three_digits (n % 1000)) [] (decimal (suc k)) n (omega (arith, e)) lt more refl
 
 -- the numbers before the last six digits, and before the last nine
 pub millions : (n : ℕ) → n / 1000 / 1000 ≡ n / 1000000

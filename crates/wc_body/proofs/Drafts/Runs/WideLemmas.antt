@@ -112,7 +112,7 @@ module _ (x : List ℕ) (value : ℤ) (count l : ℕ) (y : List ℕ) where
         λ k s t h. h.0 n is lt ∙ noted k s n lt,
       )
 
-  signed-own : (N : ℕ) → IsRespelled true x value count l y → 7 * count < N + 7 → HoldsSigned N value
+  pub signed-own : (N : ℕ) → IsRespelled true x value count l y → 7 * count < N + 7 → HoldsSigned N value
       → S N (take count x) value
   signed-own N h few holds =
       let long = length-take-le count x h.enough in

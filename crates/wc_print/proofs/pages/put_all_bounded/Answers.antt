@@ -3,7 +3,7 @@ use Rattle.wc_print.proofs.Writing.Going.{leaves-less, leaves-same, leaves-then,
 use Rattle.wc_print.proofs.pages.put_all_bounded.Goals as goal
 
 pub lines-smaller : goal.lines-smaller
-lines-smaller g c = omega (arith, ap length c.in-Some.ensures.some, c.put_all_brief-at.ensures.fewer)
+lines-smaller g c = omega (arith, ap length c.in-Some.ensures.some, c.put_all_numbered-at.ensures.fewer)
 
 pub lines-preserved : goal.lines-preserved
 lines-preserved g c = record {
@@ -12,11 +12,11 @@ lines-preserved g c = record {
   puts =
       leaves-same c.turn-at.ensures.same
       (leaves-less (on-page _ c.write_bounded-end.ensures.put)
-      (rw c.in-Some.ensures.some at (leaves-then c.put_all_brief-at.ensures.puts c.lines.invariant.puts)));
+      (rw c.in-Some.ensures.some at (leaves-then c.put_all_numbered-at.ensures.puts c.lines.invariant.puts)));
   fewer = omega (
     arith,
     ap length c.in-Some.ensures.some,
     c.lines.invariant.fewer,
-    c.put_all_brief-at.ensures.fewer,
+    c.put_all_numbered-at.ensures.fewer,
   );
 }

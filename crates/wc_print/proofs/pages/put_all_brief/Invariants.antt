@@ -5,8 +5,8 @@ use Rattle.wc_print.proofs.pages.put_all_brief.Given as goal
 
 abbrev pub invariant-loop-brief : goal.invariant-loop-brief
 invariant-loop-brief g l = record {
-  room : l.at + 80 ≤ 512;
-  page : length l.page ≡ 512;
+  room : l.at + 80 ≤ 4096;
+  page : length l.page ≡ 4096;
   puts : LeavesLines (Behind g.S.Sink.Has) l.entries l.initial.entries (l.out, take l.at l.page)
       (l.initial.out, take l.from l.initial.page);
   fewer : length l.entries ≤ length l.initial.entries;

@@ -1,6 +1,6 @@
 use Rattle.std.proofs.Common.{arith}
 use Rattle.wc_print.proofs.Writing.Paging.{millions, billions}
-use Rattle.wc_print.proofs.digits.write_natural.Goals as goal
+use Rattle.wc_print.proofs.digits.write_long.Goals as goal
 
 pub returns-clause-bytes : goal.returns-clause-bytes
 returns-clause-bytes c =

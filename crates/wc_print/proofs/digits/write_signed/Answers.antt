@@ -2,7 +2,7 @@ use Rattle.std.proofs.Common.{arith}
 use Rattle.std.proofs.Math.Facts.{to_z-of_z}
 use Rattle.wc_print.proofs.Writing.Numbering.{integer-put}
 use Rattle.wc_print.proofs.Writing.Paging.{behind-space}
-use Rattle.wc_print.proofs.digits.write_integer.Goals as goal
+use Rattle.wc_print.proofs.digits.write_signed.Goals as goal
 
 pub returns-clause-put : goal.returns-clause-put
 returns-clause-put c =
